@@ -1,0 +1,26 @@
+-- What the reader gives: the header's numbers as the struct, a card that was read, and the counts of lines and fields as lists.
+use mathlib.Core.List.{List}
+use mathlib.Core.Path.{_≡_}
+use Prim.Native.Nat.{ℕ}
+use Rattle.model.specs.Finite.{listFrom}
+use Rattle.model.specs.Limits.{mostKinds}
+use Rattle.model.specs.Sheet.{kindCount, codeCount, lineCount, fieldCount, lineOf, fieldOf}
+use Rattle.model.specs.Refusal.{clear, firstOf, sheetChecks}
+use Rattle.sheet.specs.declared.reader.Card.{Card}
+
+-- The header's numbers as the struct: "kinds n", "codes", "lines m", "fields f".
+abbrev pub headerOf : List ℕ → Card
+headerOf s = record { kinds = kindCount s; codes = codeCount s; lines = lineCount s; fields = fieldCount s }
+
+-- The card was read from these bytes, to which none of 1 to 8 applies.
+pub record Reads (s : List ℕ) (c : Card) : Type 0 where
+  pub header : c ≡ headerOf s
+  pub passed : firstOf (sheetChecks s) ≡ clear
+
+-- A line's counts: "then n count bytes: the tokens left behind".
+unfoldable pub lineCounts : List ℕ → ℕ → List ℕ
+lineCounts s j = listFrom (lineOf s j .left) 0 (kindCount s)
+
+-- A field's counts, as many as a card may have kinds: "A field is n counts of two bytes", 0 past them.
+unfoldable pub fieldCounts : List ℕ → ℕ → List ℕ
+fieldCounts s i = listFrom (fieldOf s i) 0 mostKinds

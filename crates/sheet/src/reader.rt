@@ -1,0 +1,99 @@
+// The card that a sheet's header gives, and the reading of its lines and fields.
+ghost use mathlib.Core.Path.{_≡_};
+ghost use Prim.Native.Nat.{_+_, _*_, _≤_, _<_};
+ghost use Rattle.model.specs.Limits.{mostKinds, mostLines, mostFields};
+ghost use Rattle.model.specs.Sheet.{linesOffset, lineOf};
+ghost use Rattle.sheet.specs.Reader.{headerOf, Reads, lineCounts, fieldCounts};
+use crate::bytes::byte_at;
+use crate::bytes::u16_at;
+
+// The header's four numbers, by value.
+pub struct Card {
+    pub kinds: usize,
+    pub codes: usize,
+    pub lines: usize,
+    pub fields: usize,
+}
+
+impl Card {
+    // "Limits belong to the card."
+    pub const KINDS: usize = 32;
+
+    pub const LINES: usize = 256;
+
+    pub const NORM: u32 = 1_000_000;
+
+    // The header's numbers, whatever they are.
+    pub fn of_header(s: &[u8]) -> Card
+        ensures { λ r. ⌜ r ≡ headerOf (now (s .entry)) ⌝ }
+    {
+        Card {
+            kinds: u16_at(s, 0),
+            codes: u16_at(s, 2),
+            lines: u16_at(s, 4),
+            fields: u16_at(s, 6),
+        }
+    }
+
+    // Where line j starts; for j the number of lines, where the fields start.
+    pub fn line_start(self, j: usize) -> usize
+        requires { ⌜ (self .kinds ≤ mostKinds) × (j ≤ mostLines) ⌝ }
+        ensures { λ r. ⌜ (r ≡ linesOffset + j * (2 + self .kinds)) × (r < 65536) ⌝ }
+    {
+        20 + j * (2 + self.kinds)
+    }
+
+    // Where field i starts; for i the number of fields, where the sheet ends.
+    pub fn field_start(self, i: usize) -> usize
+        requires { ⌜ (self .kinds ≤ mostKinds) × (self .lines ≤ mostLines) × (i ≤ mostFields) ⌝ }
+        ensures { λ r. ⌜ (r ≡ linesOffset + self .lines * (2 + self .kinds) + 2 * self .kinds * i) × (r < 65536) ⌝ }
+    {
+        self.line_start(self.lines) + 2 * self.kinds * i
+    }
+
+    // The kind of line j.
+    pub fn line_kind(self, s: &[u8], j: usize) -> usize
+        requires { ⌜ Reads (now s) self ⌝ }
+        requires { ⌜ j < self .lines ⌝ }
+        ensures { λ r. ⌜ r ≡ lineOf (now (s .entry)) j .kind ⌝ }
+    {
+        byte_at(s, self.line_start(j))
+    }
+
+    // The code of line j.
+    pub fn line_code(self, s: &[u8], j: usize) -> usize
+        requires { ⌜ Reads (now s) self ⌝ }
+        requires { ⌜ j < self .lines ⌝ }
+        ensures { λ r. ⌜ r ≡ lineOf (now (s .entry)) j .code ⌝ }
+    {
+        byte_at(s, self.line_start(j) + 1)
+    }
+
+    // The counts of line j: the part of the sheet's own bytes that starts two bytes into the line.
+    pub fn line_counts(self, s: &[u8], j: usize) -> &[u8]
+        requires { ⌜ Reads (now s) self ⌝ }
+        requires { ⌜ j < self .lines ⌝ }
+        ensures { λ r. ⌜ now r ≡ lineCounts (now (s .entry)) j ⌝ }
+    {
+        let start = self.line_start(j) + 2;
+        let end = start + self.kinds;
+        &s[start..end]
+    }
+
+    // Field i by value, 0 past the card's kinds.
+    pub fn field(self, s: &[u8], i: usize) -> [u32; 32]
+        requires { ⌜ Reads (now s) self ⌝ }
+        requires { ⌜ i < self .fields ⌝ }
+        ensures { λ r. ⌜ r ≡ fieldCounts (now (s .entry)) i ⌝ }
+    {
+        let kinds = self.kinds;
+        let start = self.field_start(i);
+        let mut f = [0u32; 32];
+        let mut k = 0;
+        while k < kinds {
+            f[k] = u16_at(s, start + 2 * k) as u32;
+            k += 1;
+        }
+        f
+    }
+}
