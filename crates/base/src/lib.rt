@@ -1,0 +1,1 @@
+// No code yet: the laws that the stages' code cites are in proofs/.
