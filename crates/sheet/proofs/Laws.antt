@@ -5,49 +5,72 @@ use Prim.Native.Nat.{ℕ, _+_, _*_, _≤_, _<_}
 use native.Mathlib.Decide.{decLt}
 use native.Mathlib.Nat.{mul-le-mul, mul-le-mul-right, le-refl, add-mul, one-mul}
 use native.Mathlib.Omega.{arith}
-use lib.ListN.{length}
+use lib.ListN.{length, take, drop}
 use Rattle.model.specs.Finite.{listFrom}
 use Rattle.model.specs.Field.{at}
 use Rattle.model.specs.Card.{Line, On}
 use Rattle.model.specs.Limits.{mostKinds, mostCodes, mostLines, mostFields}
 use Rattle.model.specs.Sheet.{linesOffset, byte, u16At, kindCount, codeCount, lineCount, fieldCount, fieldsOffset, totalOf, counts, lineOf, cardOf, fieldOf}
-use Rattle.model.specs.Refusal.{clear, firstOf, headerChecks, lineChecks, sheetChecks}
+use Rattle.model.specs.Refusal.{clear, refusal, firstOf, headerChecks, lineChecks, sheetChecks}
 use Rattle.model.proofs.Lists.{length-from, mem-from, from-mem}
-use Rattle.model.proofs.Sheets.{first-append, then-clear, small}
+use Rattle.model.proofs.Sheets.{then, first-append, then-clear, small}
 use Rattle.model.proofs.Checks.{from-outside, from-less, from-differ, cons-none, all-none}
 use Rattle.sheet.specs.declared.reader.Card.{Card}
-use Rattle.sheet.specs.Reader.{Reads, lineCounts, fieldCounts}
+use Rattle.sheet.specs.declared.checks.Checked.the-variants.{Passed, Refused}
+use Rattle.sheet.specs.Reader.{headerOf, Reads, checkedOf, lineCounts, fieldCounts}
+use Rattle.sheet.proofs.Checking.{refused-found, passed-found}
 use Rattle.sheet.proofs.Counts.{counts-below, counts-past, at-counts}
 
--- What checks 1 to 6 leave: the header's numbers are within their limits, and the bytes are as many as the layout says.
-pub record Header (s : List ℕ) : Type 0 where
+-- What the answer of the check of a sheet's bytes tells: the card was read, or a refusal comes first.
+pub checked-reads : (s : List ℕ) (c : Card) → checkedOf s ≡ Passed c → Reads s c
+unfolding checkedOf
+checked-reads s c e = let t = passed-found (headerOf s) (firstOf (sheetChecks s)) c e in record { header = t .0; passed = t .1 }
+
+pub checked-refused : (s : List ℕ) (k p : ℕ) → checkedOf s ≡ Refused k p → firstOf (sheetChecks s) ≡ refusal k p
+unfolding checkedOf
+checked-refused s k p e = refused-found (headerOf s) (firstOf (sheetChecks s)) k p e
+
+-- What checks 1 to 5 leave: the header's numbers are within their limits.
+pub record Numbers (s : List ℕ) : Type 0 where
   pub bytes : linesOffset ≤ length s
   pub kinds : (1 ≤ kindCount s) × (kindCount s ≤ mostKinds)
   pub codes : (1 ≤ codeCount s) × (codeCount s ≤ mostCodes)
   pub lines : lineCount s ≤ mostLines
   pub fields : fieldCount s ≤ mostFields
-  pub total : length s ≡ totalOf s
 
-pub header-limits : (s : List ℕ) → firstOf (headerChecks s) ≡ clear → Header s
+pub numbers-limits : (s : List ℕ) → firstOf (take 5 (headerChecks s)) ≡ clear → Numbers s
 unfolding headerChecks
-header-limits s e =
+numbers-limits s e =
     let c1 = cons-none 1 0 _ _ e in
     let c2 = cons-none 2 0 _ _ (c1 .1) in
     let c3 = cons-none 3 0 _ _ (c2 .1) in
     let c4 = cons-none 4 0 _ _ (c3 .1) in
     let c5 = cons-none 5 0 _ _ (c4 .1) in
-    let d0 = cons-none 6 0 _ _ (c5 .1) in
-    let d1 = cons-none 6 1 _ _ (d0 .1) in
-    let d2 = cons-none 6 2 _ _ (d1 .1) in
-    let d3 = cons-none 6 3 _ _ (d2 .1) in
     record {
       bytes = from-less (length s) linesOffset (c1 .0);
       kinds = from-outside 1 mostKinds (kindCount s) (c2 .0);
       codes = from-outside 1 mostCodes (codeCount s) (c3 .0);
       lines = from-less mostLines (lineCount s) (c4 .0);
       fields = from-less mostFields (fieldCount s) (c5 .0);
-      total = from-differ (length s) (totalOf s) (d3 .0);
     }
+
+-- What check 6 leaves, of which the bytes given are told: they are as many as the layout says.
+pub layout-total : (s : List ℕ) → firstOf (drop 5 (headerChecks s)) ≡ clear → length s ≡ totalOf s
+unfolding headerChecks
+layout-total s e =
+    let d0 = cons-none 6 0 _ _ e in
+    let d1 = cons-none 6 1 _ _ (d0 .1) in
+    let d2 = cons-none 6 2 _ _ (d1 .1) in
+    let d3 = cons-none 6 3 _ _ (d2 .1) in
+    from-differ (length s) (totalOf s) (d3 .0)
+
+-- The header's checks are the first five and the rest.
+pub header-first : (s : List ℕ) → firstOf (headerChecks s) ≡ then (firstOf (take 5 (headerChecks s))) (firstOf (drop 5 (headerChecks s)))
+unfolding headerChecks
+header-first s = first-append (take 5 (headerChecks s)) (drop 5 (headerChecks s))
+
+pub header-clear : (s : List ℕ) → firstOf (headerChecks s) ≡ clear → (firstOf (take 5 (headerChecks s)) ≡ clear) × (firstOf (drop 5 (headerChecks s)) ≡ clear)
+header-clear s e = then-clear (firstOf (take 5 (headerChecks s))) (firstOf (drop 5 (headerChecks s))) (sym (header-first s) ∙ e)
 
 -- Where lines and fields start is under 65,536, whatever they number.
 pub line-start-small : (n j : ℕ) → n ≤ mostKinds → j ≤ mostLines → linesOffset + j * (2 + n) ≤ 8724
@@ -116,8 +139,11 @@ module _ {s : List ℕ} {c : Card} (R : Reads s c) where
   unfolding sheetChecks
   both-clear = then-clear (firstOf (headerChecks s)) (firstOf (lineChecks s)) (sym (first-append (headerChecks s) (lineChecks s)) ∙ R .passed)
 
-  pub limits : Header s
-  limits = header-limits s (both-clear .0)
+  pub limits : Numbers s
+  limits = numbers-limits s (header-clear s (both-clear .0) .0)
+
+  pub total-is : length s ≡ totalOf s
+  total-is = layout-total s (header-clear s (both-clear .0) .1)
 
   -- The struct's numbers are the header's.
   pub kinds-are : c .kinds ≡ kindCount s
@@ -189,7 +215,7 @@ module _ {s : List ℕ} {c : Card} (R : Reads s c) where
     pub line-inside : linesOffset + j * (2 + c .kinds) + 2 + c .kinds ≤ length s
     unfolding totalOf fieldsOffset
     line-inside =
-        rw kinds-are (omega (arith, limits .total, part-within (2 + kindCount s) j (lineCount s) in-lines))
+        rw kinds-are (omega (arith, total-is, part-within (2 + kindCount s) j (lineCount s) in-lines))
 
     -- Every line of the sheet is one of the card's.
     pub line-on : On (cardOf s) (lineOf s j)

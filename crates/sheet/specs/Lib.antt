@@ -1,1 +1,2 @@
+-- What the reader's contracts cite.
 pub mod Reader

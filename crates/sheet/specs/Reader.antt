@@ -5,8 +5,10 @@ use Prim.Native.Nat.{ℕ}
 use Rattle.model.specs.Finite.{listFrom}
 use Rattle.model.specs.Limits.{mostKinds}
 use Rattle.model.specs.Sheet.{kindCount, codeCount, lineCount, fieldCount, lineOf, fieldOf}
-use Rattle.model.specs.Refusal.{clear, firstOf, sheetChecks}
+use Rattle.model.specs.Refusal.{Finding, clear, refusal, firstOf, sheetChecks}
 use Rattle.sheet.specs.declared.reader.Card.{Card}
+use Rattle.sheet.specs.declared.checks.Checked.{Checked}
+use Rattle.sheet.specs.declared.checks.Checked.the-variants.{Passed, Refused}
 
 -- The header's numbers as the struct: "kinds n", "codes", "lines m", "fields f".
 abbrev pub headerOf : List ℕ → Card
@@ -16,6 +18,15 @@ headerOf s = record { kinds = kindCount s; codes = codeCount s; lines = lineCoun
 pub record Reads (s : List ℕ) (c : Card) : Type 0 where
   pub header : c ≡ headerOf s
   pub passed : firstOf (sheetChecks s) ≡ clear
+
+-- What the checks find, as the enum: the card where none applies, else the refusal with its number and place.
+unfoldable pub outcome : Card → Finding → Checked
+outcome c clear = Passed c
+outcome c (refusal k p) = Refused k p
+
+-- The card, or the first of 1 to 8 that applies.
+unfoldable pub checkedOf : List ℕ → Checked
+checkedOf s = outcome (headerOf s) (firstOf (sheetChecks s))
 
 -- A line's counts: "then n count bytes: the tokens left behind".
 unfoldable pub lineCounts : List ℕ → ℕ → List ℕ

@@ -16,7 +16,7 @@ byte-at-requires : tie.Need-byte-at-requires
 byte-at-requires c κs = search needs
 
 returns : tie.Need-returns
-returns c = code-read (c .before .before .before .pre .0) _ _ _ (c .before .line-start .ensures .0) (c .byte-at .ensures .0)
+returns c = code-read _ _ (c .before .before .before .pre .0 .header) _ _ _ (c .before .line-start .ensures .0) (c .byte-at .ensures .0)
 
 pub line-code-spec : {M : Type 1} → statement M
 line-code-spec = tie.close (tie.spec line-start-requires add-byte-at byte-at-requires returns)

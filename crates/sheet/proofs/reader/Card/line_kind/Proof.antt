@@ -13,7 +13,7 @@ byte-at-requires : tie.Need-byte-at-requires
 byte-at-requires c κs = search needs
 
 returns : tie.Need-returns
-returns c = kind-read (c .before .before .before .pre .0) _ _ _ (c .before .line-start .ensures .0) (c .byte-at .ensures .0)
+returns c = kind-read _ _ (c .before .before .before .pre .0 .header) _ _ _ (c .before .line-start .ensures .0) (c .byte-at .ensures .0)
 
 pub line-kind-spec : {M : Type 1} → statement M
 line-kind-spec = tie.close (tie.spec line-start-requires byte-at-requires returns)
