@@ -1,0 +1,4 @@
+-- Laws over any width, any weights and any lines.
+pub mod Counts
+pub mod Bounds
+pub mod Values

@@ -1,0 +1,75 @@
+-- The values of reads, the lesser of two, and the lowest kind that passes a test.
+use mathlib.Core.Bool.{Bool, true, false}
+use mathlib.Core.Path.{_≡_, refl, sym, _∙_, ap}
+use Prim.Native.Nat.{ℕ, zero, suc, _+_, _-_, _*_, _≤_, _<_, min}
+use native.Mathlib.Numerals.{add-one}
+use native.Mathlib.Omega.{arith}
+use borrow.Author.Tests.{eq-eqb, ne-eqb, lt-ltb, le-ltb}
+use lib.Dec.{eqb, ltb}
+use Rattle.model.specs.Finite.{either, leastFrom}
+use Rattle.model.specs.Field.{Field, weigh, weighFrom}
+use Rattle.model.specs.Norm.{ready, sooner}
+use Rattle.model.specs.Base.{earlier}
+use Rattle.norms.specs.Norms.{readValue, lesserOf}
+
+-- "the norm of its first kind's tokens plus the norm of the rest"
+pub rest-none : (i m : ℕ) (w : ℕ → ℕ) (a : Field) → m ≡ 0 → weighFrom i m w a ≡ 0
+unfolding weighFrom
+rest-none i m w a e = rw e
+
+pub first-rest : (i m : ℕ) (w : ℕ → ℕ) (a : Field) → 0 < m → weighFrom i m w a ≡ a i * w i + weighFrom (i + 1) (m - 1) w a
+unfolding weighFrom
+first-rest i zero w a h = absurd (omega arith)
+first-rest i (suc m) w a h = let z : suc m - 1 ≡ m = omega arith in rw (z, add-one)
+
+-- The value of a read.
+pub read-missing : (n : ℕ) (w : ℕ → ℕ) (a : Field) → ready n w a ≡ false → readValue n w a ≡ 0
+unfolding readValue
+read-missing n w a e = rw (e, readValue)
+
+pub read-ready : (n : ℕ) (w : ℕ → ℕ) (a : Field) → ready n w a ≡ true → readValue n w a ≡ suc (weigh n w a)
+unfolding readValue
+read-ready n w a e = rw (e, readValue)
+
+-- The lesser of two values.
+pub lesser-right : (x y : ℕ) → x ≡ 0 → lesserOf x y ≡ y
+unfolding lesserOf
+lesser-right x y e = rw (eq-eqb x 0 e, lesserOf)
+
+pub lesser-left : (x y : ℕ) → ¬ (x ≡ 0) → y ≡ 0 → lesserOf x y ≡ x
+unfolding lesserOf
+lesser-left x y n e = rw (ne-eqb x 0 n, lesserOf, eq-eqb y 0 e, sooner)
+
+pub lesser-both : (x y : ℕ) → ¬ (x ≡ 0) → ¬ (y ≡ 0) → lesserOf x y ≡ min x y
+unfolding lesserOf
+lesser-both x y n m = rw (ne-eqb x 0 n, lesserOf, ne-eqb y 0 m, sooner)
+
+-- "by norm, then by number"
+pub earlier-tie : (w : ℕ → ℕ) (k j : ℕ) → w j ≡ w k → earlier w k j ≡ ltb j k
+unfolding earlier
+earlier-tie w k j e = rw (le-ltb (w j) (w k) (omega arith), earlier, eq-eqb (w j) (w k) e)
+
+pub earlier-norm : (w : ℕ → ℕ) (k j : ℕ) → ¬ (w j ≡ w k) → earlier w k j ≡ ltb (w j) (w k)
+unfolding earlier
+earlier-norm w k j n = rw (ne-eqb (w j) (w k) n, earlier) (either-false (ltb (w j) (w k)))
+  where
+    either-false : (b : Bool) → either b false ≡ b
+    either-false true = refl
+    either-false false = refl
+
+-- The least number from i up to m that passes: all are left at first; it is at i, or later, or m itself.
+pub least-start : (p : ℕ → Bool) (m : ℕ) → leastFrom p 0 m ≡ leastFrom p 0 (m - 0)
+least-start p m = let z : m ≡ m - 0 = omega arith in ap (leastFrom p 0) z
+
+module _ (p : ℕ → Bool) (i m : ℕ) where
+  pub least-here : i < m → p i ≡ true → leastFrom p i (m - i) ≡ i
+  unfolding leastFrom
+  least-here h e = let z : m - i ≡ suc (m - suc i) = omega arith in rw (z, e, leastFrom)
+
+  pub least-later : i < m → p i ≡ false → leastFrom p i (m - i) ≡ leastFrom p (i + 1) (m - (i + 1))
+  unfolding leastFrom
+  least-later h e = let z : m - i ≡ suc (m - suc i) = omega arith in rw (z, e, leastFrom, add-one)
+
+  pub least-end : m ≤ i → leastFrom p i (m - i) ≡ i
+  unfolding leastFrom
+  least-end h = let z : m - i ≡ 0 = omega arith in rw z

@@ -1,0 +1,34 @@
+-- The arrays that hold norms, and what the check of a whole sheet answers.
+use mathlib.Core.Bool.{true, false}
+use mathlib.Core.List.{List}
+use Prim.Native.Nat.{ℕ, suc, _≤_, min}
+use lib.Dec.{eqb}
+use Rattle.model.specs.Finite.{listFrom}
+use Rattle.model.specs.Field.{Field, weigh, at}
+use Rattle.model.specs.Norm.{ready, sooner, kindNorm}
+use Rattle.model.specs.Sheet.{cardOf}
+use Rattle.model.specs.Limits.{mostKinds, normLimit}
+
+-- A field as an array by value: its counts of the most kinds there are.
+abbrev pub arrayOf : Field → List ℕ
+arrayOf f = listFrom f 0 mostKinds
+
+-- The norms of the sheet's kinds, cut one past "the greatest norm taken"; 0 is a kind that has none.
+unfoldable pub cutNorms : List ℕ → List ℕ
+cutNorms s = arrayOf (λ k. min (kindNorm (cardOf s) k) (suc normLimit))
+
+-- The norms themselves.
+unfoldable pub normsOf : List ℕ → List ℕ
+normsOf s = arrayOf (kindNorm (cardOf s))
+
+-- No value of the array passes the bound.
+abbrev pub AtMost : ℕ → List ℕ → Type 0
+AtMost bound values = (k : ℕ) → at values k ≤ bound
+
+-- One read and the values of what it leaves; 0 where a kind of it has no value.
+unfoldable pub readValue : ℕ → (ℕ → ℕ) → Field → ℕ
+readValue n w a = elim (ready n w a) [ true ↦ suc (weigh n w a) | false ↦ 0 ]
+
+-- The lesser of two values, where 0 is none.
+unfoldable pub lesserOf : ℕ → ℕ → ℕ
+lesserOf x y = elim (eqb x 0) [ true ↦ y | false ↦ sooner x y ]

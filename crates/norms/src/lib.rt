@@ -1,0 +1,10 @@
+// Norms of kinds and fields, the order of kinds, which lines lower the norm, g; refusals 9 and 10.
+
+// The counts of a line against the values of the kinds: sums, and one read's value.
+pub mod weights;
+
+// The norm of a field.
+pub mod fields;
+
+// The order of kinds, and the lowest kind without a norm or over the limit.
+pub mod order;
