@@ -2,3 +2,5 @@
 pub mod Counts
 pub mod Bounds
 pub mod Values
+pub mod Sweeps
+pub mod Laws

@@ -3,7 +3,6 @@ ghost use mathlib.Core.Path.{_≡_};
 ghost use Prim.Native.Nat.{_+_, _≤_, _<_, _^_};
 ghost use Rattle.model.specs.Field.{weigh, weighFrom, at};
 ghost use Rattle.model.specs.Limits.{mostKinds};
-
 use crate::weights::wide32;
 
 // "The norm of a field is the fewest reads to the empty field", for a field of this many kinds whose norm fits 64 bits.

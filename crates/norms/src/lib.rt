@@ -3,6 +3,9 @@
 // The counts of a line against the values of the kinds: sums, and one read's value.
 pub mod weights;
 
+// The norms of the kinds, found by sweeps.
+pub mod kinds;
+
 // The norm of a field.
 pub mod fields;
 

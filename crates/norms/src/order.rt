@@ -6,8 +6,7 @@ ghost use Rattle.model.specs.Finite.{leastFrom};
 ghost use Rattle.model.specs.Field.{at};
 ghost use Rattle.model.specs.Base as base;
 ghost use Rattle.model.specs.Limits.{mostKinds, normLimit};
-
-const NORM: u32 = 1_000_000;
+use sheet::Card;
 
 // "Kinds are ordered by norm, then by number": whether kind j comes before kind k.
 pub fn earlier(norms: [u32; 32], k: usize, j: usize) -> bool
@@ -47,7 +46,7 @@ pub fn first_over(norms: [u32; 32], kinds: usize) -> usize
     let mut k = 0;
     while k < kinds {
         let norm = norms[k];
-        if NORM < norm {
+        if Card::NORM < norm {
             return k;
         }
         k += 1;

@@ -6,8 +6,7 @@ ghost use Rattle.model.specs.Field.{weigh, at};
 ghost use Rattle.model.specs.Norm.{ready};
 ghost use Rattle.model.specs.Limits.{mostKinds, normLimit};
 ghost use Rattle.norms.specs.Norms.{AtMost, readValue, lesserOf};
-
-const NORM: u32 = 1_000_000;
+use sheet::Card;
 
 // Whether every kind that the counts hold has a value.
 pub fn all_valued(values: [u32; 32], counts: &[u8]) -> bool
@@ -51,10 +50,10 @@ pub fn read_value(values: [u32; 32], counts: &[u8]) -> u32
 {
     if all_valued(values, counts) {
         let left = weight(values, counts);
-        if left < NORM as u64 {
+        if left < Card::NORM as u64 {
             return (left + 1) as u32;
         }
-        return NORM + 1;
+        return Card::NORM + 1;
     }
     0
 }

@@ -53,7 +53,7 @@ norm-from-wide32-requires-2 t c κs = search needs
 -- The norm of the first kind's tokens, and that of the rest.
 split : (t : ℕ) (c : norm-from-lts.After-wide322 (norm-from-calls t) (norm-from-at t) norm-from.Post)
     → let a = c .before .before .before .args in
-      weighFrom (a .kind) (a .left) (at (a .t3)) (at (a .t4)) ≡ c .before .wide32 .result * c .wide322 .result + weighFrom (a .kind + 1) (a .left - 1) (at (a .t3)) (at (a .t4))
+    weighFrom (a .kind) (a .left) (at (a .t3)) (at (a .t4)) ≡ c .before .wide32 .result * c .wide322 .result + weighFrom (a .kind + 1) (a .left - 1) (at (a .t3)) (at (a .t4))
 split t c =
     let a = c .before .before .before .args in
     rw (c .before .wide32 .ensures, c .wide322 .ensures) (first-rest (a .kind) (a .left) (at (a .t3)) (at (a .t4)) (omega arith))

@@ -18,11 +18,12 @@ all-valued-requires c κs = search needs
 
 -- src/weights.rt:53:13
 weight-requires : tie.Need-weight-requires
-weight-requires c κs = 
-    let b = c .before .before .before in
-    (search needs,
-    bytes-fit (length (b .args .counts .now)) (at (b .args .values)) (at (b .args .counts .now)) (b .pre .0) (b .pre .1)
-    (λ k. omega (arith, c .before .before .shared-slice-known .given k)))
+weight-requires c κs =
+    let b = c .before .before .before in (
+      search needs,
+      bytes-fit (length (b .args .counts .now)) (at (b .args .values)) (at (b .args .counts .now)) (b .pre .0) (b .pre .1)
+          (λ k. omega (arith, c .before .before .shared-slice-known .given k)),
+    )
 
 -- src/weights.rt:54:19
 cast-if2 : tie.Need-cast-if2
@@ -38,7 +39,7 @@ cast-result c = search needs
 
 -- src/weights.rt:55:13
 returns : tie.Need-returns
-returns c = 
+returns c =
     let b = c .before .before .before .before .before in
     omega (
       arith,
@@ -52,7 +53,7 @@ add-result-2 c = search needs
 
 -- src/weights.rt:57:9
 returns-2 : tie.Need-returns-2
-returns-2 c = 
+returns-2 c =
     let b = c .before .before .before .before .before in
     omega (
       arith,
@@ -62,7 +63,7 @@ returns-2 c =
 
 -- src/weights.rt:47:1
 returns-3 : tie.Need-returns-3
-returns-3 c = 
+returns-3 c =
     let b = c .before .before .before in
     omega (
       arith,

@@ -47,7 +47,7 @@ wide32-requires c κs = search needs
 -- What a turn adds.
 more : (c : tie.After-wide32 Inv-loop μ-loop)
     → let a = c .before .before .before .before .before .before .args in
-      SumMore (c .before .before .before .before .loop .i) (at (a .t1)) (at (a .counts .now)) (c .before .before .before .before .loop .sum) (c .before .wide8 .result * c .wide32 .result) (2 ^ 64)
+    SumMore (c .before .before .before .before .loop .i) (at (a .t1)) (at (a .counts .now)) (c .before .before .before .before .loop .sum) (c .before .wide8 .result * c .wide32 .result) (2 ^ 64)
 more c =
     let a = c .before .before .before .before .before .before .args in
     let l = c .before .before .before .before .loop in
