@@ -20,7 +20,8 @@ use Rattle.model.proofs.Certified.{Found}
 use Rattle.model.proofs.Program.{Equal, Candidate, row-candidate, test-one, test-next}
 use Rattle.model.proofs.Sheets.{certified}
 use Rattle.base.proofs.Forms.{earlier-iff, earlier-not, lowers-before, lowers-norm, left-kinds, before-kinds, unit-kinds, count-most, form-unit, form-self, form-before, form-atoms, form-norm, row-sort}
-use Rattle.base.proofs.Lines.{LowersAt, line-lowers, lowers-number, kind-of}
+use Rattle.base.specs.Stage.{LowersAt, Told}
+use Rattle.base.proofs.Lines.{line-lowers, every-lowering, kind-of}
 
 -- A product of atoms of stage q + 1 earlier than kind k, of k's norm. It is its own form, and none of its counts passes the norm.
 pub record Product (c : Card) (q k : ℕ) (b : Field) : Type 0 where
@@ -30,10 +31,6 @@ pub record Product (c : Card) (q k : ℕ) (b : Field) : Type 0 where
   pub norms : norm c b ≡ kindNorm c k
   pub small : (j : ℕ) → b j ≤ kindNorm c k
   pub own-form : stageForm c (suc q) b ≡ b
-
--- b is the candidate for a row that lines l, of the row's kind, and m tell at stage q + 1.
-abbrev pub Told : Card → ℕ → Line → Line → Field → Type 0
-Told c q l m b = b ⊕ stageForm c (suc q) (m .left) ≡ unit (m .kind) ⊕ stageForm c (suc q) (l .left)
 
 module _ (c : Card) (F : Found (c .lines) (c .kinds) (kindNorm c)) (q k : ℕ) (h : k < c .kinds) where
   -- What is told by a line of the kind and a line of an earlier atom, both lowering the norm, is such a product.
@@ -130,4 +127,5 @@ module _ (s : List ℕ) (ok : Accepted s) (q k : ℕ) (h : k < kindCount s) wher
       → stageRow (cardOf s) (suc q) k ≡ unit k
   no-line-tells i o e f =
       none-told (cardOf s) (certified s ok) q k (kind-of s k h) (lineOf s i) (line-lowers s i o) e
-      (λ m p. let t = lowers-number s m p in rw (t .2) (f (t .0) (t .1)))
+      (every-lowering s (λ m. m .code ≡ lineOf s i .code → Earlier (cardOf s) (m .kind) k → stageRow (cardOf s) (suc q) (m .kind) ≡ unit (m .kind) → (b : Field)
+      → Told (cardOf s) q (lineOf s i) m b → ¬ (stageRow (cardOf s) (suc q) k ≡ b)) f)

@@ -3,3 +3,7 @@ pub mod Forms
 pub mod Lines
 -- The candidates for a row.
 pub mod Candidates
+-- Norm-reducing expansion, line by line.
+pub mod Lowering
+-- Lines that match, and their classes.
+pub mod Classes

@@ -1,12 +1,13 @@
 -- The lines of a sheet, by number.
 use mathlib.Core.List.{List}
-use mathlib.Core.Path.{_≡_, ap}
+use mathlib.Core.Path.{_≡_, sym, ap, subst}
 use Prim.Native.Nat.{ℕ, _+_, _<_}
 use native.Mathlib.Omega.{arith}
 use Rattle.model.specs.Card.{Line, On}
 use Rattle.model.specs.Norm.{kindNorm, norm}
 use Rattle.model.specs.Stage.{Lowers}
 use Rattle.model.specs.Sheet.{kindCount, lineCount, lineOf, cardOf}
+use Rattle.base.specs.Stage.{LowersAt}
 use Rattle.model.proofs.Lists.{mem-from, from-mem}
 
 module _ (s : List ℕ) where
@@ -19,15 +20,24 @@ module _ (s : List ℕ) where
   unfolding cardOf
   line-number l o = let t = mem-from (lineOf s) 0 (lineCount s) l o in let e : 0 + t .0 ≡ t .0 = omega arith in (t .0, t .1, rw (ap (lineOf s) e) at (t .2))
 
-  -- Line j is one of the sheet's, and lowers the norm.
-  abbrev pub LowersAt : ℕ → Type 0
-  LowersAt j = (j < lineCount s) × (norm (cardOf s) (lineOf s j .left) < kindNorm (cardOf s) (lineOf s j .kind))
-
-  pub line-lowers : (j : ℕ) → LowersAt j → Lowers (cardOf s) (kindNorm (cardOf s)) (lineOf s j)
+  -- The same of those that lower the norm.
+  pub line-lowers : (j : ℕ) → LowersAt s j → Lowers (cardOf s) (kindNorm (cardOf s)) (lineOf s j)
   line-lowers j h = (line-on j (h .0), h .1)
 
-  pub lowers-number : (l : Line) → Lowers (cardOf s) (kindNorm (cardOf s)) l → (j : ℕ) × LowersAt j × (l ≡ lineOf s j)
-  lowers-number l o = let t = line-number l (o .0) in (t .0, (t .1, rw (t .2) at (o .1)), t .2)
+  -- What holds of every numbered line holds of every line, and what some line has, some numbered line has.
+  pub every-line : (P : Line → Type 0) → ((j : ℕ) → j < lineCount s → P (lineOf s j)) → (l : Line) → On (cardOf s) l → P l
+  every-line P f l o = let t = line-number l o in subst P (sym (t .2)) (f (t .0) (t .1))
+
+  pub some-line : (P : Line → Type 0) → (l : Line) × On (cardOf s) l × P l → (j : ℕ) × (j < lineCount s) × P (lineOf s j)
+  some-line P x = let t = line-number (x .0) (x .1) in (t .0, t .1, subst P (t .2) (x .2))
+
+  pub every-lowering : (P : Line → Type 0) → ((j : ℕ) → LowersAt s j → P (lineOf s j)) → (l : Line) → Lowers (cardOf s) (kindNorm (cardOf s)) l → P l
+  every-lowering P f l o = every-line (λ m. norm (cardOf s) (m .left) < kindNorm (cardOf s) (m .kind) → P m) (λ j h i. f j (h, i)) l (o .0) (o .1)
+
+  pub some-lowering : (P : Line → Type 0) → (l : Line) × Lowers (cardOf s) (kindNorm (cardOf s)) l × P l → (j : ℕ) × LowersAt s j × P (lineOf s j)
+  some-lowering P x =
+      let t = some-line (λ m. (norm (cardOf s) (m .left) < kindNorm (cardOf s) (m .kind)) × P m) (x .0, x .1 .0, (x .1 .1, x .2)) in
+      (t .0, (t .1, t .2 .0), t .2 .1)
 
   -- The card's kinds are those that the header counts.
   pub kind-of : (k : ℕ) → k < kindCount s → k < cardOf s .kinds

@@ -1,0 +1,2 @@
+-- What the contracts of the base cite.
+pub mod Stage

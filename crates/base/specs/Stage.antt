@@ -1,0 +1,40 @@
+-- What the code of a stage tells of lines, by the rows and the forms of stage q + 1.
+use mathlib.Core.List.{List}
+use mathlib.Core.Logic.{_↔_}
+use mathlib.Core.Path.{_≡_}
+use Prim.Native.Nat.{ℕ, suc, _<_}
+use lib.ListN.{getD}
+use Rattle.model.specs.Field.{Field, _⊕_, unit}
+use Rattle.model.specs.Card.{Line, Card}
+use Rattle.model.specs.Norm.{kindNorm, norm}
+use Rattle.model.specs.Base.{stageRow, stageForm}
+use Rattle.model.specs.Sheet.{lineCount, lineOf, cardOf}
+
+-- b is the candidate for the row of l's kind that the lines l and m tell: m's kind and what l leaves, less what m leaves, in atoms.
+abbrev pub Told : Card → ℕ → Line → Line → Field → Type 0
+Told c q l m b = b ⊕ stageForm c (suc q) (m .left) ≡ unit (m .kind) ⊕ stageForm c (suc q) (l .left)
+
+-- Line l of a kind alone and line m of a product b of atoms read one code and leave equal forms: "a read of the same code on the other and the results are related".
+abbrev pub Leave : Card → ℕ → Field → Line → Line → Type 0
+Leave c q b l m = (m .code ≡ l .code) × (stageForm c (suc q) (l .left) ⊕ unit (m .kind) ≡ b ⊕ stageForm c (suc q) (m .left))
+
+-- Lines l and m match: wherever two fields of equal forms may use them, they read one code and leave equal forms.
+abbrev pub Match : Card → ℕ → Line → Line → Type 0
+Match c q l m = (m .code ≡ l .code) × (stageForm c (suc q) (l .left) ⊕ stageRow c (suc q) (m .kind) ≡ stageForm c (suc q) (m .left) ⊕ stageRow c (suc q) (l .kind))
+
+module _ (s : List ℕ) where
+  -- Line j is one of the sheet's, and is one of the "reads that lower the norm".
+  abbrev pub LowersAt : ℕ → Type 0
+  LowersAt j = (j < lineCount s) × (norm (cardOf s) (lineOf s j .left) < kindNorm (cardOf s) (lineOf s j .kind))
+
+  -- A number for each line, its class, tells which lines match.
+  abbrev pub Classes : ℕ → List ℕ → Type 0
+  Classes q classes = (i j : ℕ) → i < lineCount s → j < lineCount s → (getD classes i 0 ≡ getD classes j 0) ↔ Match (cardOf s) q (lineOf s i) (lineOf s j)
+
+  -- The field may use a line of class x.
+  abbrev pub Uses : List ℕ → Field → ℕ → Type 0
+  Uses classes a x = (j : ℕ) × (j < lineCount s) × (0 < a (lineOf s j .kind)) × (getD classes j 0 ≡ x)
+
+  -- The two fields may use lines of the same classes.
+  abbrev pub SameUses : List ℕ → Field → Field → Type 0
+  SameUses classes a b = (x : ℕ) → Uses classes a x ↔ Uses classes b x
