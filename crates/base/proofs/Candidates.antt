@@ -1,11 +1,11 @@
 -- The candidates for a kind's row, and which of them is the row.
 use mathlib.Core.List.{List}
 use mathlib.Core.Logic.{_↔_, _⊎_, inl, inr}
-use mathlib.Core.Path.{_≡_, refl, sym, _∙_, ap}
-use Prim.Native.Nat.{ℕ, zero, suc, _+_, _≤_, _<_}
+use mathlib.Core.Path.{_≡_, refl, sym, _∙_, ap, fun-ext}
+use Prim.Native.Nat.{ℕ, suc, _≤_, _<_}
 use native.Mathlib.Decide.{decLt}
 use native.Mathlib.Omega.{arith}
-use Rattle.model.specs.Field.{Field, _⊕_, unit}
+use Rattle.model.specs.Field.{Field, unit}
 use Rattle.model.specs.Card.{Line, Card, On}
 use Rattle.model.specs.Norm.{kindNorm, norm}
 use Rattle.model.specs.Expansion.{Expands}
@@ -19,7 +19,7 @@ use Rattle.model.proofs.Base.{unit-some}
 use Rattle.model.proofs.Certified.{Found}
 use Rattle.model.proofs.Program.{Equal, Candidate, row-candidate, test-one, test-next}
 use Rattle.model.proofs.Sheets.{certified}
-use Rattle.base.proofs.Forms.{earlier-iff, earlier-not, lowers-before, lowers-norm, left-kinds, before-kinds, unit-kinds, count-most, form-unit, form-self, form-before, form-atoms, form-norm, row-sort}
+use Rattle.base.proofs.Forms.{earlier-iff, earlier-not, lowers-before, lowers-norm, left-kinds, unit-kinds, count-most, form-unit, form-self, form-before, form-atoms, form-norm, row-sort}
 use Rattle.base.specs.Stage.{LowersAt, Told}
 use Rattle.base.proofs.Lines.{line-lowers, every-lowering, kind-of}
 
@@ -31,6 +31,10 @@ pub record Product (c : Card) (q k : ℕ) (b : Field) : Type 0 where
   pub norms : norm c b ≡ kindNorm c k
   pub small : (j : ℕ) → b j ≤ kindNorm c k
   pub own-form : stageForm c (suc q) b ≡ b
+
+-- Two lines tell one candidate at most.
+pub told-only : (c : Card) (q : ℕ) (l m : Line) (a b : Field) → Told c q l m a → Told c q l m b → a ≡ b
+told-only c q l m a b x y = fun-ext (λ j. omega (arith, ap (λ (f : Field). f j) x, ap (λ (f : Field). f j) y))
 
 module _ (c : Card) (F : Found (c .lines) (c .kinds) (kindNorm c)) (q k : ℕ) (h : k < c .kinds) where
   -- What is told by a line of the kind and a line of an earlier atom, both lowering the norm, is such a product.

@@ -1,22 +1,20 @@
 -- Lines that match, and their classes: expansion of two fields of equal forms by the lines that they may use.
 use mathlib.Core.List.{List}
 use mathlib.Core.Logic.{_↔_}
-use mathlib.Core.Path.{_≡_, refl, sym, _∙_, ap, fun-ext}
-use Prim.Native.Nat.{ℕ, suc, _+_, _≤_, _<_}
-use native.Mathlib.Decide.{decLt}
+use mathlib.Core.Path.{refl, sym, _∙_, ap, fun-ext}
+use Prim.Native.Nat.{ℕ, _<_}
 use native.Mathlib.Omega.{arith}
 use lib.ListN.{getD}
-use Rattle.model.specs.Field.{Field, _⊕_}
+use Rattle.model.specs.Field.{Field}
 use Rattle.model.specs.Card.{Line, Card, On}
 use Rattle.model.specs.Norm.{kindNorm}
 use Rattle.model.specs.Expansion.{Expands}
-use Rattle.model.specs.Base.{stageRow, stageForm}
 use Rattle.model.specs.Sheet.{lineCount, lineOf, cardOf}
 use Rattle.model.specs.Refusal.{Accepted}
 use Rattle.model.proofs.Certified.{Found}
 use Rattle.model.proofs.Program.{Equal, effects}
 use Rattle.model.proofs.Sheets.{certified}
-use Rattle.base.specs.Stage.{Match, Classes, Uses, SameUses}
+use Rattle.base.specs.Stage.{Match, Classes, SameUses}
 use Rattle.base.proofs.Lines.{line-on, every-line, some-line}
 
 -- To match is an equivalence.
@@ -57,24 +55,18 @@ module _ (c : Card) (F : Found (c .lines) (c .kinds) (kindNorm c)) (q : ℕ) (a 
 
 -- The same of an accepted sheet, with its lines by number.
 module _ (s : List ℕ) (ok : Accepted s) (q : ℕ) (a b : Field) (e : Equal (cardOf s) (kindNorm (cardOf s)) (certified s ok) q a b) where
-  abbrev Of : Field → Line → Line → Type 0
-  Of b l m = (0 < b (m .kind)) × Match (cardOf s) q l m
-
-  abbrev To : Line → Line → Type 0
-  To m l = (0 < a (l .kind)) × Match (cardOf s) q l m
-
   pub lines-match : Expands (On (cardOf s)) (Equal (cardOf s) (kindNorm (cardOf s)) (certified s ok) q) a b
       ↔ (((i : ℕ) → i < lineCount s → 0 < a (lineOf s i .kind) → (j : ℕ) × (j < lineCount s) × ((0 < b (lineOf s j .kind)) × Match (cardOf s) q (lineOf s i) (lineOf s j)))
       × ((j : ℕ) → j < lineCount s → 0 < b (lineOf s j .kind) → (i : ℕ) × (i < lineCount s) × ((0 < a (lineOf s i .kind)) × Match (cardOf s) q (lineOf s i) (lineOf s j))))
   lines-match =
       let x = matches-iff (cardOf s) (certified s ok) q a b e in (
         (λ y. let z = x .0 y in (
-          (λ i h u. some-line s (Of b (lineOf s i)) (z .0 (lineOf s i) (line-on s i h) u)),
-          (λ j h u. some-line s (To (lineOf s j)) (z .1 (lineOf s j) (line-on s j h) u)),
+          (λ i h u. some-line s (λ m. (0 < b (m .kind)) × Match (cardOf s) q (lineOf s i) m) (z .0 (lineOf s i) (line-on s i h) u)),
+          (λ j h u. some-line s (λ l. (0 < a (l .kind)) × Match (cardOf s) q l (lineOf s j)) (z .1 (lineOf s j) (line-on s j h) u)),
         )),
         (λ y. x .1 (
-          every-line s (λ l. 0 < a (l .kind) → (m : Line) × On (cardOf s) m × Of b l m) (λ i h u. let t = y .0 i h u in (lineOf s (t .0), line-on s (t .0) (t .1), t .2)),
-          every-line s (λ m. 0 < b (m .kind) → (l : Line) × On (cardOf s) l × To m l) (λ j h u. let t = y .1 j h u in (lineOf s (t .0), line-on s (t .0) (t .1), t .2)),
+          every-line s (λ l. 0 < a (l .kind) → (m : Line) × On (cardOf s) m × ((0 < b (m .kind)) × Match (cardOf s) q l m)) (λ i h u. let t = y .0 i h u in (lineOf s (t .0), line-on s (t .0) (t .1), t .2)),
+          every-line s (λ m. 0 < b (m .kind) → (l : Line) × On (cardOf s) l × ((0 < a (l .kind)) × Match (cardOf s) q l m)) (λ j h u. let t = y .1 j h u in (lineOf s (t .0), line-on s (t .0) (t .1), t .2)),
         )),
       )
 

@@ -1,7 +1,7 @@
 -- The rows and the forms at a stage: what they hold, what they weigh, how large their counts are.
 use mathlib.Core.Logic.{_↔_, _⊎_, inl, inr}
 use mathlib.Core.Path.{_≡_, sym, _∙_, ap, fun-ext}
-use Prim.Native.Nat.{ℕ, suc, _+_, _*_, _≤_, _<_}
+use Prim.Native.Nat.{ℕ, suc, _*_, _≤_, _<_}
 use native.Mathlib.Decide.{decLt}
 use native.Mathlib.Nat.{mul-le-mul-left}
 use native.Mathlib.Omega.{arith}
@@ -22,7 +22,7 @@ use Rattle.model.proofs.Decide.{Finite}
 use Rattle.model.proofs.Count.{past, past-whole, level-low, level-base}
 use Rattle.model.proofs.Certified.{Found}
 use Rattle.model.proofs.Rows.{finite, order-iff, tells-earlier}
-use Rattle.model.proofs.Plain.{plain, tidy, tells-equal}
+use Rattle.model.proofs.Plain.{plain, tidy, tells-equal, stages}
 use Rattle.model.proofs.Settling.{base, row-of, within, before}
 use Rattle.model.proofs.Program.{theirs}
 
@@ -59,9 +59,19 @@ module _ (c : Card) (F : Found (c .lines) (c .kinds) (kindNorm c)) where
   earlier-not k (inl p) = omega arith
   earlier-not k (inr p) = omega (arith, p .1)
 
+  pub earlier-trans : (i j k : ℕ) → Earlier c i j → Earlier c j k → Earlier c i k
+  earlier-trans i j k (inl p) (inl r) = inl (omega arith)
+  earlier-trans i j k (inl p) (inr r) = inl (omega (arith, r .0))
+  earlier-trans i j k (inr p) (inl r) = inl (omega (arith, p .0))
+  earlier-trans i j k (inr p) (inr r) = inr (p .0 ∙ r .0, omega (arith, p .1, r .1))
+
   -- What a line that lowers the norm leaves is of kinds earlier than its own, and weighs one less.
   pub lowers-before : (l : Line) → Lowers c (kindNorm c) l → Before c (l .kind) (l .left)
   lowers-before l o = before c F (l .kind) (F .kinds l (o .0)) (l .left) (low-within N l o)
+
+  pub lowers-earlier : (k : ℕ) (l : Line) → Lowers c (kindNorm c) l → (l .kind ≡ k) ⊎ Earlier c (l .kind) k → Before c k (l .left)
+  lowers-earlier k l o (inl e) = rw e at (lowers-before l o)
+  lowers-earlier k l o (inr r) = λ j h. let u = lowers-before l o j h in (u .0, earlier-trans j (l .kind) k (u .1) r)
 
   pub lowers-norm : (l : Line) → Lowers c (kindNorm c) l → suc (norm c (l .left)) ≡ kindNorm c (l .kind)
   lowers-norm l o = omega (arith, F .settled l (o .0), o .1)
@@ -90,6 +100,11 @@ module _ (c : Card) (F : Found (c .lines) (c .kinds) (kindNorm c)) where
         → (j : ℕ) → weigh (c .kinds) (λ k. rows k j) a ≡ stageForm c (suc q) a j
     unfolding formAt
     form-table rows a h j = form-rows (c .kinds) rows (stageRow c (suc q)) a h j
+
+    -- So for what a lowering line of kind k, or of an earlier kind, leaves, the rows of the kinds earlier than k are enough.
+    pub form-earlier : (k : ℕ) (rows : ℕ → Field) → ((j : ℕ) → j < c .kinds → Earlier c j k → rows j ≡ stageRow c (suc q) j)
+        → (l : Line) → Lowers c (kindNorm c) l → (l .kind ≡ k) ⊎ Earlier c (l .kind) k → (j : ℕ) → weigh (c .kinds) (λ i. rows i j) (l .left) ≡ stageForm c (suc q) (l .left) j
+    form-earlier k rows f l o e = form-table rows (l .left) (λ i h p. f i h (lowers-earlier k l o e i p .1))
 
     pub form-unit : (k : ℕ) → k < c .kinds → stageForm c (suc q) (unit k) ≡ stageRow c (suc q) k
     unfolding formAt
@@ -152,6 +167,20 @@ module _ (c : Card) (F : Found (c .lines) (c .kinds) (kindNorm c)) where
         go (inl e) d = absurd (n e)
         go (inr p) (yes i) = absurd (earlier-not k (p .0 k i .1))
         go (inr p) (no i) = none-of _ i
+
+    -- An atom stays one at the next stage.
+    pub atom-stays : (k : ℕ) → k < c .kinds → stageRow c (suc q) k ≡ unit k → stageRow c (suc (suc q)) k ≡ unit k
+    atom-stays k h e = go (base c F q .counts k h) (base c F (suc q) .counts k h)
+      where
+        Test : ℕ → Field → Type 0
+        Test s a = T (stage c (kindNorm c) s (unit k) a)
+
+        go : {A B C D : Type 0} → (A × ((a : Field) → Before c k a → ¬ Test (suc q) a)) ⊎ (Before c k (stageRow c (suc q) k) × B)
+            → ((stageRow c (suc (suc q)) k ≡ unit k) × C) ⊎ (Before c k (stageRow c (suc (suc q)) k) × D) → stageRow c (suc (suc q)) k ≡ unit k
+        go p (inl r) = r .0
+        go (inl p) (inr r) =
+            absurd (p .1 (stageRow c (suc (suc q)) k) (r .0) (stages c (kindNorm c) F .next q (unit k) (stageRow c (suc (suc q)) k) .0 (base c F (suc q) .related k h) .0))
+        go (inr p) (inr r) = absurd (earlier-not k (p .0 k (rw e (omega (arith, unit-same k))) .1))
 
     -- A form is a product of atoms of the field's norm, of kinds no later than the field's.
     module _ (a : Field) (u : OfKinds c a) where

@@ -1,9 +1,13 @@
--- Laws of the model that the code of the stages cites. Rows and forms at a stage; the lines of a sheet by number.
-pub mod Forms
+-- Laws of the model that the code of the stages cites, of an accepted sheet with its lines by number.
+-- The lines by number; the rows and the forms at a stage.
 pub mod Lines
--- The candidates for a row.
+pub mod Forms
+-- The candidates for a row, how large they and the forms are, and the tests that tell which candidate is the row.
 pub mod Candidates
--- Norm-reducing expansion, line by line.
+pub mod Sizes
 pub mod Lowering
--- Lines that match, and their classes.
 pub mod Classes
+pub mod Passing
+-- When a stage is settled; the verdict on two fields.
+pub mod Settled
+pub mod Verdict

@@ -43,3 +43,7 @@ module _ (s : List ℕ) where
   pub kind-of : (k : ℕ) → k < kindCount s → k < cardOf s .kinds
   unfolding cardOf
   kind-of k h = h
+
+  pub kind-in : (k : ℕ) → k < cardOf s .kinds → k < kindCount s
+  unfolding cardOf
+  kind-in k h = h

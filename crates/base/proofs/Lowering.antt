@@ -1,23 +1,23 @@
 -- Norm-reducing expansion of a kind and a product of atoms, line by line.
 use mathlib.Core.List.{List}
 use mathlib.Core.Logic.{_↔_}
-use mathlib.Core.Path.{_≡_, sym, _∙_, ap, fun-ext}
-use Prim.Native.Nat.{ℕ, suc, _+_, _-_, _<_}
+use mathlib.Core.Path.{_≡_, sym, ap, fun-ext}
+use Prim.Native.Nat.{ℕ, suc, _<_}
 use native.Mathlib.Omega.{arith}
 use Rattle.model.specs.Field.{Field, _⊕_, unit}
 use Rattle.model.specs.Card.{Line, Card, fire}
 use Rattle.model.specs.Norm.{kindNorm}
 use Rattle.model.specs.Expansion.{Expands}
 use Rattle.model.specs.Stage.{Lowers}
-use Rattle.model.specs.Base.{stageRow, stageForm}
-use Rattle.model.specs.Sheet.{kindCount, lineCount, lineOf, cardOf}
+use Rattle.model.specs.Base.{stageForm}
+use Rattle.model.specs.Sheet.{lineOf, cardOf}
 use Rattle.model.specs.Refusal.{Accepted}
 use Rattle.model.proofs.Field.{unit-same}
 use Rattle.model.proofs.Base.{unit-some}
 use Rattle.model.proofs.Certified.{Found}
 use Rattle.model.proofs.Program.{Equal, form-fire}
 use Rattle.model.proofs.Sheets.{certified}
-use Rattle.base.specs.Stage.{LowersAt, Leave}
+use Rattle.base.specs.Stage.{Leave, LowersAlike}
 use Rattle.base.proofs.Lines.{line-lowers, every-lowering, some-lowering}
 use Rattle.base.proofs.Candidates.{Product}
 
@@ -75,25 +75,17 @@ module _ (c : Card) (F : Found (c .lines) (c .kinds) (kindNorm c)) (q k : ℕ) (
 
 -- The same of an accepted sheet, with its lines by number.
 module _ (s : List ℕ) (ok : Accepted s) (q k : ℕ) (b : Field) (P : Product (cardOf s) q k b) where
-  abbrev Reply : Line → Line → Type 0
-  Reply l m = (0 < b (m .kind)) × Leave (cardOf s) q b l m
-
-  abbrev Asked : Line → Line → Type 0
-  Asked m l = (l .kind ≡ k) × Leave (cardOf s) q b l m
-
-  pub lines-lowering : Expands (Lowers (cardOf s) (kindNorm (cardOf s))) (Equal (cardOf s) (kindNorm (cardOf s)) (certified s ok) q) (unit k) b
-      ↔ (((i : ℕ) → LowersAt s i → lineOf s i .kind ≡ k → (j : ℕ) × LowersAt s j × ((0 < b (lineOf s j .kind)) × Leave (cardOf s) q b (lineOf s i) (lineOf s j)))
-      × ((j : ℕ) → LowersAt s j → 0 < b (lineOf s j .kind) → (i : ℕ) × LowersAt s i × ((lineOf s i .kind ≡ k) × Leave (cardOf s) q b (lineOf s i) (lineOf s j))))
+  pub lines-lowering : Expands (Lowers (cardOf s) (kindNorm (cardOf s))) (Equal (cardOf s) (kindNorm (cardOf s)) (certified s ok) q) (unit k) b ↔ LowersAlike s q k b
   lines-lowering =
       let x = lowering-iff (cardOf s) (certified s ok) q k b P in (
         (λ y. let z = x .0 y in (
-          (λ i o e. some-lowering s (Reply (lineOf s i)) (z .0 (lineOf s i) (line-lowers s i o) e)),
-          (λ j o h. some-lowering s (Asked (lineOf s j)) (z .1 (lineOf s j) (line-lowers s j o) h)),
+          (λ i o e. some-lowering s (λ m. (0 < b (m .kind)) × Leave (cardOf s) q b (lineOf s i) m) (z .0 (lineOf s i) (line-lowers s i o) e)),
+          (λ j o h. some-lowering s (λ l. (l .kind ≡ k) × Leave (cardOf s) q b l (lineOf s j)) (z .1 (lineOf s j) (line-lowers s j o) h)),
         )),
         (λ y. x .1 (
-          every-lowering s (λ l. l .kind ≡ k → (m : Line) × Lowers (cardOf s) (kindNorm (cardOf s)) m × Reply l m)
+          every-lowering s (λ l. l .kind ≡ k → (m : Line) × Lowers (cardOf s) (kindNorm (cardOf s)) m × ((0 < b (m .kind)) × Leave (cardOf s) q b l m))
               (λ i o e. let t = y .0 i o e in (lineOf s (t .0), line-lowers s (t .0) (t .1), t .2)),
-          every-lowering s (λ m. 0 < b (m .kind) → (l : Line) × Lowers (cardOf s) (kindNorm (cardOf s)) l × Asked m l)
+          every-lowering s (λ m. 0 < b (m .kind) → (l : Line) × Lowers (cardOf s) (kindNorm (cardOf s)) l × ((l .kind ≡ k) × Leave (cardOf s) q b l m))
               (λ j o h. let t = y .1 j o h in (lineOf s (t .0), line-lowers s (t .0) (t .1), t .2)),
         )),
       )

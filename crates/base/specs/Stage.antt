@@ -27,6 +27,18 @@ module _ (s : List ℕ) where
   abbrev pub LowersAt : ℕ → Type 0
   LowersAt j = (j < lineCount s) × (norm (cardOf s) (lineOf s j .left) < kindNorm (cardOf s) (lineOf s j .kind))
 
+  -- The product b has a reply to line i of kind k, and kind k has one to line j of the product, by lines that lower the norm; and so for every such line of either:
+  -- "Norm-reducing expansion considers only reads that lower the norm, for challenge and reply alike."
+  abbrev pub ProductReplies : ℕ → Field → ℕ → Type 0
+  ProductReplies q b i = (j : ℕ) × LowersAt j × ((0 < b (lineOf s j .kind)) × Leave (cardOf s) q b (lineOf s i) (lineOf s j))
+
+  abbrev pub KindReplies : ℕ → ℕ → Field → ℕ → Type 0
+  KindReplies q k b j = (i : ℕ) × LowersAt i × ((lineOf s i .kind ≡ k) × Leave (cardOf s) q b (lineOf s i) (lineOf s j))
+
+  abbrev pub LowersAlike : ℕ → ℕ → Field → Type 0
+  LowersAlike q k b =
+      ((i : ℕ) → LowersAt i → lineOf s i .kind ≡ k → ProductReplies q b i) × ((j : ℕ) → LowersAt j → 0 < b (lineOf s j .kind) → KindReplies q k b j)
+
   -- A number for each line, its class, tells which lines match.
   abbrev pub Classes : ℕ → List ℕ → Type 0
   Classes q classes = (i j : ℕ) → i < lineCount s → j < lineCount s → (getD classes i 0 ≡ getD classes j 0) ↔ Match (cardOf s) q (lineOf s i) (lineOf s j)

@@ -1,0 +1,35 @@
+-- The tests of a candidate as the code makes them: from the new forms of lines, and from the rows, the forms and the classes of the stage before.
+use mathlib.Core.List.{List}
+use mathlib.Core.Logic.{_↔_}
+use mathlib.Core.Path.{_≡_, sym, _∙_}
+use Prim.Native.Nat.{ℕ, suc, _<_}
+use Rattle.model.specs.Field.{Field, unit}
+use Rattle.model.specs.Base.{stageRow, stageForm}
+use Rattle.model.specs.Sheet.{kindCount, cardOf}
+use Rattle.model.specs.Refusal.{Accepted}
+use Rattle.model.proofs.Sheets.{certified}
+use Rattle.base.specs.Stage.{LowersAlike, Classes, SameUses}
+use Rattle.base.proofs.Forms.{form-unit}
+use Rattle.base.proofs.Lines.{kind-of}
+use Rattle.base.proofs.Candidates.{Product, row-one, row-next}
+use Rattle.base.proofs.Lowering.{lines-lowering}
+use Rattle.base.proofs.Classes.{classes-expand}
+
+module _ (s : List ℕ) (ok : Accepted s) (k : ℕ) (h : k < kindCount s) where
+  -- At stage 1 a candidate is the row just when norm-reducing expansion holds.
+  pub passes-one : (b : Field) → Product (cardOf s) 0 k b → LowersAlike s 0 k b ↔ (stageRow (cardOf s) 1 k ≡ b)
+  passes-one b P =
+      let x = row-one (cardOf s) (certified s ok) k (kind-of s k h) b P in
+      let y = lines-lowering s ok 0 k b P in
+      ((λ z. x .0 (y .1 z)), (λ z. y .0 (x .1 z)))
+
+  -- At a later stage it must also have the kind's row for its form at the stage before, and use lines of the same classes.
+  pub passes-next : (q : ℕ) (b : Field) → Product (cardOf s) (suc q) k b → (classes : List ℕ) → Classes s q classes
+      → ((stageRow (cardOf s) (suc q) k ≡ stageForm (cardOf s) (suc q) b) × SameUses s classes (unit k) b × LowersAlike s (suc q) k b) ↔ (stageRow (cardOf s) (suc (suc q)) k ≡ b)
+  passes-next q b P classes K =
+      let x = row-next (cardOf s) (certified s ok) k (kind-of s k h) q b P in
+      let y = lines-lowering s ok (suc q) k b P in
+      let e = form-unit (cardOf s) (certified s ok) q k (kind-of s k h) in (
+        (λ z. x .0 (e ∙ z .0, classes-expand s ok q (unit k) b (e ∙ z .0) classes K .1 (z .1), y .1 (z .2))),
+        (λ z. let u = x .1 z in (sym e ∙ u .0, classes-expand s ok q (unit k) b (u .0) classes K .0 (u .1), y .0 (u .2))),
+      )
