@@ -8,17 +8,14 @@ use Rattle.model.specs.Norm.{kindNorm, norm}
 use Rattle.model.specs.Stage.{Lowers}
 use Rattle.model.specs.Sheet.{kindCount, lineCount, lineOf, cardOf}
 use Rattle.base.specs.Stage.{LowersAt}
-use Rattle.model.proofs.Lists.{mem-from, from-mem}
+use Rattle.model.proofs.Lists.{from-mem}
+use Rattle.sheet.proofs.Laws.{on-line}
 
 module _ (s : List ℕ) where
-  -- Every numbered line is the card's, and the card has no others.
+  -- Every numbered line is the card's. (That the card has no others is `on-line` of crate sheet.)
   pub line-on : (j : ℕ) → j < lineCount s → On (cardOf s) (lineOf s j)
   unfolding cardOf
   line-on j h = let e : 0 + j ≡ j = omega arith in rw (ap (lineOf s) e) at (from-mem (lineOf s) 0 (lineCount s) j h)
-
-  pub line-number : (l : Line) → On (cardOf s) l → (j : ℕ) × (j < lineCount s) × (l ≡ lineOf s j)
-  unfolding cardOf
-  line-number l o = let t = mem-from (lineOf s) 0 (lineCount s) l o in let e : 0 + t .0 ≡ t .0 = omega arith in (t .0, t .1, rw (ap (lineOf s) e) at (t .2))
 
   -- The same of those that lower the norm.
   pub line-lowers : (j : ℕ) → LowersAt s j → Lowers (cardOf s) (kindNorm (cardOf s)) (lineOf s j)
@@ -26,10 +23,10 @@ module _ (s : List ℕ) where
 
   -- What holds of every numbered line holds of every line, and what some line has, some numbered line has.
   pub every-line : (P : Line → Type 0) → ((j : ℕ) → j < lineCount s → P (lineOf s j)) → (l : Line) → On (cardOf s) l → P l
-  every-line P f l o = let t = line-number l o in subst P (sym (t .2)) (f (t .0) (t .1))
+  every-line P f l o = let t = on-line s l o in subst P (sym (t .2)) (f (t .0) (t .1))
 
   pub some-line : (P : Line → Type 0) → (l : Line) × On (cardOf s) l × P l → (j : ℕ) × (j < lineCount s) × P (lineOf s j)
-  some-line P x = let t = line-number (x .0) (x .1) in (t .0, t .1, subst P (t .2) (x .2))
+  some-line P x = let t = on-line s (x .0) (x .1) in (t .0, t .1, subst P (t .2) (x .2))
 
   pub every-lowering : (P : Line → Type 0) → ((j : ℕ) → LowersAt s j → P (lineOf s j)) → (l : Line) → Lowers (cardOf s) (kindNorm (cardOf s)) l → P l
   every-lowering P f l o = every-line (λ m. norm (cardOf s) (m .left) < kindNorm (cardOf s) (m .kind) → P m) (λ j h i. f j (h, i)) l (o .0) (o .1)
