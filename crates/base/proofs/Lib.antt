@@ -11,3 +11,5 @@ pub mod Passing
 -- When a stage is settled; the verdict on two fields.
 pub mod Settled
 pub mod Verdict
+-- Laws over plain lists, for the loops over tables.
+pub mod Tables

@@ -1,0 +1,31 @@
+-- Flat tables of counts, 32 to a row, read as fields: the rows of a base, and the forms of what the lines leave.
+use mathlib.Core.Bool.{Bool, true, false}
+use mathlib.Core.List.{List, _++_}
+use mathlib.Core.Path.{_≡_}
+use Prim.Native.Nat.{ℕ, _+_, _*_, _^_, _<_}
+use lib.ListN.{length, take, drop, replicate}
+use Rattle.model.specs.Field.{Field, _⊕_, unit, at, weigh}
+use Rattle.model.specs.Limits.{mostKinds}
+
+-- Every count is under the bound.
+abbrev pub Under : ℕ → List ℕ → Type 0
+Under bound xs = (j : ℕ) → at xs j < bound
+
+-- Row k of a flat table, as a field: "rows at kind times 32".
+unfoldable pub rowIn : List ℕ → ℕ → Field
+rowIn t k = at (take mostKinds (drop (k * mostKinds) t))
+
+-- The decomposition of a field of n kinds by the rows of a table.
+unfoldable pub formIn : ℕ → List ℕ → Field → Field
+formIn n t a j = weigh n (λ k. rowIn t k j) a
+
+-- The table with row k replaced by the counts of a list.
+unfoldable pub withRow : List ℕ → ℕ → List ℕ → List ℕ
+withRow t k r = take (k * mostKinds) t ++ r ++ drop (k * mostKinds + length r) t
+
+-- A candidate for a row, from the forms l and m of what two lines leave and the second's kind: the one field of 32-bit counts that, with m,
+-- is one token of the kind with l. Where there is none, none is found and the counts are 0.
+pub record IsCandidate (l m : Field) (kind : ℕ) (found : Bool) (counts : List ℕ) : Type 0 where
+  pub gives : found ≡ true → at counts ⊕ m ≡ unit kind ⊕ l
+  pub only : (b : Field) → ((j : ℕ) → b j < 2 ^ 32) → b ⊕ m ≡ unit kind ⊕ l → (found ≡ true) × (b ≡ at counts)
+  pub empty : found ≡ false → counts ≡ replicate mostKinds 0

@@ -1,0 +1,81 @@
+// Tables of rows, and the decomposition of counts by them.
+ghost use mathlib.Core.Path.{_≡_};
+ghost use Prim.Native.Nat.{ℕ, _+_, _*_, _^_, _≤_, _<_};
+ghost use lib.ListN.{length};
+ghost use Rattle.model.specs.Field.{none, _⊕_, times, at};
+ghost use Rattle.base.specs.Table.{formIn};
+
+// A count of 32 bits as one of 64.
+pub fn wide(x: u32) -> u64
+    ensures { λ r. ⌜ (r ≡ x) × (r < 2 ^ 32) ⌝ }
+{
+    x as u64
+}
+
+// A count byte as a count of 64 bits.
+fn wide_byte(x: u8) -> u64
+    ensures { λ r. ⌜ r ≡ x ⌝ }
+{
+    x as u64
+}
+
+// Adds count times the row to the sum.
+pub fn add_times(sum: &mut [u64], row: &[u32], count: u64)
+    requires { ⌜ length (now row) ≤ length (now sum) ⌝ }
+    requires { ⌜ ((j : ℕ) → at (now sum) j + count * at (now row) j < 2 ^ 64) ⌝ }
+    ensures { λ _. ⌜ at (now (sum .exit)) ≡ at (now (sum .entry)) ⊕ times count (at (now (row .entry))) ⌝ }
+{
+    if count == 0 {
+        return;
+    }
+    let mut i = 0;
+    while i < row.len() {
+        let more = count * wide(row[i]);
+        let old = sum[i];
+        sum[i] = old + more;
+        i += 1;
+    }
+}
+
+// Sets every count to 0.
+pub fn clear(out: &mut [u64])
+    ensures { λ _. ⌜ at (now (out .exit)) ≡ none ⌝ }
+{
+    let mut i = 0;
+    while i < out.len() {
+        out[i] = 0;
+        i += 1;
+    }
+}
+
+// The decomposition of the counts of a line, by the rows of a table.
+pub fn form_of_counts(counts: &[u8], rows: &[u32], out: &mut [u64])
+    requires { ⌜ (length (now counts) * 32 ≤ length (now rows)) × (32 ≤ length (now out)) ⌝ }
+    requires { ⌜ ((j : ℕ) → formIn (length (now counts)) (now rows) (at (now counts)) j < 2 ^ 64) ⌝ }
+    ensures { λ _. ⌜ at (now (out .exit)) ≡ formIn (length (now (counts .entry))) (now (rows .entry)) (at (now (counts .entry))) ⌝ }
+{
+    clear(out);
+    let mut k = 0;
+    while k < counts.len() {
+        let a = k * 32;
+        let e = a + 32;
+        add_times(out, &rows[a..e], wide_byte(counts[k]));
+        k += 1;
+    }
+}
+
+// The decomposition of a field, by the rows of a table.
+pub fn form_of_field(field: &[u32], rows: &[u32], out: &mut [u64])
+    requires { ⌜ (length (now field) * 32 ≤ length (now rows)) × (32 ≤ length (now out)) ⌝ }
+    requires { ⌜ ((j : ℕ) → formIn (length (now field)) (now rows) (at (now field)) j < 2 ^ 64) ⌝ }
+    ensures { λ _. ⌜ at (now (out .exit)) ≡ formIn (length (now (field .entry))) (now (rows .entry)) (at (now (field .entry))) ⌝ }
+{
+    clear(out);
+    let mut k = 0;
+    while k < field.len() {
+        let a = k * 32;
+        let e = a + 32;
+        add_times(out, &rows[a..e], wide(field[k]));
+        k += 1;
+    }
+}
