@@ -1,5 +1,4 @@
-// No code yet: the laws that the stages' code cites are in proofs/.
-// The leaves of the decomposition base: loops over flat tables of counts, 32 to a row.
+// The decomposition base of an accepted sheet, from stage to stage.
 
 // Tables of rows, and the decomposition of counts by them.
 pub mod table;
