@@ -17,7 +17,7 @@ pub enum Checked {
 fn check_numbers(s: &[u8]) -> Checked
     ensures { λ r. ⌜ r ≡ outcome (headerOf (now (s .entry))) (firstOf (take 5 (headerChecks (now (s .entry))))) ⌝ }
 {
-    if s.len() < 20 {
+    if s.len() < Card::HEADER {
         return Checked::Refused {
             number: 1,
             place: 0,
@@ -46,7 +46,7 @@ fn check_numbers(s: &[u8]) -> Checked
             place: 0,
         };
     }
-    if 64 < codes {
+    if Card::CODES < codes {
         return Checked::Refused {
             number: 3,
             place: 0,
@@ -58,7 +58,7 @@ fn check_numbers(s: &[u8]) -> Checked
             place: 0,
         };
     }
-    if 64 < fields {
+    if Card::FIELDS < fields {
         return Checked::Refused {
             number: 5,
             place: 0,
@@ -75,7 +75,7 @@ fn check_layout(s: &[u8], card: Card) -> Checked
 {
     let fields = card.line_start(card.lines);
     let total = card.field_start(card.fields);
-    if u32_at(s, 8) != 20 {
+    if u32_at(s, 8) != Card::HEADER {
         return Checked::Refused {
             number: 6,
             place: 0,

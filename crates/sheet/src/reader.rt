@@ -1,7 +1,7 @@
 // The card that a sheet's header gives, and the reading of its lines and fields.
 ghost use mathlib.Core.Path.{_≡_};
 ghost use Prim.Native.Nat.{_+_, _*_, _≤_, _<_};
-ghost use Rattle.model.specs.Limits.{mostKinds, mostLines, mostFields};
+ghost use Rattle.model.specs.Limits.{mostKinds, mostCodes, mostLines, mostFields, normLimit};
 ghost use Rattle.model.specs.Sheet.{linesOffset, lineOf};
 ghost use Rattle.sheet.specs.Reader.{headerOf, Reads, lineCounts, fieldCounts};
 use crate::bytes::byte_at;
@@ -16,12 +16,56 @@ pub struct Card {
 }
 
 impl Card {
-    // "Limits belong to the card."
+    // "Limits belong to the card": the most kinds, codes, lines and fields, and the greatest norm taken.
     pub const KINDS: usize = 32;
+
+    pub const CODES: usize = 64;
 
     pub const LINES: usize = 256;
 
+    pub const FIELDS: usize = 64;
+
     pub const NORM: u32 = 1_000_000;
+
+    // The bytes of the header: "offset of the lines: 20".
+    pub const HEADER: usize = 20;
+
+    // The constants are the model's numbers.
+    pub fn most_kinds() -> usize
+        ensures { λ r. ⌜ r ≡ mostKinds ⌝ }
+    {
+        Card::KINDS
+    }
+
+    pub fn most_codes() -> usize
+        ensures { λ r. ⌜ r ≡ mostCodes ⌝ }
+    {
+        Card::CODES
+    }
+
+    pub fn most_lines() -> usize
+        ensures { λ r. ⌜ r ≡ mostLines ⌝ }
+    {
+        Card::LINES
+    }
+
+    pub fn most_fields() -> usize
+        ensures { λ r. ⌜ r ≡ mostFields ⌝ }
+    {
+        Card::FIELDS
+    }
+
+    pub fn norm_limit() -> u32
+        ensures { λ r. ⌜ r ≡ normLimit ⌝ }
+    {
+        Card::NORM
+    }
+
+    pub fn lines_offset() -> usize
+        ensures { λ r. ⌜ r ≡ linesOffset ⌝ }
+    {
+        Card::HEADER
+    }
 
     // The header's numbers, whatever they are.
     pub fn of_header(s: &[u8]) -> Card
@@ -40,7 +84,7 @@ impl Card {
         requires { ⌜ (self .kinds ≤ mostKinds) × (j ≤ mostLines) ⌝ }
         ensures { λ r. ⌜ (r ≡ linesOffset + j * (2 + self .kinds)) × (r < 65536) ⌝ }
     {
-        20 + j * (2 + self.kinds)
+        Card::HEADER + j * (2 + self.kinds)
     }
 
     // Where field i starts; for i the number of fields, where the sheet ends.
@@ -81,14 +125,14 @@ impl Card {
     }
 
     // Field i by value, 0 past the card's kinds.
-    pub fn field(self, s: &[u8], i: usize) -> [u32; 32]
+    pub fn field(self, s: &[u8], i: usize) -> [u32; Card::KINDS]
         requires { ⌜ Reads (now s) self ⌝ }
         requires { ⌜ i < self .fields ⌝ }
         ensures { λ r. ⌜ r ≡ fieldCounts (now (s .entry)) i ⌝ }
     {
         let kinds = self.kinds;
         let start = self.field_start(i);
-        let mut f = [0u32; 32];
+        let mut f = [0u32; Card::KINDS];
         let mut k = 0;
         while k < kinds {
             f[k] = u16_at(s, start + 2 * k) as u32;
