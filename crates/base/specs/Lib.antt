@@ -2,4 +2,5 @@
 -- Flat tables of counts, read as fields.
 pub mod Table
 -- What the tables hold at a stage.
+-- Lines at a stage: candidates, replies, classes.
 pub mod Stage

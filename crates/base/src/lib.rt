@@ -1,4 +1,5 @@
 // The decomposition base of an accepted sheet, from stage to stage.
+// The leaves of the decomposition base: loops over flat tables of counts, 32 to a row.
 
 // Tables of rows, and the decomposition of counts by them.
 pub mod table;
