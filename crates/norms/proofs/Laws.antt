@@ -1,15 +1,23 @@
 -- What holds of a sheet that was read, and of its norms.
 use mathlib.Core.List.{List}
 use mathlib.Core.Path.{_≡_, refl, sym, _∙_, ap, ap₂}
-use Prim.Native.Nat.{ℕ, _≤_, _<_}
+use Prim.Native.Nat.{ℕ, _^_, _≤_, _<_}
+use native.Mathlib.Decide.{decLt}
 use native.Mathlib.Omega.{arith}
 use lib.ListN.{length}
-use Rattle.model.specs.Field.{Field, at}
-use Rattle.model.specs.Sheet.{lineOf}
-use Rattle.model.specs.Limits.{mostKinds}
+use Rattle.model.specs.Field.{Field, weigh, at}
+use Rattle.model.specs.Norm.{kindNorm, norm}
+use Rattle.model.specs.Sheet.{byte, kindCount, lineOf, cardOf}
+use Rattle.model.specs.Limits.{mostKinds, normLimit}
+use Rattle.model.proofs.Sweeps.{norm-kind}
+use Rattle.model.proofs.Sheets.{positive}
+use Rattle.model.proofs.Limits.{limit-of}
 use Rattle.sheet.specs.Reader.{Reads, lineCounts}
 use Rattle.sheet.specs.declared.reader.Card.{Card}
-use Rattle.sheet.proofs.Laws.{kinds-are, kinds-most, line-counts-length, line-counts-at}
+use Rattle.sheet.proofs.Laws.{kinds-are, kinds-most, card-kinds, kind-under, left-under, line-counts-length, line-counts-at}
+use Rattle.norms.specs.Norms.{Accepts, normsOf}
+use Rattle.norms.proofs.Bounds.{counts-fit}
+use Rattle.norms.proofs.Sweeps.{array-at}
 
 -- What is made of the part that holds a line's counts is made of what the line leaves.
 module _ {s : List ℕ} {c : Card} (R : Reads s c) (j : ℕ) (xs : List ℕ) (part : xs ≡ lineCounts s j) where
@@ -21,3 +29,56 @@ module _ {s : List ℕ} {c : Card} (R : Reads s c) (j : ℕ) (xs : List ℕ) (pa
 
   pub part-left : {A : Type 0} (f : ℕ → Field → A) → f (length xs) (at xs) ≡ f (c .kinds) (lineOf s j .left)
   part-left f = ap₂ f part-long (ap at part ∙ line-counts-at s j)
+
+-- The kind of a line is one of the most there are.
+pub kind-most : {s : List ℕ} {c : Card} (R : Reads s c) (j : ℕ) → j < c .lines → lineOf s j .kind < mostKinds
+kind-most R j h = omega (arith, kind-under R j h, kinds-most R)
+
+-- Of an accepted sheet, its card and its norms.
+module _ {s : List ℕ} {c : Card} {norms : List ℕ} (A : Accepts s c norms) where
+  norm-past : (k : ℕ) → mostKinds ≤ k → kindNorm (cardOf s) k ≡ 0
+  norm-past k h = go (decLt 0 (kindNorm (cardOf s) k))
+    where
+      go : Dec (0 < kindNorm (cardOf s) k) → kindNorm (cardOf s) k ≡ 0
+      go (yes p) = absurd (omega (arith, norm-kind (cardOf s) k p, card-kinds (A .reads), kinds-most (A .reads)))
+      go (no p) = omega arith
+
+  -- The array's numbers are the norms of the kinds.
+  pub norms-at : at norms ≡ kindNorm (cardOf s)
+  unfolding normsOf
+  norms-at = ap at (A .norms-are) ∙ array-at mostKinds (kindNorm (cardOf s)) norm-past
+
+  pub norm-at : (k : ℕ) → at norms k ≡ kindNorm (cardOf s) k
+  norm-at k = ap (λ (f : Field). f k) norms-at
+
+  pub norm-positive : (k : ℕ) → k < c .kinds → 0 < at norms k
+  norm-positive k h = omega (arith, norm-at k, positive s (A .accepted) k (omega (arith, kinds-are (A .reads))))
+
+  pub norm-most : (k : ℕ) → at norms k ≤ normLimit
+  norm-most k = go (decLt k (kindCount s))
+    where
+      go : Dec (k < kindCount s) → at norms k ≤ normLimit
+      go (yes h) = omega (arith, norm-at k, limit-of s (A .accepted) k h)
+      go (no h) = none (decLt 0 (kindNorm (cardOf s) k))
+        where
+          none : Dec (0 < kindNorm (cardOf s) k) → at norms k ≤ normLimit
+          none (yes p) = absurd (omega (arith, norm-kind (cardOf s) k p, card-kinds (A .reads), kinds-are (A .reads)))
+          none (no p) = omega (arith, norm-at k)
+
+  -- The sum by the array's numbers is the norm.
+  pub norm-is : (a : Field) → weigh (c .kinds) (at norms) a ≡ norm (cardOf s) a
+  norm-is a = rw (norms-at, ← card-kinds (A .reads)) refl
+
+  -- The norm of a field of two-byte counts fits 64 bits.
+  pub norm-fits : (a : Field) → ((k : ℕ) → a k ≤ 65535) → weigh (c .kinds) (at norms) a < 2 ^ 64
+  norm-fits a h = counts-fit (c .kinds) (at norms) a (kinds-most (A .reads)) (λ k. omega (arith, norm-most k)) h
+
+  -- So does the norm of a line's part of the sheet's bytes, and it is the norm of what the line leaves.
+  module _ (j : ℕ) (xs : List ℕ) (part : xs ≡ lineCounts s j) where
+    pub part-fits : ((k : ℕ) → byte s k < 256) → weigh (length xs) (at norms) (at xs) < 2 ^ 64
+    part-fits bytes =
+        rw (part-left (A .reads) j xs part (λ n a. weigh n (at norms) a))
+        (norm-fits (lineOf s j .left) (λ k. omega (arith, left-under s j bytes k)))
+
+    pub part-norm : weigh (length xs) (at norms) (at xs) ≡ norm (cardOf s) (lineOf s j .left)
+    part-norm = part-left (A .reads) j xs part (λ n a. weigh n (at norms) a) ∙ norm-is (lineOf s j .left)

@@ -4,3 +4,4 @@ pub mod Bounds
 pub mod Values
 pub mod Sweeps
 pub mod Laws
+pub mod Gains

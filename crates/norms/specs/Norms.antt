@@ -1,14 +1,18 @@
 -- The arrays that hold norms, and what the check of a whole sheet answers.
-use mathlib.Core.Bool.{true, false}
+use mathlib.Core.Bool.{Bool, true, false}
 use mathlib.Core.List.{List}
-use Prim.Native.Nat.{ℕ, suc, _≤_, min}
-use lib.Dec.{eqb}
+use mathlib.Core.Path.{_≡_}
+use Prim.Native.Nat.{ℕ, suc, _-_, _≤_, min}
+use lib.Dec.{eqb, ltb}
 use Rattle.model.specs.Finite.{listFrom}
 use Rattle.model.specs.Field.{Field, weigh, at}
 use Rattle.model.specs.Card.{Line}
-use Rattle.model.specs.Norm.{ready, sooner, best, kindNorm}
-use Rattle.model.specs.Sheet.{kindCount, counts, cardOf}
+use Rattle.model.specs.Norm.{ready, sooner, best, kindNorm, norm}
+use Rattle.model.specs.Sheet.{kindCount, counts, lineOf, cardOf}
 use Rattle.model.specs.Limits.{mostKinds, normLimit}
+use Rattle.model.specs.Refusal.{Accepted}
+use Rattle.sheet.specs.Reader.{Reads}
+use Rattle.sheet.specs.declared.reader.Card.{Card}
 
 -- A field as an array by value: its counts of the most kinds there are.
 abbrev pub arrayOf : Field → List ℕ
@@ -21,6 +25,20 @@ cutNorms s = arrayOf (λ k. min (kindNorm (cardOf s) k) (suc normLimit))
 -- The norms themselves.
 unfoldable pub normsOf : List ℕ → List ℕ
 normsOf s = arrayOf (kindNorm (cardOf s))
+
+-- Of a sheet to which none of 1 to 10 applies: the card was read from it, and the array holds the norms of its kinds.
+pub record Accepts (s : List ℕ) (c : Card) (norms : List ℕ) : Type 0 where
+  pub reads : Reads s c
+  pub accepted : Accepted s
+  pub norms-are : norms ≡ normsOf s
+
+-- "reads that lower the norm": those by line j do.
+unfoldable pub lowersNorm : List ℕ → ℕ → Bool
+lowersNorm s j = ltb (norm (cardOf s) (lineOf s j .left)) (kindNorm (cardOf s) (lineOf s j .kind))
+
+-- The norm that line j leaves minus its kind's norm, or 0.
+unfoldable pub lineGain : List ℕ → ℕ → ℕ
+lineGain s j = norm (cardOf s) (lineOf s j .left) - kindNorm (cardOf s) (lineOf s j .kind)
 
 -- No value of the array passes the bound.
 abbrev pub AtMost : ℕ → List ℕ → Type 0

@@ -9,5 +9,8 @@ pub mod kinds;
 // The norm of a field.
 pub mod fields;
 
+// What a line leaves against its kind: whether it lowers the norm, and g.
+pub mod lines;
+
 // The order of kinds, and the lowest kind without a norm or over the limit.
 pub mod order;
