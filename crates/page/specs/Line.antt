@@ -1,0 +1,30 @@
+-- The lines of the page over plain values: the model's lines are these, of the sheet's values (proofs/Lines).
+use mathlib.Core.Bool.{true, false}
+use mathlib.Core.List.{List, _++_}
+use Prim.Native.Nat.{ℕ}
+use Rattle.model.specs.Answer.{Answer, Verdict}
+use Rattle.model.specs.Page.{bytes, number, newline, countsOf, wordOf, itself}
+
+-- A count of a row or a form, with the space before it.
+unfoldable pub countText : ℕ → List ℕ
+countText x = bytes " " ++ number x
+
+-- `kinds N stages S`: "\"stages\" is the settled stage".
+unfoldable pub headText : ℕ → ℕ → List ℕ
+headText kinds stage = bytes "kinds " ++ number kinds ++ bytes " stages " ++ number stage ++ newline
+
+-- What a kind's line shows of its row: the word prime, or the counts after "=".
+unfoldable pub rowText : ℕ → List ℕ → List ℕ
+rowText kind row = elim (itself kind row) [ true ↦ bytes "prime" | false ↦ countsOf row ]
+
+-- `kind K norm W prime` or `kind K norm W = COUNTS`.
+unfoldable pub kindText : ℕ → ℕ → List ℕ → List ℕ
+kindText kind norm row = bytes "kind " ++ number kind ++ bytes " norm " ++ number norm ++ bytes " " ++ rowText kind row ++ newline
+
+-- `field I = COUNTS`.
+unfoldable pub fieldText : ℕ → List ℕ → List ℕ
+fieldText field form = bytes "field " ++ number field ++ bytes " " ++ countsOf form ++ newline
+
+-- `pair 0 J same` or `pair 0 J different S R`: "Field 0 is paired with each later field."
+unfoldable pub pairText : ℕ → Answer Verdict → List ℕ
+pairText later answer = bytes "pair 0 " ++ number later ++ bytes " " ++ wordOf answer
