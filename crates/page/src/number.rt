@@ -1,6 +1,6 @@
 // Byte strings and decimal numbers, appended to what a buffer holds up to a position. Each writer answers the position past its text.
 ghost use Prim.Native.Nat.{_+_, _%_, _≤_, _<_};
-ghost use mathlib.Core.List.{[], _∷_};
+ghost use mathlib.Core.List.{[], _∷_, _++_};
 ghost use mathlib.Core.Path.{_≡_};
 ghost use lib.ListN.{length};
 ghost use Rattle.model.specs.Page.{number};
@@ -55,4 +55,13 @@ pub fn put_number(out: &mut [u8], at: usize, x: u64) -> usize
     ensures { λ r. ⌜ Appended 20 (now (out .entry)) at (number x) (now (out .exit)) r ⌝ }
 {
     put_digits(out, at, x)
+}
+
+// A text and a number after it.
+pub fn put_labelled(out: &mut [u8], at: usize, label: &[u8], x: u64) -> usize
+    requires { ⌜ at + (length (now label) + 20) ≤ length (now out) ⌝ }
+    ensures { λ r. ⌜ Appended (length (now (label .entry)) + 20) (now (out .entry)) at (now (label .entry) ++ number x) (now (out .exit)) r ⌝ }
+{
+    let next = put_bytes(out, at, label);
+    put_number(out, next, x)
 }
