@@ -1,4 +1,4 @@
-// The printed page, text by text, into a lent buffer.
+// The printed page, text by text: each writer appends its text to what a lent buffer holds up to a position, and answers the position past it.
 
 // Byte strings and decimal numbers.
 mod number;
@@ -16,4 +16,9 @@ pub use counts::put_row;
 // The lines.
 mod line;
 
+pub use line::put_different;
+pub use line::put_field;
+pub use line::put_head;
+pub use line::put_kind;
 pub use line::put_refused;
+pub use line::put_same;

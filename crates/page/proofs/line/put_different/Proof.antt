@@ -1,0 +1,58 @@
+use native.Mathlib.Omega.{arith}
+use Rattle.model.specs.Answer.{given, different}
+use Rattle.model.specs.Page.{bytes}
+use Rattle.page.specs.Line.{pairText}
+use Rattle.page.proofs.Append.{then, reads-as}
+use Rattle.page.proofs.Lines.{different-is}
+use borrow.Author.Needs.{needs}
+use Rattle.page.proofs.line.put_different.Statement.{statement}
+use Rattle.page.proofs.line.put_different.Tie as tie
+
+slice-aggregate-put-labelled : tie.Need-slice-aggregate-put-labelled
+slice-aggregate-put-labelled c = search needs
+
+put-labelled-requires : tie.Need-put-labelled-requires
+put-labelled-requires c κs = search needs
+
+slice-aggregate-put-labelled-2 : tie.Need-slice-aggregate-put-labelled-2
+slice-aggregate-put-labelled-2 c = search needs
+
+put-labelled-requires-2 : tie.Need-put-labelled-requires-2
+put-labelled-requires-2 c κs = search needs
+
+slice-aggregate-put-labelled-3 : tie.Need-slice-aggregate-put-labelled-3
+slice-aggregate-put-labelled-3 c = search needs
+
+put-labelled-requires-3 : tie.Need-put-labelled-requires-3
+put-labelled-requires-3 c κs = search needs
+
+slice-aggregate-put-bytes : tie.Need-slice-aggregate-put-bytes
+slice-aggregate-put-bytes c = search needs
+
+put-bytes-requires : tie.Need-put-bytes-requires
+put-bytes-requires c κs = search needs
+
+same-length : tie.Need-same-length
+same-length c = search needs
+
+returns : tie.Need-returns
+unfolding bytes
+returns c =
+    let start = c .before .before .before .before .before .before .before .before .before .before .before .before .before .before .before .before .before .before .before .before .before in
+    reads-as 80 (pairText (start .args .later) (given (different (start .args .stage) (start .args .rounds)))) (then (c .before .before .before .before .before .before .before .before .before .before .before .before .before .before .before .before .before .put-labelled .ensures) (then (c .before .before .before .before .before .before .before .before .before .before .before .before .put-labelled2 .ensures) (then (c .before .before .before .before .before .before .before .put-labelled3 .ensures) (c .before .before .put-bytes .ensures))))
+    (omega arith) (different-is (start .args .later) (start .args .stage) (start .args .rounds))
+
+pub put-different-spec : {M : Type 1} → statement M
+put-different-spec =
+    tie.close
+    (tie.spec
+    slice-aggregate-put-labelled
+    put-labelled-requires
+    slice-aggregate-put-labelled-2
+    put-labelled-requires-2
+    slice-aggregate-put-labelled-3
+    put-labelled-requires-3
+    slice-aggregate-put-bytes
+    put-bytes-requires
+    same-length
+    returns)
