@@ -34,19 +34,20 @@ module _ {s : List ℕ} {c : Card} (R : Reads s c) (j : ℕ) (xs : List ℕ) (pa
 pub kind-most : {s : List ℕ} {c : Card} (R : Reads s c) (j : ℕ) → j < c .lines → lineOf s j .kind < mostKinds
 kind-most R j h = omega (arith, kind-under R j h, kinds-most R)
 
+-- No kind past the card's has a norm.
+pub kind-norm-past : {s : List ℕ} {c : Card} (R : Reads s c) (k : ℕ) → c .kinds ≤ k → kindNorm (cardOf s) k ≡ 0
+kind-norm-past {s} {c} R k h = go (decLt 0 (kindNorm (cardOf s) k))
+  where
+    go : Dec (0 < kindNorm (cardOf s) k) → kindNorm (cardOf s) k ≡ 0
+    go (yes p) = absurd (omega (arith, norm-kind (cardOf s) k p, card-kinds R))
+    go (no p) = omega arith
+
 -- Of an accepted sheet, its card and its norms.
 module _ {s : List ℕ} {c : Card} {norms : List ℕ} (A : Accepts s c norms) where
-  norm-past : (k : ℕ) → mostKinds ≤ k → kindNorm (cardOf s) k ≡ 0
-  norm-past k h = go (decLt 0 (kindNorm (cardOf s) k))
-    where
-      go : Dec (0 < kindNorm (cardOf s) k) → kindNorm (cardOf s) k ≡ 0
-      go (yes p) = absurd (omega (arith, norm-kind (cardOf s) k p, card-kinds (A .reads), kinds-most (A .reads)))
-      go (no p) = omega arith
-
   -- The array's numbers are the norms of the kinds.
   pub norms-at : at norms ≡ kindNorm (cardOf s)
   unfolding normsOf
-  norms-at = ap at (A .norms-are) ∙ array-at mostKinds (kindNorm (cardOf s)) norm-past
+  norms-at = ap at (A .norms-are) ∙ array-at mostKinds (kindNorm (cardOf s)) (λ k h. kind-norm-past (A .reads) k (omega (arith, kinds-most (A .reads))))
 
   pub norm-at : (k : ℕ) → at norms k ≡ kindNorm (cardOf s) k
   norm-at k = ap (λ (f : Field). f k) norms-at
@@ -59,11 +60,7 @@ module _ {s : List ℕ} {c : Card} {norms : List ℕ} (A : Accepts s c norms) wh
     where
       go : Dec (k < kindCount s) → at norms k ≤ normLimit
       go (yes h) = omega (arith, norm-at k, limit-of s (A .accepted) k h)
-      go (no h) = none (decLt 0 (kindNorm (cardOf s) k))
-        where
-          none : Dec (0 < kindNorm (cardOf s) k) → at norms k ≤ normLimit
-          none (yes p) = absurd (omega (arith, norm-kind (cardOf s) k p, card-kinds (A .reads), kinds-are (A .reads)))
-          none (no p) = omega (arith, norm-at k)
+      go (no h) = omega (arith, norm-at k, kind-norm-past (A .reads) k (omega (arith, kinds-are (A .reads))))
 
   -- The sum by the array's numbers is the norm.
   pub norm-is : (a : Field) → weigh (c .kinds) (at norms) a ≡ norm (cardOf s) a

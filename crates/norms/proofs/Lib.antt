@@ -5,3 +5,4 @@ pub mod Values
 pub mod Sweeps
 pub mod Laws
 pub mod Gains
+pub mod Acceptances

@@ -14,3 +14,8 @@ pub mod lines;
 
 // The order of kinds, and the lowest kind without a norm or over the limit.
 pub mod order;
+
+// The check of a whole sheet: refusals 1 to 10.
+pub mod accept;
+
+pub use accept::Acceptance;
