@@ -11,5 +11,7 @@ pub mod Passing
 -- When a stage is settled; the verdict on two fields.
 pub mod Settled
 pub mod Verdict
--- Laws over plain lists, for the loops over tables.
+-- Laws over plain lists, for the loops: tables of counts, the order of kinds, marks of classes.
 pub mod Tables
+pub mod Sooner
+pub mod Marks

@@ -1,6 +1,6 @@
 -- What the contracts of this crate cite.
--- Flat tables of counts, read as fields.
+-- Flat tables of counts, read as fields; which lines match by them.
 pub mod Table
--- What the tables hold at a stage.
--- Lines at a stage: candidates, replies, classes.
+pub mod Class
+-- What the tables hold at a stage, and lines at a stage: candidates, replies, classes.
 pub mod Stage

@@ -2,10 +2,11 @@
 use mathlib.Core.Bool.{Bool, true, false}
 use mathlib.Core.List.{List, _++_}
 use mathlib.Core.Path.{_≡_}
-use Prim.Native.Nat.{ℕ, _+_, _*_, _^_, _<_}
-use lib.ListN.{length, take, drop, replicate}
+use Prim.Native.Nat.{ℕ, _+_, _*_, _^_, _≤_, _<_}
+use lib.ListN.{length, getD, take, drop, replicate}
 use Rattle.model.specs.Field.{Field, _⊕_, unit, at, weigh}
 use Rattle.model.specs.Limits.{mostKinds}
+use Rattle.model.specs.Base.{earlier}
 
 -- Every count is under the bound.
 abbrev pub Under : ℕ → List ℕ → Type 0
@@ -29,3 +30,14 @@ pub record IsCandidate (l m : Field) (kind : ℕ) (found : Bool) (counts : List 
   pub gives : found ≡ true → at counts ⊕ m ≡ unit kind ⊕ l
   pub only : (b : Field) → ((j : ℕ) → b j < 2 ^ 32) → b ⊕ m ≡ unit kind ⊕ l → (found ≡ true) × (b ≡ at counts)
   pub empty : found ≡ false → counts ≡ replicate mostKinds 0
+
+-- Whether a kind is done.
+abbrev pub isDone : List Bool → ℕ → Bool
+isDone done k = getD done k false
+
+-- r is the earliest of the kinds below m that are not done, by norm, then by number; n where all of them are done.
+pub record Earliest (w : Field) (done : List Bool) (n m r : ℕ) : Type 0 where
+  pub within : r ≤ n
+  pub all-done : r ≡ n → (k : ℕ) → k < m → isDone done k ≡ true
+  pub here : r < n → (r < m) × (isDone done r ≡ false)
+  pub first : r < n → (k : ℕ) → k < m → earlier w r k ≡ true → isDone done k ≡ true

@@ -1,7 +1,12 @@
 // The decomposition base of an accepted sheet, from stage to stage.
 // The leaves of the decomposition base: loops over flat tables of counts, 32 to a row.
+// The decomposition base of an accepted sheet, from stage to stage. The laws of the stages that the code cites are in proofs/.
 
 // Tables of rows, and the decomposition of counts by them.
 pub mod table;
 // Comparisons of effects and of what lines leave; the candidates for a row.
 pub mod effect;
+// The order in which the kinds' rows are found.
+pub mod order;
+// Which lines match, and which classes of lines a field may use.
+pub mod class;

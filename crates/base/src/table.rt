@@ -1,9 +1,9 @@
 // Tables of rows, and the decomposition of counts by them.
 ghost use mathlib.Core.Path.{_≡_};
 ghost use Prim.Native.Nat.{ℕ, _+_, _*_, _^_, _≤_, _<_};
-ghost use lib.ListN.{length};
+ghost use lib.ListN.{length, replicate};
 ghost use Rattle.model.specs.Field.{none, _⊕_, times, at};
-ghost use Rattle.base.specs.Table.{formIn};
+ghost use Rattle.base.specs.Table.{formIn, withRow};
 
 // A count of 32 bits as one of 64.
 pub fn wide(x: u32) -> u64
@@ -77,5 +77,34 @@ pub fn form_of_field(field: &[u32], rows: &[u32], out: &mut [u64])
         let e = a + 32;
         add_times(out, &rows[a..e], wide(field[k]));
         k += 1;
+    }
+}
+
+// "The state by value holds up to 32 rows of 32 counts": one flat array, rows at kind times 32.
+pub struct Base {
+    pub rows: [u32; 1024],
+}
+
+impl Base {
+    // No counts.
+    pub fn new() -> Base
+        ensures { λ r. ⌜ r .rows ≡ replicate 1024 0 ⌝ }
+    {
+        Base { rows: [0u32; 1024] }
+    }
+
+    // The base with row k replaced by the counts.
+    pub fn set_row(self, k: usize, row: &[u32]) -> Base
+        requires { ⌜ (k < 32) × (length (now row) ≡ 32) ⌝ }
+        ensures { λ r. ⌜ r .rows ≡ withRow (self .rows) k (now (row .entry)) ⌝ }
+    {
+        let mut rows = self.rows;
+        let start = k * 32;
+        let mut i = 0;
+        while i < row.len() {
+            rows[start + i] = row[i];
+            i += 1;
+        }
+        Base { rows }
     }
 }

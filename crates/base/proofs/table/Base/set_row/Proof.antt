@@ -1,0 +1,70 @@
+-- The counts below i are copied.
+use borrow.Author.Needs.{needs}
+use Prim.Native.Nat.{_-_}
+use native.Mathlib.Omega.{arith}
+use mathlib.Core.Path.{_≡_}
+use lib.ListN.{length}
+use Rattle.base.specs.Table.{withRow}
+use Rattle.base.proofs.Tables.{Copied, copied-none, copied-more, copied-all}
+use Rattle.base.proofs.table.Base.set_row.Statement.{statement}
+use Rattle.base.proofs.table.Base.set_row.Tie as tie
+
+abbrev Inv-loop : tie.InvT-loop
+Inv-loop k row rows₀ start i₀ rows i = Copied rows₀ row rows start i
+
+abbrev μ-loop : tie.MeasureT-loop
+μ-loop k row rows₀ start i₀ rows i = length row - i
+
+mul-start : tie.Need-mul-start Inv-loop μ-loop
+mul-start c = search needs
+
+loop-holds : tie.Need-loop-holds Inv-loop μ-loop
+loop-holds c =
+    let e : length (c .before .args .self .rows) ≡ 1024 = search needs in
+    copied-none (omega arith)
+
+mul-rows : tie.Need-mul-rows Inv-loop μ-loop
+mul-rows c = search needs
+
+shared-slice-read-rows : tie.Need-shared-slice-read-rows Inv-loop μ-loop
+shared-slice-read-rows c = search needs
+
+add-rows : tie.Need-add-rows Inv-loop μ-loop
+add-rows c = search needs
+
+mul-rows-2 : tie.Need-mul-rows-2 Inv-loop μ-loop
+mul-rows-2 c = search needs
+
+array-write-rows : tie.Need-array-write-rows Inv-loop μ-loop
+array-write-rows c = search needs
+
+add-i : tie.Need-add-i Inv-loop μ-loop
+add-i c = search needs
+
+loop-less : tie.Need-loop-less Inv-loop μ-loop
+loop-less c = search needs
+
+loop-again : tie.Need-loop-again Inv-loop μ-loop
+loop-again c = copied-more (c .before .before .loop .inv) (c .before .loop-test .taken)
+
+returns : tie.Need-returns Inv-loop μ-loop
+unfolding withRow
+returns c = copied-all (c .before .loop .inv) (c .loop-test .left)
+
+pub set-row-spec : {M : Type 1} → statement M
+set-row-spec =
+    tie.close
+    (tie.spec
+    Inv-loop
+    μ-loop
+    mul-start
+    loop-holds
+    mul-rows
+    shared-slice-read-rows
+    add-rows
+    mul-rows-2
+    array-write-rows
+    add-i
+    loop-less
+    loop-again
+    returns)

@@ -1,0 +1,37 @@
+-- Which lines match, and the numbers that tell it. A line's code and kind stand in lists of their own, the form of what it leaves in a flat table.
+use mathlib.Core.Path.{_≡_}
+use mathlib.Core.List.{List}
+use mathlib.Core.Logic.{_↔_}
+use Prim.Native.Nat.{ℕ, _+_, _*_, _^_, _≤_, _<_}
+use lib.ListN.{length}
+use Rattle.model.specs.Field.{Field, _⊕_, at}
+use Rattle.model.specs.Limits.{mostKinds, mostLines}
+use Rattle.base.specs.Table.{Under, rowIn}
+
+-- A field may use one of the first m lines that has class x.
+abbrev pub MayUse : List ℕ → List ℕ → Field → ℕ → ℕ → Type 0
+MayUse kinds classes f m x = (i : ℕ) × (i < m) × (0 < f (at kinds i)) × (at classes i ≡ x)
+
+module _ (codes kinds rows forms : List ℕ) where
+  -- The tables are whole: at most 256 lines, each with a code, a kind that has a row, and the form of what it leaves.
+  pub record LineTables : Type 0 where
+    pub few : length kinds ≤ mostLines
+    pub coded : length codes ≡ length kinds
+    pub formed : length kinds * mostKinds ≤ length forms
+    pub kinds-rows : (i : ℕ) → i < length kinds → at kinds i * mostKinds + mostKinds ≤ length rows
+    pub small : Under (2 ^ 63) forms
+
+  -- Lines i and j match: the same code, and the same effect.
+  abbrev pub MatchIn : ℕ → ℕ → Type 0
+  MatchIn i j = (at codes j ≡ at codes i) × (rowIn forms i ⊕ rowIn rows (at kinds j) ≡ rowIn forms j ⊕ rowIn rows (at kinds i))
+
+  -- r is the least line that matches line j.
+  pub record LeastMatch (j r : ℕ) : Type 0 where
+    pub within : r ≤ j
+    pub matches : MatchIn r j
+    pub least : (i : ℕ) → i < r → MatchIn i j → ⊥
+
+  -- The numbers of two lines are equal just when the lines match.
+  abbrev pub TellsMatch : List ℕ → Type 0
+  TellsMatch numbers =
+      (i j : ℕ) → i < length kinds → j < length kinds → (at numbers i ≡ at numbers j) ↔ MatchIn i j
