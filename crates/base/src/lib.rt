@@ -1,5 +1,3 @@
-// The decomposition base of an accepted sheet, from stage to stage.
-// The leaves of the decomposition base: loops over flat tables of counts, 32 to a row.
 // The decomposition base of an accepted sheet, from stage to stage. The laws of the stages that the code cites are in proofs/.
 
 // Tables of rows, and the decomposition of counts by them.
