@@ -1,20 +1,18 @@
 -- What a check of the table comes to, by the comparison that it makes, and the checks of a line.
 use mathlib.Core.Bool.{Bool, true, false, not}
-use mathlib.Core.List.{List, [], _∷_, _++_}
-use mathlib.Core.Path.{_≡_, refl, sym, _∙_, ap}
-use Prim.Native.Nat.{ℕ, _+_, _*_, _≤_, _<_}
+use mathlib.Core.List.{List, [], _∷_}
+use mathlib.Core.Path.{_≡_, refl, _∙_}
+use Prim.Native.Nat.{ℕ, _+_, _≤_, _<_}
 use native.Mathlib.Omega.{arith}
 use lib.Dec.{T, ltb, lt→ltb, eqb}
-use lib.ListN.{take, drop, take-append-drop}
-use Rattle.model.specs.Finite.{either, concat, listFrom}
-use Rattle.model.specs.Sheet.{linesOffset, byte, kindCount, codeCount, lineCount, lineOf}
-use Rattle.model.specs.Refusal.{Check, check, Finding, clear, refusal, firstOf, outside, differ, headerChecks, lineChecks, sheetChecks}
+use Rattle.model.specs.Sheet.{kindCount, codeCount, lineCount, lineOf}
+use Rattle.model.specs.Refusal.{Check, check, Finding, clear, refusal, firstOf, differ, headerChecks, lineChecks, sheetChecks}
 use Rattle.model.proofs.Exec.{Tells, tells-lt, tells-eq}
 use Rattle.model.proofs.Sheets.{not-small, not-less, clear-nil}
-use Rattle.model.proofs.Checks.{not-outside, not-differ, all-clear, first-left, first-right, first-here, first-later, first-of-all}
+use Rattle.model.proofs.Checks.{not-differ, all-clear, first-left, first-right, first-here, first-later, first-of-all}
 use Rattle.sheet.specs.declared.reader.Card.{Card}
 use Rattle.sheet.specs.declared.checks.Checked.the-variants.{Passed, Refused}
-use Rattle.sheet.specs.Reader.{headerOf, outcome, checkedOf}
+use Rattle.sheet.specs.Reader.{headerOf, outcome, checkedOf, numberChecks, layoutChecks}
 
 -- The enum for what was found.
 pub refuses : (d : Card) (f : Finding) (k p : ℕ) → f ≡ refusal k p → Refused k p ≡ outcome d f
@@ -37,6 +35,12 @@ passed-found d (refusal i q) c e = let z : _≡_ {A = ℕ} 0 1 = cc in absurd (o
 
 -- A check that applies gives its number and place; one that does not leaves the checks after it.
 module _ (k p : ℕ) (xs : List Check) where
+  pub test-stops : (b : Bool) → b ≡ true → firstOf (check k p b ∷ xs) ≡ refusal k p
+  test-stops b e = first-here (check k p b) xs (rw e tt)
+
+  pub test-passes : (b : Bool) → b ≡ false → firstOf (check k p b ∷ xs) ≡ firstOf xs
+  test-passes b e = first-later (check k p b) xs (rw e (λ t. t))
+
   pub less-stops : (x y : ℕ) → x < y → firstOf (check k p (ltb x y) ∷ xs) ≡ refusal k p
   less-stops x y h = first-here (check k p (ltb x y)) xs (lt→ltb x y h)
 
@@ -52,23 +56,6 @@ module _ (k p : ℕ) (xs : List Check) where
 
   pub past-passes : (x n : ℕ) → x < n → firstOf (check k p (not (ltb x n)) ∷ xs) ≡ firstOf xs
   past-passes x n h = first-later (check k p (not (ltb x n))) xs (not-small x n h)
-
-  pub outside-stops-low : (low high x : ℕ) → x < low → firstOf (check k p (outside low high x) ∷ xs) ≡ refusal k p
-  outside-stops-low low high x h = first-here (check k p (outside low high x)) xs (go (ltb x low) (tells-lt x low))
-    where
-      go : (b : Bool) → Tells b (x < low) → T (either b (ltb high x))
-      go true t = tt
-      go false t = absurd (t .test h)
-
-  pub outside-stops-high : (low high x : ℕ) → high < x → firstOf (check k p (outside low high x) ∷ xs) ≡ refusal k p
-  outside-stops-high low high x h = first-here (check k p (outside low high x)) xs (go (ltb x low))
-    where
-      go : (b : Bool) → T (either b (ltb high x))
-      go true = tt
-      go false = lt→ltb high x h
-
-  pub outside-passes : (low high x : ℕ) → low ≤ x → x ≤ high → firstOf (check k p (outside low high x) ∷ xs) ≡ firstOf xs
-  outside-passes low high x h l = first-later (check k p (outside low high x)) xs (not-outside low high x h l)
 
   pub differ-stops : (x y : ℕ) → (x ≡ y → ⊥) → firstOf (check k p (differ x y) ∷ xs) ≡ refusal k p
   differ-stops x y n = first-here (check k p (differ x y)) xs (go (eqb x y) (tells-eq x y))
@@ -108,23 +95,23 @@ lines-pass s n = all-clear (ofLine s) 0 (lineCount s) (λ q l. let y : 0 + q ≡
 
 -- 1 to 8 from their three parts: the numbers, the layout, the lines.
 module _ (s : List ℕ) where
-  pub numbers-refuse : (k p : ℕ) → firstOf (take 5 (headerChecks s)) ≡ refusal k p → Refused k p ≡ checkedOf s
+  pub numbers-refuse : (k p : ℕ) → firstOf (numberChecks s) ≡ refusal k p → Refused k p ≡ checkedOf s
   unfolding checkedOf sheetChecks headerChecks
   numbers-refuse k p e =
       refuses _ _ k p
-      (first-left (headerChecks s) (lineChecks s) k p (first-left (take 5 (headerChecks s)) (drop 5 (headerChecks s)) k p e))
+      (first-left (headerChecks s) (lineChecks s) k p (first-left (numberChecks s) (layoutChecks s) k p e))
 
-  module _ (n : firstOf (take 5 (headerChecks s)) ≡ clear) where
-    pub layout-refuse : (k p : ℕ) → firstOf (drop 5 (headerChecks s)) ≡ refusal k p → Refused k p ≡ checkedOf s
+  module _ (n : firstOf (numberChecks s) ≡ clear) where
+    pub layout-refuse : (k p : ℕ) → firstOf (layoutChecks s) ≡ refusal k p → Refused k p ≡ checkedOf s
     unfolding checkedOf sheetChecks headerChecks
     layout-refuse k p e =
         refuses _ _ k p
-        (first-left (headerChecks s) (lineChecks s) k p (first-right (take 5 (headerChecks s)) (drop 5 (headerChecks s)) n ∙ e))
+        (first-left (headerChecks s) (lineChecks s) k p (first-right (numberChecks s) (layoutChecks s) n ∙ e))
 
-    pub header-passes : firstOf (drop 5 (headerChecks s)) ≡ clear → firstOf (headerChecks s) ≡ clear
+    pub header-passes : firstOf (layoutChecks s) ≡ clear → firstOf (headerChecks s) ≡ clear
     unfolding headerChecks
-    header-passes e = first-right (take 5 (headerChecks s)) (drop 5 (headerChecks s)) n ∙ e
+    header-passes e = first-right (numberChecks s) (layoutChecks s) n ∙ e
 
-    pub lines-decide : (c : Card) → c ≡ headerOf s → firstOf (drop 5 (headerChecks s)) ≡ clear → outcome c (firstOf (lineChecks s)) ≡ checkedOf s
+    pub lines-decide : (c : Card) → c ≡ headerOf s → firstOf (layoutChecks s) ≡ clear → outcome c (firstOf (lineChecks s)) ≡ checkedOf s
     unfolding checkedOf sheetChecks
     lines-decide c h e = rw (h, first-right (headerChecks s) (lineChecks s) (header-passes e)) refl

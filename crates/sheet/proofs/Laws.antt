@@ -5,7 +5,7 @@ use Prim.Native.Nat.{ℕ, _+_, _*_, _≤_, _<_}
 use native.Mathlib.Decide.{decLt}
 use native.Mathlib.Nat.{mul-le-mul, mul-le-mul-right, le-refl, add-mul, one-mul}
 use native.Mathlib.Omega.{arith}
-use lib.ListN.{length, take, drop}
+use lib.ListN.{length}
 use Rattle.model.specs.Finite.{listFrom}
 use Rattle.model.specs.Field.{at}
 use Rattle.model.specs.Card.{Line, On}
@@ -17,7 +17,7 @@ use Rattle.model.proofs.Sheets.{then, first-append, then-clear, small}
 use Rattle.model.proofs.Checks.{from-outside, from-less, from-differ, cons-none, all-none}
 use Rattle.sheet.specs.declared.reader.Card.{Card}
 use Rattle.sheet.specs.declared.checks.Checked.the-variants.{Passed, Refused}
-use Rattle.sheet.specs.Reader.{headerOf, Reads, checkedOf, lineCounts, fieldCounts}
+use Rattle.sheet.specs.Reader.{headerOf, Reads, checkedOf, lineCounts, fieldCounts, numberChecks, layoutChecks}
 use Rattle.sheet.proofs.Checking.{refused-found, passed-found}
 use Rattle.sheet.proofs.Counts.{counts-below, counts-past, at-counts}
 
@@ -38,7 +38,8 @@ pub record Numbers (s : List ℕ) : Type 0 where
   pub lines : lineCount s ≤ mostLines
   pub fields : fieldCount s ≤ mostFields
 
-pub numbers-limits : (s : List ℕ) → firstOf (take 5 (headerChecks s)) ≡ clear → Numbers s
+-- From checks 1 to 5.
+pub numbers-limits : (s : List ℕ) → firstOf (numberChecks s) ≡ clear → Numbers s
 unfolding headerChecks
 numbers-limits s e =
     let c1 = cons-none 1 0 _ _ e in
@@ -55,7 +56,7 @@ numbers-limits s e =
     }
 
 -- What check 6 leaves, of which the bytes given are told: they are as many as the layout says.
-pub layout-total : (s : List ℕ) → firstOf (drop 5 (headerChecks s)) ≡ clear → length s ≡ totalOf s
+pub layout-total : (s : List ℕ) → firstOf (layoutChecks s) ≡ clear → length s ≡ totalOf s
 unfolding headerChecks
 layout-total s e =
     let d0 = cons-none 6 0 _ _ e in
@@ -65,12 +66,12 @@ layout-total s e =
     from-differ (length s) (totalOf s) (d3 .0)
 
 -- The header's checks are the first five and the rest.
-pub header-first : (s : List ℕ) → firstOf (headerChecks s) ≡ then (firstOf (take 5 (headerChecks s))) (firstOf (drop 5 (headerChecks s)))
+pub header-first : (s : List ℕ) → firstOf (headerChecks s) ≡ then (firstOf (numberChecks s)) (firstOf (layoutChecks s))
 unfolding headerChecks
-header-first s = first-append (take 5 (headerChecks s)) (drop 5 (headerChecks s))
+header-first s = first-append (numberChecks s) (layoutChecks s)
 
-pub header-clear : (s : List ℕ) → firstOf (headerChecks s) ≡ clear → (firstOf (take 5 (headerChecks s)) ≡ clear) × (firstOf (drop 5 (headerChecks s)) ≡ clear)
-header-clear s e = then-clear (firstOf (take 5 (headerChecks s))) (firstOf (drop 5 (headerChecks s))) (sym (header-first s) ∙ e)
+pub header-clear : (s : List ℕ) → firstOf (headerChecks s) ≡ clear → (firstOf (numberChecks s) ≡ clear) × (firstOf (layoutChecks s) ≡ clear)
+header-clear s e = then-clear (firstOf (numberChecks s)) (firstOf (layoutChecks s)) (sym (header-first s) ∙ e)
 
 -- Where lines and fields start is under 65,536, whatever they number.
 pub line-start-small : (n j : ℕ) → n ≤ mostKinds → j ≤ mostLines → linesOffset + j * (2 + n) ≤ 8724
@@ -113,15 +114,17 @@ field-under s i b k = go (decLt k (kindCount s))
     go (yes h) = rw (counts-below (kindCount s) f k h) (omega (arith, b p, b (p + 1)))
     go (no h) = rw (counts-past (kindCount s) f k (omega arith)) (omega arith)
 
--- The counts of a line, and their number.
+-- A line has as many counts as the card has kinds.
 pub line-counts-length : (s : List ℕ) (j : ℕ) → length (lineCounts s j) ≡ kindCount s
 unfolding lineCounts
 line-counts-length s j = length-from (lineOf s j .left) 0 (kindCount s)
 
+-- As a field they are what the line leaves.
 pub line-counts-at : (s : List ℕ) (j : ℕ) → at (lineCounts s j) ≡ lineOf s j .left
 unfolding lineCounts lineOf
 line-counts-at s j = at-counts (kindCount s) (kindCount s) (λ k. byte s (linesOffset + j * (2 + kindCount s) + 2 + k)) (le-refl (kindCount s))
 
+-- A field's counts are as many as a card may have kinds.
 pub field-counts-length : (s : List ℕ) (i : ℕ) → length (fieldCounts s i) ≡ mostKinds
 unfolding fieldCounts
 field-counts-length s i = length-from (fieldOf s i) 0 mostKinds
@@ -135,10 +138,12 @@ on-line s l o =
     (t .0, t .1, t .2 ∙ ap (lineOf s) z)
 
 module _ {s : List ℕ} {c : Card} (R : Reads s c) where
+  -- Neither the header's checks nor the lines' apply.
   pub both-clear : (firstOf (headerChecks s) ≡ clear) × (firstOf (lineChecks s) ≡ clear)
   unfolding sheetChecks
   both-clear = then-clear (firstOf (headerChecks s)) (firstOf (lineChecks s)) (sym (first-append (headerChecks s) (lineChecks s)) ∙ R .passed)
 
+  -- The header's numbers are within their limits, and the bytes are as many as the layout says.
   pub limits : Numbers s
   limits = numbers-limits s (header-clear s (both-clear .0) .0)
 
@@ -158,6 +163,7 @@ module _ {s : List ℕ} {c : Card} (R : Reads s c) where
   pub fields-are : c .fields ≡ fieldCount s
   fields-are = ap (λ (d : Card). d .fields) (R .header)
 
+  -- The model's card has the struct's kinds, and its lines in order.
   pub card-kinds : cardOf s .kinds ≡ c .kinds
   unfolding cardOf
   card-kinds = sym kinds-are
@@ -185,15 +191,17 @@ module _ {s : List ℕ} {c : Card} (R : Reads s c) where
   pub fields-most : c .fields ≤ mostFields
   fields-most = omega (arith, fields-are, limits .fields)
 
-  -- A field's counts, by kind.
+  -- As a field they are the sheet's field.
   pub field-counts-at : (i : ℕ) → at (fieldCounts s i) ≡ fieldOf s i
   unfolding fieldCounts fieldOf
   field-counts-at i = at-counts (kindCount s) mostKinds (λ k. u16At s (fieldsOffset s + 2 * kindCount s * i + 2 * k)) (limits .kinds .1)
 
   module _ (j : ℕ) (h : j < c .lines) where
+    -- Line j is one of the header's.
     in-lines : j < lineCount s
     in-lines = omega (arith, h, lines-are)
 
+    -- What checks 7 and 8 leave.
     under : (lineOf s j .kind < kindCount s) × (lineOf s j .code < codeCount s)
     unfolding lineChecks
     under =

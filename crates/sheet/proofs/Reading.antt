@@ -1,13 +1,12 @@
 -- The places that the functions compute are those of the definitions.
 use mathlib.Core.List.{List}
-use mathlib.Core.Path.{_≡_, refl, sym, _∙_, ap}
-use Prim.Native.Nat.{ℕ, _+_, _*_, _-_, _≤_, _<_}
+use mathlib.Core.Path.{_≡_, refl}
+use Prim.Native.Nat.{ℕ, _+_, _*_, _-_, _<_}
 use native.Mathlib.Nat.{add-sub-cancel-left}
-use native.Mathlib.Omega.{arith}
-use lib.ListN.{length, take, drop}
+use lib.ListN.{take, drop}
 use Rattle.model.specs.Finite.{listFrom}
-use Rattle.model.specs.Limits.{mostKinds, mostLines, mostFields}
-use Rattle.model.specs.Sheet.{linesOffset, byte, u16At, kindCount, lineCount, fieldsOffset, totalOf, counts, lineOf, fieldOf}
+use Rattle.model.specs.Limits.{mostKinds}
+use Rattle.model.specs.Sheet.{linesOffset, byte, u16At, kindCount, fieldsOffset, totalOf, counts, lineOf, fieldOf}
 use Rattle.sheet.specs.declared.reader.Card.{Card}
 use Rattle.sheet.specs.Reader.{headerOf, Reads, lineCounts, fieldCounts}
 use Rattle.sheet.proofs.Counts.{part-counts}

@@ -2,10 +2,11 @@
 use mathlib.Core.List.{List}
 use mathlib.Core.Path.{_≡_}
 use Prim.Native.Nat.{ℕ}
+use lib.ListN.{take, drop}
 use Rattle.model.specs.Finite.{listFrom}
 use Rattle.model.specs.Limits.{mostKinds}
 use Rattle.model.specs.Sheet.{kindCount, codeCount, lineCount, fieldCount, lineOf, fieldOf}
-use Rattle.model.specs.Refusal.{Finding, clear, refusal, firstOf, sheetChecks}
+use Rattle.model.specs.Refusal.{Check, Finding, clear, refusal, firstOf, headerChecks, sheetChecks}
 use Rattle.sheet.specs.declared.reader.Card.{Card}
 use Rattle.sheet.specs.declared.checks.Checked.{Checked}
 use Rattle.sheet.specs.declared.checks.Checked.the-variants.{Passed, Refused}
@@ -18,6 +19,13 @@ headerOf s = record { kinds = kindCount s; codes = codeCount s; lines = lineCoun
 pub record Reads (s : List ℕ) (c : Card) : Type 0 where
   pub header : c ≡ headerOf s
   pub passed : firstOf (sheetChecks s) ≡ clear
+
+-- The header's checks in two parts: 1 to 5, of its numbers, and 6, of its layout.
+abbrev pub numberChecks : List ℕ → List Check
+numberChecks s = take 5 (headerChecks s)
+
+abbrev pub layoutChecks : List ℕ → List Check
+layoutChecks s = drop 5 (headerChecks s)
 
 -- What the checks find, as the enum: the card where none applies, else the refusal with its number and place.
 unfoldable pub outcome : Card → Finding → Checked

@@ -1,8 +1,7 @@
 // The check of a sheet's bytes: "Checks run from top to bottom; the first that applies is given with its place."
 ghost use mathlib.Core.Path.{_≡_};
-ghost use lib.ListN.{take, drop};
-ghost use Rattle.model.specs.Refusal.{clear, firstOf, headerChecks, lineChecks};
-ghost use Rattle.sheet.specs.Reader.{headerOf, outcome, checkedOf};
+ghost use Rattle.model.specs.Refusal.{outside as outsideOf, clear, firstOf, headerChecks, lineChecks};
+ghost use Rattle.sheet.specs.Reader.{headerOf, numberChecks, layoutChecks, outcome, checkedOf};
 use crate::bytes::byte_at;
 use crate::bytes::u32_at;
 use crate::reader::Card;
@@ -13,9 +12,16 @@ pub enum Checked {
     Refused { number: usize, place: usize },
 }
 
+// "out of range"
+pub fn outside(low: usize, high: usize, x: usize) -> bool
+    ensures { λ r. ⌜ r ≡ outsideOf low high x ⌝ }
+{
+    x < low || high < x
+}
+
 // 1 to 5: the length, and the header's four numbers.
 fn check_numbers(s: &[u8]) -> Checked
-    ensures { λ r. ⌜ r ≡ outcome (headerOf (now (s .entry))) (firstOf (take 5 (headerChecks (now (s .entry))))) ⌝ }
+    ensures { λ r. ⌜ r ≡ outcome (headerOf (now (s .entry))) (firstOf (numberChecks (now (s .entry)))) ⌝ }
 {
     if s.len() < Card::HEADER {
         return Checked::Refused {
@@ -28,25 +34,13 @@ fn check_numbers(s: &[u8]) -> Checked
     let codes = card.codes;
     let lines = card.lines;
     let fields = card.fields;
-    if kinds < 1 {
+    if outside(1, Card::KINDS, kinds) {
         return Checked::Refused {
             number: 2,
             place: 0,
         };
     }
-    if Card::KINDS < kinds {
-        return Checked::Refused {
-            number: 2,
-            place: 0,
-        };
-    }
-    if codes < 1 {
-        return Checked::Refused {
-            number: 3,
-            place: 0,
-        };
-    }
-    if Card::CODES < codes {
+    if outside(1, Card::CODES, codes) {
         return Checked::Refused {
             number: 3,
             place: 0,
@@ -70,8 +64,8 @@ fn check_numbers(s: &[u8]) -> Checked
 // 6, at places 0 to 3: the offset of the lines, that of the fields, the total, and the bytes given.
 fn check_layout(s: &[u8], card: Card) -> Checked
     requires { ⌜ card ≡ headerOf (now s) ⌝ }
-    requires { ⌜ firstOf (take 5 (headerChecks (now s))) ≡ clear ⌝ }
-    ensures { λ r. ⌜ r ≡ outcome card (firstOf (drop 5 (headerChecks (now (s .entry))))) ⌝ }
+    requires { ⌜ firstOf (numberChecks (now s)) ≡ clear ⌝ }
+    ensures { λ r. ⌜ r ≡ outcome card (firstOf (layoutChecks (now (s .entry)))) ⌝ }
 {
     let fields = card.line_start(card.lines);
     let total = card.field_start(card.fields);

@@ -30,37 +30,42 @@ impl Card {
     // The bytes of the header: "offset of the lines: 20".
     pub const HEADER: usize = 20;
 
-    // The constants are the model's numbers.
+    // Each constant is the model's number: the most kinds.
     pub fn most_kinds() -> usize
         ensures { λ r. ⌜ r ≡ mostKinds ⌝ }
     {
         Card::KINDS
     }
 
+    // The most codes.
     pub fn most_codes() -> usize
         ensures { λ r. ⌜ r ≡ mostCodes ⌝ }
     {
         Card::CODES
     }
 
+    // The most lines.
     pub fn most_lines() -> usize
         ensures { λ r. ⌜ r ≡ mostLines ⌝ }
     {
         Card::LINES
     }
 
+    // The most fields.
     pub fn most_fields() -> usize
         ensures { λ r. ⌜ r ≡ mostFields ⌝ }
     {
         Card::FIELDS
     }
 
+    // "the greatest norm taken"
     pub fn norm_limit() -> u32
         ensures { λ r. ⌜ r ≡ normLimit ⌝ }
     {
         Card::NORM
     }
 
+    // "offset of the lines"
     pub fn lines_offset() -> usize
         ensures { λ r. ⌜ r ≡ linesOffset ⌝ }
     {

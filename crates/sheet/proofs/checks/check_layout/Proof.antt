@@ -1,16 +1,15 @@
 -- Each return gives what the tests on the way leave of the checks.
 use borrow.Author.Needs.{needs}
-use native.Mathlib.Omega.{arith}
 use mathlib.Core.List.{List}
-use mathlib.Core.Path.{_≡_, refl, sym, _∙_, ap}
+use mathlib.Core.Path.{_≡_, refl, sym, _∙_}
 use Prim.Native.Nat.{ℕ, _≤_}
-use lib.ListN.{length, take, drop}
+use lib.ListN.{length, drop}
 use Rattle.model.specs.Limits.{mostKinds, mostLines, mostFields}
 use Rattle.model.specs.Sheet.{u32At, linesOffset, fieldsOffset, totalOf}
 use Rattle.model.specs.Refusal.{firstOf, headerChecks}
 use Rattle.model.proofs.Sheets.{clear-nil}
-use Rattle.sheet.specs.declared.reader.Card.{Card}
-use Rattle.sheet.proofs.Laws.{Numbers, numbers-limits}
+use Rattle.sheet.specs.Reader.{layoutChecks}
+use Rattle.sheet.proofs.Laws.{numbers-limits}
 use Rattle.sheet.proofs.Reading.{fields-offset-read, total-read}
 use Rattle.sheet.proofs.Checking.{refuses, passes, differ-stops, differ-passes}
 use Rattle.sheet.proofs.checks.check_layout.Statement.{statement}
@@ -28,7 +27,7 @@ field-start-requires c κs = within (c .before .before)
 
 -- The first k of the checks do not apply.
 abbrev After : ℕ → List ℕ → Type 0
-After k s = firstOf (drop 5 (headerChecks s)) ≡ firstOf (drop k (drop 5 (headerChecks s)))
+After k s = firstOf (layoutChecks s) ≡ firstOf (drop k (layoutChecks s))
 
 -- The numbers compared are the layout's.
 fields-is : (c : tie.After-field-start) → c .before .line-start .result ≡ fieldsOffset (c .before .before .before .args .s .now)

@@ -2,7 +2,7 @@
 use borrow.Author.Count.{below-more}
 use borrow.Author.Needs.{needs}
 use native.Mathlib.Omega.{arith}
-use mathlib.Core.Path.{_≡_, refl, sym, _∙_, ap}
+use mathlib.Core.Path.{_≡_, refl, ap}
 use Prim.Native.Nat.{ℕ, _-_, _≤_, _<_}
 use Rattle.model.specs.Limits.{mostKinds, mostLines}
 use Rattle.model.specs.Sheet.{kindCount, codeCount, lineCount, lineOf}

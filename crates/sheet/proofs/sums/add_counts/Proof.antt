@@ -1,11 +1,10 @@
 -- The first k of the counts are added. The measure is what is left of the counts.
 use borrow.Author.Needs.{needs}
 use native.Mathlib.Omega.{arith}
-use mathlib.Core.Path.{_≡_, refl, sym, _∙_, ap}
+use mathlib.Core.Path.{_≡_, refl, _∙_}
 use Prim.Native.Nat.{_-_, _≤_}
 use lib.ListN.{length, length-set}
 use Rattle.model.specs.Field.{at}
-use Rattle.model.proofs.Lists.{length-from}
 use Rattle.sheet.proofs.Plus.{plusFirst, plus-none, plus-all, plus-unread, plus-more}
 use Rattle.sheet.proofs.sums.add_counts.Statement.{statement}
 use Rattle.sheet.proofs.sums.add_counts.Tie as tie

@@ -1,7 +1,7 @@
 -- The counts below k are read. The measure is what is left of the kinds.
 use borrow.Author.Needs.{needs}
 use Prim.Native.Nat.{_+_, _*_, _-_, _≤_}
-use mathlib.Core.Path.{_≡_, refl, ap, _∙_}
+use mathlib.Core.Path.{_≡_}
 use native.Mathlib.Omega.{arith}
 use Rattle.model.specs.Finite.{listFrom}
 use Rattle.model.specs.Limits.{mostKinds}
