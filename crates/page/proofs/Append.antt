@@ -1,11 +1,12 @@
 -- One text appended after another.
 use mathlib.Core.List.{List, [], _∷_, _++_, append-nil, append-assoc}
 use mathlib.Core.Path.{_≡_, refl, sym, _∙_, ap}
-use Prim.Native.Nat.{ℕ, suc, _+_, _≤_, _<_}
+use Prim.Native.Nat.{ℕ, _+_, _≤_, _<_}
 use native.Mathlib.Numerals.{add-one}
 use native.Mathlib.Omega.{arith}
-use lib.ListN.{length, take, drop, set, getD, length-append, length-set}
+use lib.ListN.{length, take, drop, set, getD, length-append, length-set, take-append-drop}
 use lib.Seq.{take-all, take-suc, take-suc-set, drop-set-lt, drop-drop}
+use Rattle.model.specs.Answer.{written}
 use Rattle.page.specs.Appended.{Appended}
 
 -- Nothing is appended.
@@ -48,3 +49,10 @@ one-more {i} s h p q = reads-as (i + 1) (take (i + 1) s) (then p q) (omega arith
 -- All bytes of a text.
 pub all-taken : {i k start : ℕ} {b d : List ℕ} (s : List ℕ) → i ≡ length s → Appended i b start (take i s) d k → Appended (length s) b start s d k
 all-taken {i} s e p = reads-as (length s) s p (omega arith) (take-all i s (omega arith))
+
+-- A text appended from the start of a buffer: what the model says of a lent buffer.
+pub from-start : {m k : ℕ} {b d s : List ℕ} → Appended m b 0 s d k → d ≡ written s b
+unfolding written
+from-start {k = k} {b = b} {d = d} {s = s} p =
+    let e : k ≡ length s = omega (arith, p .ends) in
+    sym (take-append-drop k d) ∙ ap (λ (l : List ℕ). l ++ drop k d) (p .written) ∙ ap (λ (l : List ℕ). s ++ l) (p .rest ∙ ap (λ (n : ℕ). drop n b) e)

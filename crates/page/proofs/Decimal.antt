@@ -1,7 +1,7 @@
 -- Decimal numbers: their last digit, how many digits they have.
 use mathlib.Core.List.{List, [], _∷_, _++_, append-assoc}
 use mathlib.Core.Path.{_≡_, refl, sym, _∙_, ap}
-use Prim.Native.Nat.{ℕ, zero, suc, _+_, _*_, _/_, _%_, _^_, _≤_, _<_}
+use Prim.Native.Nat.{ℕ, zero, suc, _+_, _/_, _%_, _^_, _≤_, _<_}
 use native.Mathlib.Decide.{decLt}
 use native.Mathlib.Nat.{pow-suc}
 use native.Mathlib.Omega.{arith}
@@ -54,12 +54,19 @@ number-more x h =
     before x x [] h ∙ follows x (x / 10) ((48 + x % 10) ∷ []) (omega arith)
     ∙ ap (λ (s : List ℕ). s ++ ((48 + x % 10) ∷ [])) (fuel x (suc (x / 10)) (x / 10) [] (omega arith) (omega arith))
 
--- So it has one digit, or one more.
+-- So it has one digit, or one more; in any case some.
 pub length-small : (x : ℕ) → x < 10 → length (number x) ≡ 1
 length-small x h = ap length (number-small x h)
 
 pub length-more : (x : ℕ) → 10 ≤ x → length (number x) ≡ length (number (x / 10)) + 1
 length-more x h = ap length (number-more x h) ∙ length-append (number (x / 10)) ((48 + x % 10) ∷ [])
+
+pub length-some : (x : ℕ) → 1 ≤ length (number x)
+length-some x = go (decLt x 10)
+  where
+    go : Dec (x < 10) → 1 ≤ length (number x)
+    go (yes h) = omega (arith, length-small x h)
+    go (no h) = omega (arith, length-more x (omega arith))
 
 -- A number below 10 ^ k, for a k from 1 up, has at most k digits.
 pub number-digits : (k x : ℕ) → x < 10 ^ suc k → length (number x) ≤ suc k

@@ -7,7 +7,7 @@ use native.Mathlib.Numerals.{add-one}
 use native.Mathlib.Omega.{arith}
 use lib.ListN.{length, getD}
 use Rattle.model.specs.Finite.{concat, listFrom}
-use Rattle.model.specs.Page.{bytes, number, countsOf}
+use Rattle.model.specs.Page.{bytes, countsOf}
 use Rattle.page.specs.Appended.{Appended}
 use Rattle.page.specs.Line.{countText}
 use Rattle.page.proofs.Append.{nothing, then, reads-as}

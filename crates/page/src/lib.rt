@@ -6,6 +6,7 @@ mod number;
 pub use number::put_bytes;
 pub use number::put_labelled;
 pub use number::put_number;
+pub use number::put_two_labelled;
 
 // The counts of a row or of a prime form.
 mod counts;

@@ -3,6 +3,7 @@ use crate::counts::put_form;
 use crate::counts::put_row;
 use crate::number::put_bytes;
 use crate::number::put_labelled;
+use crate::number::put_two_labelled;
 ghost use Prim.Native.Nat.{_+_, _*_, _≤_, _<_};
 ghost use lib.ListN.{length};
 ghost use Rattle.model.specs.Answer.{given, same, different};
@@ -15,8 +16,7 @@ pub fn put_refused(out: &mut [u8], at: usize, number: usize, place: usize) -> us
     requires { ⌜ at + 50 ≤ length (now out) ⌝ }
     ensures { λ r. ⌜ Appended 50 (now (out .entry)) at (refusedLine number place) (now (out .exit)) r ⌝ }
 {
-    let next = put_labelled(out, at, b"refused ", number as u64);
-    let last = put_labelled(out, next, b" ", place as u64);
+    let last = put_two_labelled(out, at, b"refused ", number as u64, b" ", place as u64);
     put_bytes(out, last, b"\n")
 }
 
@@ -25,13 +25,12 @@ pub fn put_head(out: &mut [u8], at: usize, kinds: usize, stage: usize) -> usize
     requires { ⌜ at + 55 ≤ length (now out) ⌝ }
     ensures { λ r. ⌜ Appended 55 (now (out .entry)) at (headText kinds stage) (now (out .exit)) r ⌝ }
 {
-    let next = put_labelled(out, at, b"kinds ", kinds as u64);
-    let last = put_labelled(out, next, b" stages ", stage as u64);
+    let last = put_two_labelled(out, at, b"kinds ", kinds as u64, b" stages ", stage as u64);
     put_bytes(out, last, b"\n")
 }
 
 // What a kind's line shows of its row: the word prime where the row is the kind itself, the counts of any other.
-fn put_shown(out: &mut [u8], at: usize, kind: usize, row: &[u32]) -> usize
+fn put_prime_or_row(out: &mut [u8], at: usize, kind: usize, row: &[u32]) -> usize
     requires { ⌜ kind < length (now row) ⌝ }
     requires { ⌜ at + (5 + 21 * length (now row)) ≤ length (now out) ⌝ }
     ensures { λ r. ⌜ Appended (5 + 21 * length (now (row .entry))) (now (out .entry)) at (rowText kind (now (row .entry))) (now (out .exit)) r ⌝ }
@@ -49,10 +48,9 @@ pub fn put_kind(out: &mut [u8], at: usize, kind: usize, norm: u32, row: &[u32]) 
     requires { ⌜ at + (58 + 21 * length (now row)) ≤ length (now out) ⌝ }
     ensures { λ r. ⌜ Appended (58 + 21 * length (now (row .entry))) (now (out .entry)) at (kindText kind norm (now (row .entry))) (now (out .exit)) r ⌝ }
 {
-    let next = put_labelled(out, at, b"kind ", kind as u64);
-    let space = put_labelled(out, next, b" norm ", norm as u64);
+    let space = put_two_labelled(out, at, b"kind ", kind as u64, b" norm ", norm as u64);
     let shown = put_bytes(out, space, b" ");
-    let last = put_shown(out, shown, kind, row);
+    let last = put_prime_or_row(out, shown, kind, row);
     put_bytes(out, last, b"\n")
 }
 
@@ -82,7 +80,6 @@ pub fn put_different(out: &mut [u8], at: usize, later: usize, stage: usize, roun
     ensures { λ r. ⌜ Appended 80 (now (out .entry)) at (pairText later (given (different stage rounds))) (now (out .exit)) r ⌝ }
 {
     let word = put_labelled(out, at, b"pair 0 ", later as u64);
-    let next = put_labelled(out, word, b" different ", stage as u64);
-    let last = put_labelled(out, next, b" ", rounds);
+    let last = put_two_labelled(out, word, b" different ", stage as u64, b" ", rounds);
     put_bytes(out, last, b"\n")
 }

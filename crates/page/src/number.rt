@@ -65,3 +65,19 @@ pub fn put_labelled(out: &mut [u8], at: usize, label: &[u8], x: u64) -> usize
     let next = put_bytes(out, at, label);
     put_number(out, next, x)
 }
+
+// The same twice.
+pub fn put_two_labelled(
+    out: &mut [u8],
+    at: usize,
+    label: &[u8],
+    x: u64,
+    between: &[u8],
+    y: u64,
+) -> usize
+    requires { ⌜ at + (length (now label) + 20 + (length (now between) + 20)) ≤ length (now out) ⌝ }
+    ensures { λ r. ⌜ Appended (length (now (label .entry)) + 20 + (length (now (between .entry)) + 20)) (now (out .entry)) at (now (label .entry) ++ number x ++ (now (between .entry) ++ number y)) (now (out .exit)) r ⌝ }
+{
+    let next = put_labelled(out, at, label, x);
+    put_labelled(out, next, between, y)
+}

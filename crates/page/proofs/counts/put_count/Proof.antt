@@ -1,3 +1,4 @@
+-- `put_count`: a number with a space before it.
 use mathlib.Core.Path.{refl}
 use native.Mathlib.Omega.{arith}
 use Rattle.model.specs.Page.{bytes}

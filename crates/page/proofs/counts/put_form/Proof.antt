@@ -1,3 +1,4 @@
+-- `put_form`: after i turns the first i counts are appended to "=".
 use mathlib.Core.Path.{refl, _∙_}
 use Prim.Native.Nat.{_≤_, _-_, _*_}
 use native.Mathlib.Omega.{arith}

@@ -1,3 +1,4 @@
+-- `put_different`: its parts, one after the other, are the line.
 use native.Mathlib.Omega.{arith}
 use Rattle.model.specs.Answer.{given, different}
 use Rattle.model.specs.Page.{bytes}
@@ -14,17 +15,14 @@ slice-aggregate-put-labelled c = search needs
 put-labelled-requires : tie.Need-put-labelled-requires
 put-labelled-requires c κs = search needs
 
-slice-aggregate-put-labelled-2 : tie.Need-slice-aggregate-put-labelled-2
-slice-aggregate-put-labelled-2 c = search needs
+slice-aggregate-put-two-labelled : tie.Need-slice-aggregate-put-two-labelled
+slice-aggregate-put-two-labelled c = search needs
 
-put-labelled-requires-2 : tie.Need-put-labelled-requires-2
-put-labelled-requires-2 c κs = search needs
+slice-aggregate-put-two-labelled-2 : tie.Need-slice-aggregate-put-two-labelled-2
+slice-aggregate-put-two-labelled-2 c = search needs
 
-slice-aggregate-put-labelled-3 : tie.Need-slice-aggregate-put-labelled-3
-slice-aggregate-put-labelled-3 c = search needs
-
-put-labelled-requires-3 : tie.Need-put-labelled-requires-3
-put-labelled-requires-3 c κs = search needs
+put-two-labelled-requires : tie.Need-put-two-labelled-requires
+put-two-labelled-requires c κs = search needs
 
 slice-aggregate-put-bytes : tie.Need-slice-aggregate-put-bytes
 slice-aggregate-put-bytes c = search needs
@@ -38,8 +36,8 @@ same-length c = search needs
 returns : tie.Need-returns
 unfolding bytes
 returns c =
-    let start = c .before .before .before .before .before .before .before .before .before .before .before .before .before .before .before .before .before .before .before .before .before in
-    reads-as 80 (pairText (start .args .later) (given (different (start .args .stage) (start .args .rounds)))) (then (c .before .before .before .before .before .before .before .before .before .before .before .before .before .before .before .before .before .put-labelled .ensures) (then (c .before .before .before .before .before .before .before .before .before .before .before .before .put-labelled2 .ensures) (then (c .before .before .before .before .before .before .before .put-labelled3 .ensures) (c .before .before .put-bytes .ensures))))
+    let start = c .before .before .before .before .before .before .before .before .before .before .before .before .before .before .before .before .before in
+    reads-as 80 (pairText (start .args .later) (given (different (start .args .stage) (start .args .rounds)))) (then (c .before .before .before .before .before .before .before .before .before .before .before .before .before .put-labelled .ensures) (then (c .before .before .before .before .before .before .before .put-two-labelled .ensures) (c .before .before .put-bytes .ensures)))
     (omega arith) (different-is (start .args .later) (start .args .stage) (start .args .rounds))
 
 pub put-different-spec : {M : Type 1} → statement M
@@ -48,10 +46,9 @@ put-different-spec =
     (tie.spec
     slice-aggregate-put-labelled
     put-labelled-requires
-    slice-aggregate-put-labelled-2
-    put-labelled-requires-2
-    slice-aggregate-put-labelled-3
-    put-labelled-requires-3
+    slice-aggregate-put-two-labelled
+    slice-aggregate-put-two-labelled-2
+    put-two-labelled-requires
     slice-aggregate-put-bytes
     put-bytes-requires
     same-length

@@ -1,3 +1,4 @@
+-- `put_field`: its parts, one after the other, are the line.
 use Prim.Native.Nat.{_+_, _*_}
 use native.Mathlib.Omega.{arith}
 use lib.ListN.{length}

@@ -1,3 +1,4 @@
+-- `put_head`: its parts, one after the other, are the line.
 use native.Mathlib.Omega.{arith}
 use Rattle.model.specs.Page.{bytes}
 use Rattle.page.specs.Line.{headText}
@@ -7,17 +8,14 @@ use borrow.Author.Needs.{needs}
 use Rattle.page.proofs.line.put_head.Statement.{statement}
 use Rattle.page.proofs.line.put_head.Tie as tie
 
-slice-aggregate-put-labelled : tie.Need-slice-aggregate-put-labelled
-slice-aggregate-put-labelled c = search needs
+slice-aggregate-put-two-labelled : tie.Need-slice-aggregate-put-two-labelled
+slice-aggregate-put-two-labelled c = search needs
 
-put-labelled-requires : tie.Need-put-labelled-requires
-put-labelled-requires c κs = search needs
+slice-aggregate-put-two-labelled-2 : tie.Need-slice-aggregate-put-two-labelled-2
+slice-aggregate-put-two-labelled-2 c = search needs
 
-slice-aggregate-put-labelled-2 : tie.Need-slice-aggregate-put-labelled-2
-slice-aggregate-put-labelled-2 c = search needs
-
-put-labelled-requires-2 : tie.Need-put-labelled-requires-2
-put-labelled-requires-2 c κs = search needs
+put-two-labelled-requires : tie.Need-put-two-labelled-requires
+put-two-labelled-requires c κs = search needs
 
 slice-aggregate-put-bytes : tie.Need-slice-aggregate-put-bytes
 slice-aggregate-put-bytes c = search needs
@@ -31,18 +29,17 @@ same-length c = search needs
 returns : tie.Need-returns
 unfolding bytes
 returns c =
-    let start = c .before .before .before .before .before .before .before .before .before .before .before .before .before .before .before .before in
-    reads-as 55 (headText (start .args .kinds) (start .args .stage)) (then (c .before .before .before .before .before .before .before .before .before .before .before .before .put-labelled .ensures) (then (c .before .before .before .before .before .before .before .put-labelled2 .ensures) (c .before .before .put-bytes .ensures)))
+    let start = c .before .before .before .before .before .before .before .before .before .before .before .before in
+    reads-as 55 (headText (start .args .kinds) (start .args .stage)) (then (c .before .before .before .before .before .before .before .put-two-labelled .ensures) (c .before .before .put-bytes .ensures))
     (omega arith) (head-is (start .args .kinds) (start .args .stage))
 
 pub put-head-spec : {M : Type 1} → statement M
 put-head-spec =
     tie.close
     (tie.spec
-    slice-aggregate-put-labelled
-    put-labelled-requires
-    slice-aggregate-put-labelled-2
-    put-labelled-requires-2
+    slice-aggregate-put-two-labelled
+    slice-aggregate-put-two-labelled-2
+    put-two-labelled-requires
     slice-aggregate-put-bytes
     put-bytes-requires
     same-length

@@ -1,3 +1,4 @@
+-- `put_kind`: its parts, one after the other, are the line.
 use Prim.Native.Nat.{_+_, _*_}
 use native.Mathlib.Omega.{arith}
 use lib.ListN.{length}
@@ -9,17 +10,14 @@ use borrow.Author.Needs.{needs}
 use Rattle.page.proofs.line.put_kind.Statement.{statement}
 use Rattle.page.proofs.line.put_kind.Tie as tie
 
-slice-aggregate-put-labelled : tie.Need-slice-aggregate-put-labelled
-slice-aggregate-put-labelled c = search needs
+slice-aggregate-put-two-labelled : tie.Need-slice-aggregate-put-two-labelled
+slice-aggregate-put-two-labelled c = search needs
 
-put-labelled-requires : tie.Need-put-labelled-requires
-put-labelled-requires c κs = search needs
+slice-aggregate-put-two-labelled-2 : tie.Need-slice-aggregate-put-two-labelled-2
+slice-aggregate-put-two-labelled-2 c = search needs
 
-slice-aggregate-put-labelled-2 : tie.Need-slice-aggregate-put-labelled-2
-slice-aggregate-put-labelled-2 c = search needs
-
-put-labelled-requires-2 : tie.Need-put-labelled-requires-2
-put-labelled-requires-2 c κs = search needs
+put-two-labelled-requires : tie.Need-put-two-labelled-requires
+put-two-labelled-requires c κs = search needs
 
 slice-aggregate-put-bytes : tie.Need-slice-aggregate-put-bytes
 slice-aggregate-put-bytes c = search needs
@@ -27,8 +25,8 @@ slice-aggregate-put-bytes c = search needs
 put-bytes-requires : tie.Need-put-bytes-requires
 put-bytes-requires c κs = search needs
 
-put-shown-requires : tie.Need-put-shown-requires
-put-shown-requires c κs = search needs
+put-prime-or-row-requires : tie.Need-put-prime-or-row-requires
+put-prime-or-row-requires c κs = search needs
 
 slice-aggregate-put-bytes-2 : tie.Need-slice-aggregate-put-bytes-2
 slice-aggregate-put-bytes-2 c = search needs
@@ -42,21 +40,20 @@ same-length c = search needs
 returns : tie.Need-returns
 unfolding bytes
 returns c =
-    let start = c .before .before .before .before .before .before .before .before .before .before .before .before .before .before .before .before .before .before .before .before .before .before .before .before .before .before in
-    reads-as (58 + 21 * length (start .args .row .now)) (kindText (start .args .kind) (start .args .norm) (start .args .row .now)) (then (c .before .before .before .before .before .before .before .before .before .before .before .before .before .before .before .before .before .before .before .before .before .put-labelled .ensures) (then (c .before .before .before .before .before .before .before .before .before .before .before .before .before .before .before .before .put-labelled2 .ensures) (then (c .before .before .before .before .before .before .before .before .before .before .before .put-bytes .ensures) (then (c .before .before .before .before .before .before .before .put-shown .ensures) (c .before .before .put-bytes2 .ensures)))))
+    let start = c .before .before .before .before .before .before .before .before .before .before .before .before .before .before .before .before .before .before .before .before .before .before in
+    reads-as (58 + 21 * length (start .args .row .now)) (kindText (start .args .kind) (start .args .norm) (start .args .row .now)) (then (c .before .before .before .before .before .before .before .before .before .before .before .before .before .before .before .before .put-two-labelled .ensures) (then (c .before .before .before .before .before .before .before .before .before .before .before .put-bytes .ensures) (then (c .before .before .before .before .before .before .before .put-prime-or-row .ensures) (c .before .before .put-bytes2 .ensures))))
     (omega arith) (kind-is (start .args .kind) (start .args .norm) (start .args .row .now))
 
 pub put-kind-spec : {M : Type 1} → statement M
 put-kind-spec =
     tie.close
     (tie.spec
-    slice-aggregate-put-labelled
-    put-labelled-requires
-    slice-aggregate-put-labelled-2
-    put-labelled-requires-2
+    slice-aggregate-put-two-labelled
+    slice-aggregate-put-two-labelled-2
+    put-two-labelled-requires
     slice-aggregate-put-bytes
     put-bytes-requires
-    put-shown-requires
+    put-prime-or-row-requires
     slice-aggregate-put-bytes-2
     put-bytes-requires-2
     same-length

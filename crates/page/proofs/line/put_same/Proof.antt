@@ -1,3 +1,4 @@
+-- `put_same`: its parts, one after the other, are the line.
 use native.Mathlib.Omega.{arith}
 use Rattle.model.specs.Answer.{given, same}
 use Rattle.model.specs.Page.{bytes}

@@ -1,9 +1,10 @@
+-- `put_digits`, which calls itself: the number falls.
 use mathlib.Core.Path.{_∙_}
 use Prim.Native.Nat.{ℕ, _<_}
 use native.Mathlib.Omega.{arith}
 use borrow.Fn.Kinds.{In}
 use borrow.Fn.PlainCycle.{Measures, is, falls, and}
-use Rattle.page.proofs.Decimal.{length-small, length-more, digit-only, digit-last}
+use Rattle.page.proofs.Decimal.{length-some, length-more, digit-only, digit-last}
 use Rattle.page.proofs.number.put_digits.Reads as put-digits
 use Rattle.page.proofs.number.put_digits.Kinds as put-digits-kinds
 use Rattle.page.proofs.number.+put_digits.Lts-put_digits as put-digits-lts
@@ -15,6 +16,7 @@ use Rattle.page.proofs.number.+put_digits.Tie.{close}
 abbrev μ-put-digits : Measures 1 put-digits-kinds.ps ℕ
 μ-put-digits κs a = a .1 .1 .0
 
+-- What it is given at the measure t, and what a call of it asks below t.
 abbrev put-digits-at : ℕ → In 1 put-digits-kinds.ps
 put-digits-at t =
     and 1 put-digits-kinds.ps (is 1 put-digits-kinds.ps μ-put-digits t) put-digits.Pre
@@ -23,7 +25,7 @@ abbrev put-digits-below : ℕ → In 1 put-digits-kinds.ps
 put-digits-below t =
     and 1 put-digits-kinds.ps (falls 1 put-digits-kinds.ps _<_ μ-put-digits t) put-digits.Pre
 
--- what put-digits calls
+-- What `put_digits` calls.
 abbrev put-digits-calls : ℕ → put-digits-lts.Claims
 put-digits-calls t = (digit-reads.Asked, digit-reads.Learnt, put-byte-reads.Asked, put-byte-reads.Learnt, put-digits-below t, put-digits.Post)
 
@@ -31,10 +33,10 @@ put-digits-digit-requires : (t : ℕ) → put-digits-lts.Need-digit-requires (pu
 put-digits-digit-requires t c κs = tt
 
 put-digits-put-byte-requires : (t : ℕ) → put-digits-lts.Need-put-byte-requires (put-digits-calls t) (put-digits-at t) put-digits.Post
-put-digits-put-byte-requires t c κs = omega (arith, c .before .before .before .before .pre .1, length-small (c .before .before .before .before .args .x) (c .before .before .if1 .taken))
+put-digits-put-byte-requires t c κs = omega (arith, c .before .before .before .before .pre .1, length-some (c .before .before .before .before .args .x))
 
 put-digits-put-digits-requires : (t : ℕ) → put-digits-lts.Need-put-digits-requires (put-digits-calls t) (put-digits-at t) put-digits.Post
-put-digits-put-digits-requires t c κs = (omega (arith, c .before .before .before .pre .0, c .before .if1 .left), omega (arith, c .before .before .before .pre .1, length-more (c .before .before .before .args .x) (c .before .if1 .left)))
+put-digits-put-digits-requires t c κs = (omega (arith, c .before .before .before .pre .0, c .before .if1 .left), omega (arith, c .before .before .before .pre .1, length-more (c .before .before .before .args .x) (omega (arith, c .before .if1 .left))))
 
 put-digits-digit-requires-2 : (t : ℕ) → put-digits-lts.Need-digit-requires-2 (put-digits-calls t) (put-digits-at t) put-digits.Post
 put-digits-digit-requires-2 t c κs = tt
@@ -42,7 +44,7 @@ put-digits-digit-requires-2 t c κs = tt
 put-digits-put-byte-requires-2 : (t : ℕ) → put-digits-lts.Need-put-byte-requires-2 (put-digits-calls t) (put-digits-at t) put-digits.Post
 put-digits-put-byte-requires-2 t c κs =
     let first = c .before .before .before .before .put-digits .ensures in
-    omega (arith, first .ends, first .size, c .before .before .before .before .before .before .before .before .pre .1, length-more (c .before .before .before .before .before .before .before .before .args .x) (c .before .before .before .before .before .before .if1 .left))
+    omega (arith, first .ends, first .size, c .before .before .before .before .before .before .before .before .pre .1, length-more (c .before .before .before .before .before .before .before .before .args .x) (omega (arith, c .before .before .before .before .before .before .if1 .left)))
 
 put-digits-same-length : (t : ℕ) → put-digits-lts.Need-same-length (put-digits-calls t) (put-digits-at t) put-digits.Post
 put-digits-same-length t c = c .before .before .put-byte .kept .0

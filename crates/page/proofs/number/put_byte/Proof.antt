@@ -1,3 +1,4 @@
+-- `put_byte`: one store.
 use Rattle.page.proofs.Append.{one}
 use borrow.Author.Needs.{needs}
 use Rattle.page.proofs.number.put_byte.Statement.{statement}

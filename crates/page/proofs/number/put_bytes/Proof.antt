@@ -1,3 +1,4 @@
+-- `put_bytes`: after i turns the first i bytes of the text are appended.
 use Prim.Native.Nat.{_≤_, _-_}
 use native.Mathlib.Omega.{arith}
 use borrow.Author.Needs.{needs}

@@ -1,3 +1,4 @@
+-- `put_labelled`: two texts, one after the other.
 use Rattle.page.proofs.Append.{then}
 use borrow.Author.Needs.{needs}
 use Rattle.page.proofs.number.put_labelled.Statement.{statement}

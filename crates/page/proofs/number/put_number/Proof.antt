@@ -1,3 +1,4 @@
+-- `put_number`: 20 bytes are room enough.
 use mathlib.Core.Path.{refl}
 use native.Mathlib.Omega.{arith}
 use Rattle.model.specs.Page.{number}

@@ -1,3 +1,4 @@
+-- `put_prime_or_row`: each branch is a case of `rowText`.
 use Prim.Native.Nat.{_+_, _*_}
 use native.Mathlib.Omega.{arith}
 use lib.ListN.{length}
@@ -6,8 +7,8 @@ use Rattle.page.specs.Line.{rowText}
 use Rattle.page.proofs.Append.{reads-as}
 use Rattle.page.proofs.Lines.{prime-is, counts-is}
 use borrow.Author.Needs.{needs}
-use Rattle.page.proofs.line.put_shown.Statement.{statement}
-use Rattle.page.proofs.line.put_shown.Tie as tie
+use Rattle.page.proofs.line.put_prime_or_row.Statement.{statement}
+use Rattle.page.proofs.line.put_prime_or_row.Tie as tie
 
 mul-if1 : tie.Need-mul-if1
 mul-if1 c = search needs
@@ -43,8 +44,8 @@ returns-2 c =
     reads-as (5 + 21 * length (start .args .row .now)) (rowText (start .args .kind) (start .args .row .now)) (c .before .before .put-row .ensures) (omega arith)
     (counts-is (start .args .kind) (start .args .row .now) (c .before .before .before .before .if1 .left))
 
-pub put-shown-spec : {M : Type 1} → statement M
-put-shown-spec =
+pub put-prime-or-row-spec : {M : Type 1} → statement M
+put-prime-or-row-spec =
     tie.close
     (tie.spec
     mul-if1
