@@ -1,5 +1,5 @@
 -- The checks of norms by the lowest kinds that fail them, and what all the checks come to.
-use mathlib.Core.Bool.{Bool, true, false}
+use mathlib.Core.Bool.{Bool}
 use mathlib.Core.List.{List, _++_}
 use mathlib.Core.Logic.{_⊎_, inl, inr}
 use mathlib.Core.Path.{_≡_, refl, sym, _∙_, ap, ap₂, fun-ext}
@@ -9,7 +9,7 @@ use native.Mathlib.Omega.{arith}
 use borrow.Author.Tests.{eq-eqb, ne-eqb, lt-ltb, le-ltb}
 use lib.Dec.{T, eqb, ltb}
 use Rattle.model.specs.Finite.{listFrom, leastFrom}
-use Rattle.model.specs.Field.{Field, at}
+use Rattle.model.specs.Field.{at}
 use Rattle.model.specs.Norm.{kindNorm}
 use Rattle.model.specs.Sheet.{kindCount, cardOf}
 use Rattle.model.specs.Limits.{mostKinds, normLimit}
@@ -25,7 +25,7 @@ use Rattle.sheet.proofs.Checking.{refused-found, passed-found}
 use Rattle.sheet.proofs.Laws.{kinds-are, kinds-most}
 use Rattle.norms.specs.declared.accept.Acceptance.{Acceptance}
 use Rattle.norms.specs.Norms.{arrayOf, cutNorms, normsOf, Accepts, normChecksBy, acceptedWith, refusedWith, acceptanceOf}
-use Rattle.norms.proofs.Sweeps.{array-at}
+use Rattle.norms.proofs.Arrays.{array-at}
 use Rattle.norms.proofs.Laws.{kind-norm-past}
 
 -- A check at each of n places is decided by the least that applies.
@@ -120,9 +120,9 @@ module _ {s : List ℕ} {c : Card} (R : Reads s c) where
   norms-decide = first-right (sheetChecks s) (normChecks s) (R .passed) ∙ ap firstOf (sym by-norms)
 
   -- The norms of an accepted sheet are not cut.
-  uncut : Accepted s → cutNorms s ≡ normsOf s
+  pub norms-uncut : Accepted s → cutNorms s ≡ normsOf s
   unfolding cutNorms normsOf
-  uncut ok = ap arrayOf (fun-ext (λ k. go k (decLt k (kindCount s))))
+  norms-uncut ok = ap arrayOf (fun-ext (λ k. go k (decLt k (kindCount s))))
     where
       go : (k : ℕ) → Dec (k < kindCount s) → min (kindNorm (cardOf s) k) (suc normLimit) ≡ kindNorm (cardOf s) k
       go k (yes h) = omega (arith, limit-of s ok k h)
@@ -141,7 +141,7 @@ module _ {s : List ℕ} {c : Card} (R : Reads s c) where
     norms-passed d e =
         let t = passed-found c (firstOf (normChecksBy (at norms) (c .kinds))) d e in
         let ok : Accepted s = found ∙ t .1 in
-        rw (t .0 ∙ R .header, cut ∙ uncut ok) (accept-clear s ok)
+        rw (t .0 ∙ R .header, cut ∙ norms-uncut ok) (accept-clear s ok)
 
 -- What a card that was accepted tells.
 pub accepts : (s : List ℕ) (c : Card) → acceptanceOf s .checked ≡ Passed c → Accepts s c (acceptanceOf s .norms)
@@ -153,3 +153,12 @@ accepts s c e = go (firstOf (acceptChecks s)) refl e
         → Accepts s c ((elim f as (λ _. Acceptance) [ clear ↦ acceptedWith s | refusal k p ↦ refusedWith k p ]) .norms)
     go clear d q = record { reads = record { header = cc; passed = sheet-clear s d }; accepted = d; norms-are = refl }
     go (refusal k p) d q = let z : _≡_ {A = ℕ} 0 1 = cc in absurd (omega arith)
+
+-- What a refusal tells.
+pub refused : (s : List ℕ) (k p : ℕ) → acceptanceOf s .checked ≡ Refused k p → firstOf (acceptChecks s) ≡ refusal k p
+unfolding acceptanceOf acceptedWith refusedWith
+refused s k p e = go (firstOf (acceptChecks s)) e
+  where
+    go : (f : Finding) → (elim f as (λ _. Acceptance) [ clear ↦ acceptedWith s | refusal i q ↦ refusedWith i q ]) .checked ≡ Refused k p → f ≡ refusal k p
+    go clear h = let z : _≡_ {A = ℕ} 0 1 = cc in absurd (omega arith)
+    go (refusal i q) h = cc

@@ -1,5 +1,5 @@
 -- How large sums of norms grow, through the written limits.
-use Prim.Native.Nat.{ℕ, suc, _*_, _^_, _≤_, _<_}
+use Prim.Native.Nat.{ℕ, suc, _^_, _≤_, _<_}
 use native.Mathlib.Omega.{arith}
 use Rattle.model.specs.Field.{Field, weigh}
 use Rattle.model.specs.Limits.{mostKinds, normLimit}

@@ -1,15 +1,13 @@
 -- Counts, their sums and arrays of them, of any width.
 use mathlib.Core.Bool.{Bool, true, false}
-use mathlib.Core.List.{List, [], _∷_}
-use mathlib.Core.Path.{_≡_, refl, sym, _∙_, ap, fun-ext}
+use mathlib.Core.Path.{_≡_, refl}
 use Prim.Native.Nat.{ℕ, zero, suc, _+_, _*_, _≤_, _<_}
 use native.Mathlib.Decide.{decLt}
 use native.Mathlib.Nat.{mul-le-mul, mul-le-mul-right}
 use native.Mathlib.Omega.{arith}
 use borrow.Author.Count.{below-more}
-use lib.Dec.{T, ltb}
-use Rattle.model.specs.Finite.{listFrom}
-use Rattle.model.specs.Field.{Field, weigh, at}
+use lib.Dec.{T}
+use Rattle.model.specs.Field.{Field, weigh}
 use Rattle.model.specs.Norm.{ready}
 use Rattle.model.proofs.Exec.{Tells}
 use Rattle.model.proofs.Field.{weigh-next}

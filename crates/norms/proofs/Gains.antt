@@ -11,7 +11,7 @@ use Rattle.sheet.specs.Reader.{Reads}
 use Rattle.sheet.specs.declared.reader.Card.{Card}
 use Rattle.sheet.proofs.Laws.{card-lines}
 use Rattle.norms.specs.Norms.{lineGain}
-use Rattle.norms.proofs.Sweeps.{list-back}
+use Rattle.norms.proofs.Arrays.{list-back}
 
 -- The greatest gain of the lines from j on, of m lines.
 abbrev pub gainFrom : List ℕ → ℕ → ℕ → ℕ

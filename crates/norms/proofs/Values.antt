@@ -6,14 +6,14 @@ use Prim.Native.Nat.{ℕ, zero, suc, _+_, _-_, _*_, _≤_, _<_, min}
 use native.Mathlib.Decide.{ℕ-discrete}
 use native.Mathlib.Numerals.{add-one}
 use native.Mathlib.Omega.{arith}
-use borrow.Author.Tests.{eq-eqb, ne-eqb, lt-ltb, le-ltb}
+use borrow.Author.Tests.{eq-eqb, ne-eqb, le-ltb}
 use lib.Dec.{eqb, ltb}
 use Rattle.model.specs.Finite.{both, either, leastFrom}
 use Rattle.model.specs.Field.{Field, weigh, weighFrom}
 use Rattle.model.specs.Card.{Line}
 use Rattle.model.specs.Norm.{ready, sooner, best}
 use Rattle.model.specs.Base.{earlier}
-use Rattle.norms.specs.Norms.{readValue, lesserOf, lineValue}
+use Rattle.norms.specs.Sweep.{readValue, lesserOf, lineValue}
 
 -- "the norm of its first kind's tokens plus the norm of the rest"
 pub rest-none : (i m : ℕ) (w : ℕ → ℕ) (a : Field) → m ≡ 0 → weighFrom i m w a ≡ 0

@@ -1,1 +1,3 @@
-pub mod Norms
+-- What the contracts cite.
+pub mod Norms  -- arrays of norms, an accepted sheet, what its check answers
+pub mod Sweep  -- the parts of one sweep

@@ -1,14 +1,13 @@
--- The arrays that hold norms, and what the check of a whole sheet answers.
-use mathlib.Core.Bool.{Bool, true, false}
+-- The arrays that hold norms, an accepted sheet with its norms, and what the check of a whole sheet answers.
+use mathlib.Core.Bool.{Bool}
 use mathlib.Core.List.{List, _++_}
 use mathlib.Core.Path.{_≡_}
-use Prim.Native.Nat.{ℕ, suc, _-_, _≤_, min}
+use Prim.Native.Nat.{ℕ, suc, _-_, min}
 use lib.Dec.{eqb, ltb}
 use Rattle.model.specs.Finite.{listFrom}
-use Rattle.model.specs.Field.{Field, none, weigh, at}
-use Rattle.model.specs.Card.{Line}
-use Rattle.model.specs.Norm.{ready, sooner, best, kindNorm, norm}
-use Rattle.model.specs.Sheet.{kindCount, counts, lineOf, cardOf}
+use Rattle.model.specs.Field.{Field, none}
+use Rattle.model.specs.Norm.{kindNorm, norm}
+use Rattle.model.specs.Sheet.{lineOf, cardOf}
 use Rattle.model.specs.Limits.{mostKinds, normLimit}
 use Rattle.model.specs.Refusal.{Check, check, clear, refusal, firstOf, acceptChecks, Accepted}
 use Rattle.sheet.specs.Reader.{headerOf, Reads}
@@ -55,23 +54,3 @@ lowersNorm s j = ltb (norm (cardOf s) (lineOf s j .left)) (kindNorm (cardOf s) (
 -- The norm that line j leaves minus its kind's norm, or 0.
 unfoldable pub lineGain : List ℕ → ℕ → ℕ
 lineGain s j = norm (cardOf s) (lineOf s j .left) - kindNorm (cardOf s) (lineOf s j .kind)
-
--- No value of the array passes the bound.
-abbrev pub AtMost : ℕ → List ℕ → Type 0
-AtMost bound values = (k : ℕ) → at values k ≤ bound
-
--- One read and the values of what it leaves; 0 where a kind of it has no value.
-unfoldable pub readValue : ℕ → (ℕ → ℕ) → Field → ℕ
-readValue n w a = elim (ready n w a) [ true ↦ suc (weigh n w a) | false ↦ 0 ]
-
--- The lesser of two values, where 0 is none.
-unfoldable pub lesserOf : ℕ → ℕ → ℕ
-lesserOf x y = elim (eqb x 0) [ true ↦ y | false ↦ sooner x y ]
-
--- The value that a line gives kind k: that of a read by it, if it is a line of k.
-unfoldable pub lineValue : ℕ → (ℕ → ℕ) → ℕ → Line → ℕ
-lineValue n w k l = elim (eqb (l .kind) k) [ true ↦ readValue n w (l .left) | false ↦ 0 ]
-
--- The values after one more sweep over the kinds.
-unfoldable pub sweepOf : List ℕ → (ℕ → ℕ) → List ℕ
-sweepOf s w = arrayOf (counts (kindCount s) (λ k. min (best (kindCount s) w k (cardOf s .lines)) (suc normLimit)))

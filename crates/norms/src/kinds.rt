@@ -1,12 +1,13 @@
 // The norms of the kinds: as many sweeps as there are kinds, each of which finds every kind's best line by the values of the sweep before.
 ghost use mathlib.Core.Path.{_≡_};
-ghost use Prim.Native.Nat.{suc, min, _≤_, _<_};
+ghost use Prim.Native.Nat.{suc, min, _<_};
 ghost use Rattle.model.specs.Field.{at};
 ghost use Rattle.model.specs.Norm as model;
 ghost use Rattle.model.specs.Sheet.{lineOf, cardOf};
 ghost use Rattle.model.specs.Limits.{normLimit};
 ghost use Rattle.sheet.specs.Reader.{Reads};
-ghost use Rattle.norms.specs.Norms.{AtMost, lineValue, sweepOf, cutNorms};
+ghost use Rattle.norms.specs.Norms.{cutNorms};
+ghost use Rattle.norms.specs.Sweep.{AtMost, lineValue, sweepOf};
 use crate::weights::lesser;
 use crate::weights::read_value;
 use sheet::Card;

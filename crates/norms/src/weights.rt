@@ -5,7 +5,7 @@ ghost use lib.ListN.{length};
 ghost use Rattle.model.specs.Field.{weigh, at};
 ghost use Rattle.model.specs.Norm.{ready};
 ghost use Rattle.model.specs.Limits.{mostKinds, normLimit};
-ghost use Rattle.norms.specs.Norms.{AtMost, readValue, lesserOf};
+ghost use Rattle.norms.specs.Sweep.{AtMost, readValue, lesserOf};
 use sheet::Card;
 
 // Whether every kind that the counts hold has a value.

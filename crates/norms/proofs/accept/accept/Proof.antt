@@ -1,70 +1,52 @@
 -- Checks 1 to 8, then 9 and 10.
-use mathlib.Core.Path.{_≡_, sym, _∙_}
+use mathlib.Core.Path.{sym, _∙_}
 use Rattle.sheet.specs.Reader.{Reads}
 use Rattle.sheet.proofs.Laws.{kinds-most}
 use Rattle.norms.proofs.Acceptances.{sheet-refused, sheet-read, norms-refused, norms-passed}
 use borrow.Author.Needs.{needs}
 use Rattle.norms.proofs.accept.accept.Statement.{statement}
 use Rattle.norms.proofs.accept.accept.Tie as tie
-use Rattle.norms.proofs.accept.accept.Reads as reads
-use Rattle.norms.proofs.accept.accept.Lts as lts
-use Rattle.norms.proofs.accept.check_norms.Reads as check-norms-reads
-use Rattle.norms.proofs.accept.refuse.Reads as refuse-reads
-use Rattle.norms.proofs.kinds.kind_norms.Reads as kind-norms-reads
-use Rattle.sheet.proofs.check_sheet.Reads as check-sheet-reads
 
 -- The card was read from the sheet.
 card-told : (c : tie.After-card) → Reads (c .before .before .before .before .args .s .now) (c .card .given .0 .0)
 card-told c = sheet-read _ _ (sym (c .before .before .check-sheet .ensures) ∙ c .card .given .1)
 
--- src/accept.rt:26:11
 check-sheet-requires : tie.Need-check-sheet-requires
 check-sheet-requires c κs = search needs
 
--- src/accept.rt:27:28
 enum-known-number : tie.Need-enum-known-number
 enum-known-number c = search needs
 
--- src/accept.rt:27:47
 refuse-requires : tie.Need-refuse-requires
 refuse-requires c κs = search needs
 
--- src/accept.rt:28:25
 enum-known-card : tie.Need-enum-known-card
 enum-known-card c = search needs
 
--- src/accept.rt:29:17
 kind-norms-requires : tie.Need-kind-norms-requires
 kind-norms-requires c κs = card-told (c .before)
 
--- src/accept.rt:30:19
 check-norms-requires : tie.Need-check-norms-requires
 check-norms-requires c κs = kinds-most (card-told (c .before .before))
 
--- src/accept.rt:31:36
 enum-known-number-2 : tie.Need-enum-known-number-2
 enum-known-number-2 c = search needs
 
--- src/accept.rt:31:55
 refuse-requires-2 : tie.Need-refuse-requires-2
 refuse-requires-2 c κs = search needs
 
--- src/accept.rt:32:33
 enum-known-card-2 : tie.Need-enum-known-card-2
 enum-known-card-2 c = search needs
 
--- src/accept.rt:23:1
 returns : tie.Need-returns
 returns c = c .refuse .ensures ∙ sheet-refused _ _ _ (sym (c .before .before .before .before .check-sheet .ensures) ∙ c .before .before .number .given .1)
 
--- src/accept.rt:23:1
 returns-2 : tie.Need-returns-2
 returns-2 c =
     c .refuse2 .ensures
     ∙ norms-refused (card-told (c .before .before .before .before .before .before .before)) _ (c .before .before .before .before .before .kind-norms .ensures) _ _
     (sym (c .before .before .before .before .check-norms .ensures) ∙ c .before .before .number2 .given .1)
 
--- src/accept.rt:23:1
 returns-3 : tie.Need-returns-3
 returns-3 c =
     norms-passed (card-told (c .before .before .before .before .before .before)) _ (c .before .before .before .before .kind-norms .ensures) _

@@ -5,33 +5,24 @@ use Rattle.norms.proofs.Acceptances.{missing-stops, over-stops, norms-p
 use borrow.Author.Needs.{needs}
 use Rattle.norms.proofs.accept.check_norms.Statement.{statement}
 use Rattle.norms.proofs.accept.check_norms.Tie as tie
-use Rattle.norms.proofs.accept.check_norms.Reads as reads
-use Rattle.norms.proofs.accept.check_norms.Lts as lts
-use Rattle.norms.proofs.order.first_missing.Reads as first-missing-reads
-use Rattle.norms.proofs.order.first_over.Reads as first-over-reads
 
--- src/accept.rt:47:9
 first-missing-requires : tie.Need-first-missing-requires
 first-missing-requires c κs = search needs
 
--- src/accept.rt:49:9
 returns : tie.Need-returns
 returns c =
     let a = c .before .before .args in
     refuses _ _ _ _ (missing-stops (at (a .norms)) (a .card .kinds) _ (c .before .first-missing .ensures) (c .if1 .taken))
 
--- src/accept.rt:54:9
 first-over-requires : tie.Need-first-over-requires
 first-over-requires c κs = search needs
 
--- src/accept.rt:56:9
 returns-2 : tie.Need-returns-2
 returns-2 c =
     let a = c .before .before .before .before .args in
     refuses _ _ _ _
     (over-stops (at (a .norms)) (a .card .kinds) _ (c .before .before .before .first-missing .ensures) (c .before .before .if1 .left) _ (c .before .first-over .ensures) (c .if2 .taken))
 
--- src/accept.rt:42:1
 returns-3 : tie.Need-returns-3
 returns-3 c =
     let a = c .before .before .before .before .args in

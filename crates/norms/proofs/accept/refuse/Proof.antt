@@ -3,10 +3,7 @@ use Rattle.model.specs.Finite.{listFrom}
 use Rattle.norms.specs.Norms.{refusedWith}
 use Rattle.norms.proofs.accept.refuse.Statement.{statement}
 use Rattle.norms.proofs.accept.refuse.Tie as tie
-use Rattle.norms.proofs.accept.refuse.Reads as reads
-use Rattle.norms.proofs.accept.refuse.Lts as lts
 
--- src/accept.rt:65:1
 returns : tie.Need-returns
 unfolding refusedWith listFrom
 returns c = refl

@@ -1,7 +1,7 @@
 -- The measure is the number of kinds left.
 use borrow.Author.Needs.{needs}
-use mathlib.Core.Path.{_≡_, sym, _∙_}
-use Prim.Native.Nat.{_+_, _-_, _*_, _^_}
+use mathlib.Core.Path.{_≡_, sym}
+use Prim.Native.Nat.{_+_, _-_, _*_}
 use native.Mathlib.Omega.{arith}
 use Rattle.model.specs.Field.{weighFrom, at}
 use Rattle.norms.proofs.Values.{rest-none, first-rest}

@@ -5,15 +5,10 @@ use Rattle.model.specs.Field.{at}
 use Rattle.model.proofs.Field.{weigh-front}
 use Rattle.norms.proofs.fields.field_norm.Statement.{statement}
 use Rattle.norms.proofs.fields.field_norm.Tie as tie
-use Rattle.norms.proofs.fields.field_norm.Reads as reads
-use Rattle.norms.proofs.fields.field_norm.Lts as lts
-use Rattle.norms.proofs.fields.norm_from.Reads as norm-from-reads
 
--- src/fields.rt:15:5
 norm-from-requires : tie.Need-norm-from-requires
 norm-from-requires c κs = (omega arith, omega (arith, weigh-front (c .args .kinds) (at (c .args .norms)) (at (c .args .field))))
 
--- src/fields.rt:10:1
 returns : tie.Need-returns
 returns c = c .norm-from .ensures ∙ sym (weigh-front (c .before .args .kinds) (at (c .before .args .norms)) (at (c .before .args .field)))
 

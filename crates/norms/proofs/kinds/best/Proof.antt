@@ -1,6 +1,6 @@
 -- The value found is the best of the lines from j on.
 use borrow.Author.Needs.{needs}
-use mathlib.Core.Path.{_≡_, sym, _∙_, ap}
+use mathlib.Core.Path.{_≡_}
 use Prim.Native.Nat.{suc, _-_, _≤_, min}
 use native.Mathlib.Omega.{arith}
 use Rattle.model.specs.Finite.{listFrom}
@@ -12,10 +12,6 @@ use Rattle.norms.proofs.Sweeps.{best-start, best-more, best-end}
 use borrow.Author.Needs.{needs}
 use Rattle.norms.proofs.kinds.best.Statement.{statement}
 use Rattle.norms.proofs.kinds.best.Tie as tie
-use Rattle.norms.proofs.kinds.best.Reads as reads
-use Rattle.norms.proofs.kinds.best.Lts as lts
-use Rattle.norms.proofs.kinds.line_value.Reads as line-value-reads
-use Rattle.norms.proofs.weights.lesser.Reads as lesser-reads
 
 abbrev Inv-loop : tie.InvT-loop
 Inv-loop s card values kind found₀ j₀ found j = (j ≤ card .lines) × (found ≡ min (model.best (card .kinds) (at values) kind (listFrom (lineOf s) j (card .lines - j))) (suc normLimit))

@@ -1,56 +1,47 @@
 -- The values are those after so many sweeps.
 use borrow.Author.Needs.{needs}
-use mathlib.Core.Path.{_≡_, sym, _∙_, ap}
+use mathlib.Core.Path.{_≡_, _∙_, ap}
 use mathlib.Core.List.{List}
-use Prim.Native.Nat.{ℕ, suc, _-_, _≤_}
+use Prim.Native.Nat.{ℕ, _-_, _≤_}
 use native.Mathlib.Omega.{arith}
 use Rattle.model.specs.Field.{at}
-use Rattle.model.specs.Limits.{normLimit}
 use Rattle.sheet.proofs.Laws.{kinds-most}
-use Rattle.norms.specs.Norms.{AtMost, arrayOf, sweepOf}
+use Rattle.norms.specs.Norms.{arrayOf}
+use Rattle.norms.specs.Sweep.{sweepOf}
 use Rattle.norms.proofs.Sweeps.{swept, swept-most, swept-start, swept-next, swept-end}
 use Rattle.norms.proofs.kinds.kind_norms.Statement.{statement}
 use Rattle.norms.proofs.kinds.kind_norms.Tie as tie
-use Rattle.norms.proofs.kinds.kind_norms.Reads as reads
-use Rattle.norms.proofs.kinds.kind_norms.Lts as lts
-use Rattle.norms.proofs.kinds.sweep.Reads as sweep-reads
 
 abbrev Inv-loop : tie.InvT-loop
-Inv-loop s card kinds values₀ turn₀ values turn = (turn ≤ card .kinds) × (values ≡ arrayOf (swept s turn))
+Inv-loop s card kinds values₀ turn₀ values turn = (values ≡ arrayOf (swept s turn)) × (turn ≤ card .kinds)
 
 abbrev μ-loop : tie.MeasureT-loop
 μ-loop s card kinds values₀ turn₀ values turn = card .kinds - turn
 
--- src/kinds.rt:22:5
 loop-holds : tie.Need-loop-holds Inv-loop μ-loop
-loop-holds c = (search needs, swept-start (c .before .pre))
+loop-holds c = (swept-start (c .before .pre), search needs)
 
--- src/kinds.rt:23:13
 sweep-requires : tie.Need-sweep-requires Inv-loop μ-loop
 sweep-requires c κs =
     let R = c .before .before .before .pre in
-    (R, rw (c .before .loop .inv .1) (swept-most R (c .before .loop .turn)))
+    (R, rw (c .before .loop .inv .0) (swept-most R (c .before .loop .turn)))
 
--- src/kinds.rt:25:9
 add-turn : tie.Need-add-turn Inv-loop μ-loop
 add-turn c = omega (arith, kinds-most (c .before .before .before .before .pre))
 
--- src/kinds.rt:22:5
 loop-less : tie.Need-loop-less Inv-loop μ-loop
 loop-less c = search needs
 
--- src/kinds.rt:22:5
 loop-again : tie.Need-loop-again Inv-loop μ-loop
 loop-again c =
     let b = c .before .before .before .before in
     let l = c .before .before .loop in
-    (search needs, c .sweep .ensures ∙ ap (λ (xs : List ℕ). sweepOf (b .args .s .now) (at xs)) (l .inv .1) ∙ swept-next (b .pre) (l .turn))
+    (c .sweep .ensures ∙ ap (λ (xs : List ℕ). sweepOf (b .args .s .now) (at xs)) (l .inv .0) ∙ swept-next (b .pre) (l .turn), search needs)
 
--- src/kinds.rt:15:1
 returns : tie.Need-returns Inv-loop μ-loop
 returns c =
     let b = c .before .before .before in
-    c .before .loop .inv .1 ∙ swept-end (b .pre) (c .before .loop .turn) (omega arith)
+    c .before .loop .inv .0 ∙ swept-end (b .pre) (c .before .loop .turn) (omega arith)
 
 pub kind-norms-spec : {M : Type 1} → statement M
 kind-norms-spec =

@@ -4,18 +4,13 @@ use native.Mathlib.Omega.{arith}
 use Rattle.model.specs.Field.{at}
 use Rattle.model.specs.Sheet.{lineOf}
 use Rattle.model.specs.Limits.{normLimit}
-use Rattle.norms.specs.Norms.{readValue}
+use Rattle.norms.specs.Sweep.{readValue}
 use Rattle.norms.proofs.Values.{line-own, line-other}
 use Rattle.norms.proofs.Laws.{part-short, part-left}
 use borrow.Author.Needs.{needs}
 use borrow.Author.Needs.{needs}
 use Rattle.norms.proofs.kinds.line_value.Statement.{statement}
 use Rattle.norms.proofs.kinds.line_value.Tie as tie
-use Rattle.norms.proofs.kinds.line_value.Reads as reads
-use Rattle.norms.proofs.kinds.line_value.Lts as lts
-use Rattle.norms.proofs.weights.read_value.Reads as read-value-reads
-use Rattle.sheet.proofs.reader.Card.line_counts.Reads as line-counts-reads
-use Rattle.sheet.proofs.reader.Card.line_kind.Reads as line-kind-reads
 
 line-kind-requires : tie.Need-line-kind-requires
 line-kind-requires c κs = search needs

@@ -12,9 +12,6 @@ use Rattle.norms.specs.Norms.{arrayOf}
 use Rattle.norms.proofs.Sweeps.{bestCut, sweep-end}
 use Rattle.norms.proofs.kinds.sweep.Statement.{statement}
 use Rattle.norms.proofs.kinds.sweep.Tie as tie
-use Rattle.norms.proofs.kinds.sweep.Reads as reads
-use Rattle.norms.proofs.kinds.sweep.Lts as lts
-use Rattle.norms.proofs.kinds.best.Reads as best-reads
 
 abbrev Inv-loop : tie.InvT-loop
 Inv-loop s card values kinds next₀ k₀ next k = (k ≤ card .kinds) × (next ≡ arrayOf (counts k (bestCut (card .kinds) (at values) (cardOf s .lines))))
@@ -22,37 +19,29 @@ Inv-loop s card values kinds next₀ k₀ next k = (k ≤ card .kinds) × (next 
 abbrev μ-loop : tie.MeasureT-loop
 μ-loop s card values kinds next₀ k₀ next k = card .kinds - k
 
--- src/kinds.rt:39:5
 loop-holds : tie.Need-loop-holds Inv-loop μ-loop
 loop-holds c =
     let a = c .before .args in
     (search needs, counts-none (bestCut (a .card .kinds) (at (a .values)) (cardOf (a .s .now) .lines)) mostKinds)
 
--- src/kinds.rt:40:19
 best-requires : tie.Need-best-requires Inv-loop μ-loop
 best-requires c κs = search needs
 
--- src/kinds.rt:40:9
 mul-next : tie.Need-mul-next Inv-loop μ-loop
 mul-next c = omega (arith, kinds-most (c .before .before .before .before .pre .0))
 
--- src/kinds.rt:40:9
 array-write-next : tie.Need-array-write-next Inv-loop μ-loop
 array-write-next c = omega (arith, kinds-most (c .before .before .before .before .pre .0))
 
--- src/kinds.rt:41:9
 add-k : tie.Need-add-k Inv-loop μ-loop
 add-k c = omega (arith, kinds-most (c .before .before .before .before .pre .0))
 
--- src/kinds.rt:39:5
 loop-less : tie.Need-loop-less Inv-loop μ-loop
 loop-less c = search needs
 
--- src/kinds.rt:39:5
 loop-again : tie.Need-loop-again Inv-loop μ-loop
 loop-again c = (search needs, counts-more _ _ _ _ _ (array-write-next c) (c .before .before .loop .inv .1) (c .best .ensures))
 
--- src/kinds.rt:31:1
 returns : tie.Need-returns Inv-loop μ-loop
 returns c =
     let b = c .before .before .before in

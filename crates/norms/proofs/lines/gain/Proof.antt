@@ -1,6 +1,6 @@
 -- The most is that of the lines from j on.
 use borrow.Author.Needs.{needs}
-use mathlib.Core.Path.{_≡_, sym, _∙_, ap}
+use mathlib.Core.Path.{_≡_}
 use Prim.Native.Nat.{_-_, _≤_}
 use native.Mathlib.Omega.{arith}
 use Rattle.model.specs.Finite.{listFrom}
@@ -9,10 +9,6 @@ use Rattle.model.specs.Sheet.{lineOf, cardOf}
 use Rattle.norms.proofs.Gains.{gain-start, gain-more, gain-end}
 use Rattle.norms.proofs.lines.gain.Statement.{statement}
 use Rattle.norms.proofs.lines.gain.Tie as tie
-use Rattle.norms.proofs.lines.gain.Reads as reads
-use Rattle.norms.proofs.lines.gain.Lts as lts
-use Rattle.norms.proofs.lines.greater.Reads as greater-reads
-use Rattle.norms.proofs.lines.line_gain.Reads as line-gain-reads
 
 abbrev Inv-loop : tie.InvT-loop
 Inv-loop s card norms most₀ j₀ most j = (j ≤ card .lines) × (most ≡ gainOf (cardOf s .kinds) (kindNorm (cardOf s)) (listFrom (lineOf s) j (card .lines - j)))
@@ -20,29 +16,23 @@ Inv-loop s card norms most₀ j₀ most j = (j ≤ card .lines) × (most ≡ gai
 abbrev μ-loop : tie.MeasureT-loop
 μ-loop s card norms most₀ j₀ most j = j
 
--- src/lines.rt:39:5
 loop-holds : tie.Need-loop-holds Inv-loop μ-loop
 loop-holds c =
     let a = c .before .args in
     (search needs, gain-start (a .s .now) (a .card .lines))
 
--- src/lines.rt:40:9
 sub-j : tie.Need-sub-j Inv-loop μ-loop
 sub-j c = search needs
 
--- src/lines.rt:41:24
 line-gain-requires : tie.Need-line-gain-requires Inv-loop μ-loop
 line-gain-requires c κs = search needs
 
--- src/lines.rt:41:9
 greater-requires : tie.Need-greater-requires Inv-loop μ-loop
 greater-requires c κs = search needs
 
--- src/lines.rt:39:5
 loop-less : tie.Need-loop-less Inv-loop μ-loop
 loop-less c = search needs
 
--- src/lines.rt:39:5
 loop-again : tie.Need-loop-again Inv-loop μ-loop
 loop-again c =
     let a = c .before .before .before .before .before .args in
@@ -52,7 +42,6 @@ loop-again c =
           (c .before .line-gain .ensures) (c .greater .ensures),
     )
 
--- src/lines.rt:33:1
 returns : tie.Need-returns Inv-loop μ-loop
 returns c =
     let b = c .before .before .before in

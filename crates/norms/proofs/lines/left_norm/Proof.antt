@@ -3,23 +3,16 @@ use Rattle.norms.proofs.Laws.{part-short, part-fits, part-norm}
 use borrow.Author.Needs.{needs}
 use Rattle.norms.proofs.lines.left_norm.Statement.{statement}
 use Rattle.norms.proofs.lines.left_norm.Tie as tie
-use Rattle.norms.proofs.lines.left_norm.Reads as reads
-use Rattle.norms.proofs.lines.left_norm.Lts as lts
-use Rattle.norms.proofs.weights.weight.Reads as weight-reads
-use Rattle.sheet.proofs.reader.Card.line_counts.Reads as line-counts-reads
 
--- src/lines.rt:18:19
 line-counts-requires : tie.Need-line-counts-requires
 line-counts-requires c κs = search needs
 
--- src/lines.rt:18:5
 weight-requires : tie.Need-weight-requires
 weight-requires c κs =
     let b = c .before .before in
     let A = b .pre .0 in
     (part-short (A .reads) (b .args .j) _ (c .line-counts .ensures), part-fits A (b .args .j) _ (c .line-counts .ensures) (λ k. c .before .shared-slice-known .given k .fits))
 
--- src/lines.rt:13:1
 returns : tie.Need-returns
 returns c =
     let b = c .before .before .before in

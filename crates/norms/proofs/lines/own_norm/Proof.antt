@@ -1,33 +1,24 @@
 use mathlib.Core.Path.{_∙_, ap}
 use native.Mathlib.Omega.{arith}
 use Rattle.model.specs.Norm.{kindNorm}
-use Rattle.model.specs.Sheet.{lineOf, cardOf}
+use Rattle.model.specs.Sheet.{cardOf}
 use Rattle.norms.proofs.Laws.{kind-most, norm-at}
 use borrow.Author.Needs.{needs}
 use Rattle.norms.proofs.lines.own_norm.Statement.{statement}
 use Rattle.norms.proofs.lines.own_norm.Tie as tie
-use Rattle.norms.proofs.lines.own_norm.Reads as reads
-use Rattle.norms.proofs.lines.own_norm.Lts as lts
-use Rattle.norms.proofs.weights.wide32.Reads as wide32-reads
-use Rattle.sheet.proofs.reader.Card.line_kind.Reads as line-kind-reads
 
--- src/lines.rt:27:9
 line-kind-requires : tie.Need-line-kind-requires
 line-kind-requires c κs = search needs
 
--- src/lines.rt:28:16
 mul-norm : tie.Need-mul-norm
 mul-norm c = omega (arith, kind-most (c .before .before .pre .0 .reads) (c .before .before .args .j) (c .before .before .pre .1), c .line-kind .ensures)
 
--- src/lines.rt:28:16
 array-read-norm : tie.Need-array-read-norm
 array-read-norm c = omega (arith, kind-most (c .before .before .pre .0 .reads) (c .before .before .args .j) (c .before .before .pre .1), c .line-kind .ensures)
 
--- src/lines.rt:29:5
 wide32-requires : tie.Need-wide32-requires
 wide32-requires c κs = search needs
 
--- src/lines.rt:22:1
 returns : tie.Need-returns
 returns c =
     let b = c .before .before .before in

@@ -4,30 +4,22 @@ use Rattle.norms.proofs.Values.{earlier-tie, earlier-norm}
 use borrow.Author.Needs.{needs}
 use Rattle.norms.proofs.order.earlier.Statement.{statement}
 use Rattle.norms.proofs.order.earlier.Tie as tie
-use Rattle.norms.proofs.order.earlier.Reads as reads
-use Rattle.norms.proofs.order.earlier.Lts as lts
 
--- src/order.rt:18:15
 mul-own : tie.Need-mul-own
 mul-own c = search needs
 
--- src/order.rt:18:15
 array-read-own : tie.Need-array-read-own
 array-read-own c = search needs
 
--- src/order.rt:19:17
 mul-other : tie.Need-mul-other
 mul-other c = search needs
 
--- src/order.rt:19:17
 array-read-other : tie.Need-array-read-other
 array-read-other c = search needs
 
--- src/order.rt:21:9
 returns : tie.Need-returns
 returns c = sym (earlier-tie (at (c .before .args .t1)) (c .before .args .k) (c .before .args .j) (c .if1 .taken))
 
--- src/order.rt:13:1
 returns-2 : tie.Need-returns-2
 returns-2 c = sym (earlier-norm (at (c .before .args .t1)) (c .before .args .k) (c .before .args .j) (c .if1 .left))
 

@@ -3,15 +3,12 @@ use borrow.Author.Needs.{needs}
 use borrow.Author.Tests.{eq-eqb, ne-eqb}
 use mathlib.Core.Path.{_≡_, sym, _∙_}
 use Prim.Native.Nat.{_-_, _≤_}
-use native.Mathlib.Omega.{arith}
 use lib.Dec.{eqb}
 use Rattle.model.specs.Finite.{leastFrom}
 use Rattle.model.specs.Field.{at}
 use Rattle.norms.proofs.Values.{least-start, least-here, least-later, least-end}
 use Rattle.norms.proofs.order.first_missing.Statement.{statement}
 use Rattle.norms.proofs.order.first_missing.Tie as tie
-use Rattle.norms.proofs.order.first_missing.Reads as reads
-use Rattle.norms.proofs.order.first_missing.Lts as lts
 
 abbrev Inv-loop : tie.InvT-loop
 Inv-loop kinds norms k₀ k = (k ≤ kinds) × (leastFrom (λ j. eqb (at norms j) 0) 0 kinds ≡ leastFrom (λ j. eqb (at norms j) 0) k (kinds - k))
@@ -19,35 +16,27 @@ Inv-loop kinds norms k₀ k = (k ≤ kinds) × (leastFrom (λ j. eqb (at norms j
 abbrev μ-loop : tie.MeasureT-loop
 μ-loop kinds norms k₀ k = kinds - k
 
--- src/order.rt:32:5
 loop-holds : tie.Need-loop-holds Inv-loop μ-loop
 loop-holds c = (search needs, least-start _ (c .args .kinds))
 
--- src/order.rt:33:20
 mul-norm : tie.Need-mul-norm Inv-loop μ-loop
 mul-norm c = search needs
 
--- src/order.rt:33:20
 array-read-norm : tie.Need-array-read-norm Inv-loop μ-loop
 array-read-norm c = search needs
 
--- src/order.rt:35:13
 returns : tie.Need-returns Inv-loop μ-loop
 returns c = sym (c .before .before .loop .inv .1 ∙ least-here (λ j. eqb (at (c .before .before .before .args .t1) j) 0) (c .before .before .loop .k) (c .before .before .before .args .kinds) (c .before .loop-test .taken) (eq-eqb (at (c .before .before .before .args .t1) (c .before .before .loop .k)) 0 (c .if1 .taken)))
 
--- src/order.rt:37:9
 add-k : tie.Need-add-k Inv-loop μ-loop
 add-k c = search needs
 
--- src/order.rt:32:5
 loop-less : tie.Need-loop-less Inv-loop μ-loop
 loop-less c = search needs
 
--- src/order.rt:32:5
 loop-again : tie.Need-loop-again Inv-loop μ-loop
 loop-again c = (search needs, c .before .before .loop .inv .1 ∙ least-later (λ j. eqb (at (c .before .before .before .args .t1) j) 0) (c .before .before .loop .k) (c .before .before .before .args .kinds) (c .before .loop-test .taken) (ne-eqb (at (c .before .before .before .args .t1) (c .before .before .loop .k)) 0 (c .if1 .left)))
 
--- src/order.rt:27:1
 returns-2 : tie.Need-returns-2 Inv-loop μ-loop
 returns-2 c = sym (c .before .loop .inv .1 ∙ least-end (λ j. eqb (at (c .before .before .args .t1) j) 0) (c .before .loop .k) (c .before .before .args .kinds) (c .loop-test .left))
 

@@ -3,7 +3,6 @@ use borrow.Author.Needs.{needs}
 use borrow.Author.Tests.{lt-ltb, le-ltb}
 use mathlib.Core.Path.{_≡_, sym, _∙_}
 use Prim.Native.Nat.{_-_, _≤_}
-use native.Mathlib.Omega.{arith}
 use lib.Dec.{ltb}
 use Rattle.model.specs.Finite.{leastFrom}
 use Rattle.model.specs.Field.{at}
@@ -11,8 +10,6 @@ use Rattle.model.specs.Limits.{normLimit}
 use Rattle.norms.proofs.Values.{least-start, least-here, least-later, least-end}
 use Rattle.norms.proofs.order.first_over.Statement.{statement}
 use Rattle.norms.proofs.order.first_over.Tie as tie
-use Rattle.norms.proofs.order.first_over.Reads as reads
-use Rattle.norms.proofs.order.first_over.Lts as lts
 
 abbrev Inv-loop : tie.InvT-loop
 Inv-loop kinds norms k₀ k = (k ≤ kinds) × (leastFrom (λ j. ltb normLimit (at norms j)) 0 kinds ≡ leastFrom (λ j. ltb normLimit (at norms j)) k (kinds - k))
@@ -20,35 +17,27 @@ Inv-loop kinds norms k₀ k = (k ≤ kinds) × (leastFrom (λ j. ltb normLimit (
 abbrev μ-loop : tie.MeasureT-loop
 μ-loop kinds norms k₀ k = kinds - k
 
--- src/order.rt:48:5
 loop-holds : tie.Need-loop-holds Inv-loop μ-loop
 loop-holds c = (search needs, least-start _ (c .args .kinds))
 
--- src/order.rt:49:20
 mul-norm : tie.Need-mul-norm Inv-loop μ-loop
 mul-norm c = search needs
 
--- src/order.rt:49:20
 array-read-norm : tie.Need-array-read-norm Inv-loop μ-loop
 array-read-norm c = search needs
 
--- src/order.rt:51:13
 returns : tie.Need-returns Inv-loop μ-loop
 returns c = sym (c .before .before .loop .inv .1 ∙ least-here (λ j. ltb normLimit (at (c .before .before .before .args .t1) j)) (c .before .before .loop .k) (c .before .before .before .args .kinds) (c .before .loop-test .taken) (lt-ltb normLimit (at (c .before .before .before .args .t1) (c .before .before .loop .k)) (c .if1 .taken)))
 
--- src/order.rt:53:9
 add-k : tie.Need-add-k Inv-loop μ-loop
 add-k c = search needs
 
--- src/order.rt:48:5
 loop-less : tie.Need-loop-less Inv-loop μ-loop
 loop-less c = search needs
 
--- src/order.rt:48:5
 loop-again : tie.Need-loop-again Inv-loop μ-loop
 loop-again c = (search needs, c .before .before .loop .inv .1 ∙ least-later (λ j. ltb normLimit (at (c .before .before .before .args .t1) j)) (c .before .before .loop .k) (c .before .before .before .args .kinds) (c .before .loop-test .taken) (le-ltb normLimit (at (c .before .before .before .args .t1) (c .before .before .loop .k)) (c .if1 .left)))
 
--- src/order.rt:43:1
 returns-2 : tie.Need-returns-2 Inv-loop μ-loop
 returns-2 c = sym (c .before .loop .inv .1 ∙ least-end (λ j. ltb normLimit (at (c .before .before .args .t1) j)) (c .before .loop .k) (c .before .before .args .kinds) (c .loop-test .left))
 

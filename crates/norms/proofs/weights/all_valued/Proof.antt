@@ -10,8 +10,6 @@ use Rattle.model.proofs.Sweeps.{Ready}
 use Rattle.norms.proofs.Counts.{ready-true, ready-false, ready-more}
 use Rattle.norms.proofs.weights.all_valued.Statement.{statement}
 use Rattle.norms.proofs.weights.all_valued.Tie as tie
-use Rattle.norms.proofs.weights.all_valued.Reads as reads
-use Rattle.norms.proofs.weights.all_valued.Lts as lts
 
 abbrev Inv-loop : tie.InvT-loop
 Inv-loop counts values i₀ i = (i ≤ length counts) × Ready i (at values) (at counts)
@@ -19,42 +17,33 @@ Inv-loop counts values i₀ i = (i ≤ length counts) × Ready i (at values) (at
 abbrev μ-loop : tie.MeasureT-loop
 μ-loop counts values i₀ i = length counts - i
 
--- src/weights.rt:15:5
 loop-holds : tie.Need-loop-holds Inv-loop μ-loop
 loop-holds c = (search needs, λ k h. absurd (omega arith))
 
--- src/weights.rt:16:21
 mul-value : tie.Need-mul-value Inv-loop μ-loop
 mul-value c = search needs
 
--- src/weights.rt:16:21
 array-read-value : tie.Need-array-read-value Inv-loop μ-loop
 array-read-value c = search needs
 
--- src/weights.rt:18:20
 shared-slice-read-if2 : tie.Need-shared-slice-read-if2 Inv-loop μ-loop
 shared-slice-read-if2 c = search needs
 
--- src/weights.rt:19:17
 returns : tie.Need-returns Inv-loop μ-loop
 returns c =
     let a = c .before .before .before .before .before .args in
     let i = c .before .before .before .before .loop .i in
     sym (ready-false (length (a .counts .now)) (at (a .t1)) (at (a .counts .now)) i (omega arith) (c .if2 .taken) (c .before .before .if1 .taken))
 
--- src/weights.rt:22:9
 add-i : tie.Need-add-i Inv-loop μ-loop
 add-i c = search needs
 
--- src/weights.rt:15:5
 loop-less : tie.Need-loop-less Inv-loop μ-loop
 loop-less c = search needs
 
--- src/weights.rt:15:5
 loop-again : tie.Need-loop-again Inv-loop μ-loop
 loop-again c = (search needs, ready-more _ _ _ (c .before .before .loop .inv .1) (⊎-elim (λ u q. absurd (omega (arith, u .2 .left))) (λ u q. omega (arith, u .left)) (c .if1 .came)))
 
--- src/weights.rt:10:1
 returns-2 : tie.Need-returns-2 Inv-loop μ-loop
 returns-2 c =
     let a = c .before .before .args in

@@ -1,24 +1,18 @@
-use mathlib.Core.Path.{sym, _∙_}
+use mathlib.Core.Path.{sym}
 use native.Mathlib.Omega.{arith}
 use Rattle.norms.proofs.Values.{lesser-right, lesser-left, lesser-both}
 use Rattle.norms.proofs.weights.lesser.Statement.{statement}
 use Rattle.norms.proofs.weights.lesser.Tie as tie
-use Rattle.norms.proofs.weights.lesser.Reads as reads
-use Rattle.norms.proofs.weights.lesser.Lts as lts
 
--- src/weights.rt:67:9
 returns : tie.Need-returns
 returns c = sym (lesser-right (c .before .args .x) (c .before .args .y) (c .if1 .taken))
 
--- src/weights.rt:70:9
 returns-2 : tie.Need-returns-2
 returns-2 c = sym (lesser-left (c .before .before .args .x) (c .before .before .args .y) (c .before .if1 .left) (c .if2 .taken))
 
--- src/weights.rt:63:1
 returns-3 : tie.Need-returns-3
 returns-3 c = omega (arith, lesser-both (c .before .before .before .args .x) (c .before .before .before .args .y) (c .before .before .if1 .left) (c .before .if2 .left))
 
--- src/weights.rt:63:1
 returns-4 : tie.Need-returns-4
 returns-4 c = omega (arith, lesser-both (c .before .before .before .args .x) (c .before .before .before .args .y) (c .before .before .if1 .left) (c .before .if2 .left))
 

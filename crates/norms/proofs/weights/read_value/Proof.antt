@@ -7,16 +7,10 @@ use Rattle.norms.proofs.Values.{read-missing, read-ready}
 use borrow.Author.Needs.{needs}
 use Rattle.norms.proofs.weights.read_value.Statement.{statement}
 use Rattle.norms.proofs.weights.read_value.Tie as tie
-use Rattle.norms.proofs.weights.read_value.Reads as reads
-use Rattle.norms.proofs.weights.read_value.Lts as lts
-use Rattle.norms.proofs.weights.all_valued.Reads as all-valued-reads
-use Rattle.norms.proofs.weights.weight.Reads as weight-reads
 
--- src/weights.rt:52:8
 all-valued-requires : tie.Need-all-valued-requires
 all-valued-requires c κs = search needs
 
--- src/weights.rt:53:13
 weight-requires : tie.Need-weight-requires
 weight-requires c κs =
     let b = c .before .before .before in (
@@ -25,19 +19,15 @@ weight-requires c κs =
           (λ k. omega (arith, c .before .before .shared-slice-known .given k)),
     )
 
--- src/weights.rt:54:19
 cast-if2 : tie.Need-cast-if2
 cast-if2 c = search needs
 
--- src/weights.rt:55:21
 add-result : tie.Need-add-result
 add-result c = search needs
 
--- src/weights.rt:55:20
 cast-result : tie.Need-cast-result
 cast-result c = search needs
 
--- src/weights.rt:55:13
 returns : tie.Need-returns
 returns c =
     let b = c .before .before .before .before .before in
@@ -47,11 +37,9 @@ returns c =
       read-ready (length (b .args .counts .now)) (at (b .args .values)) (at (b .args .counts .now)) (sym (c .before .before .before .all-valued .ensures) ∙ c .before .before .if1 .taken),
     )
 
--- src/weights.rt:57:16
 add-result-2 : tie.Need-add-result-2
 add-result-2 c = search needs
 
--- src/weights.rt:57:9
 returns-2 : tie.Need-returns-2
 returns-2 c =
     let b = c .before .before .before .before .before in
@@ -61,7 +49,6 @@ returns-2 c =
       read-ready (length (b .args .counts .now)) (at (b .args .values)) (at (b .args .counts .now)) (sym (c .before .before .before .all-valued .ensures) ∙ c .before .before .if1 .taken),
     )
 
--- src/weights.rt:47:1
 returns-3 : tie.Need-returns-3
 returns-3 c =
     let b = c .before .before .before in

@@ -8,10 +8,6 @@ use Rattle.model.specs.Field.{weigh, at}
 use Rattle.norms.proofs.Counts.{SumMore, sum-more}
 use Rattle.norms.proofs.weights.weight.Statement.{statement}
 use Rattle.norms.proofs.weights.weight.Tie as tie
-use Rattle.norms.proofs.weights.weight.Reads as reads
-use Rattle.norms.proofs.weights.weight.Lts as lts
-use Rattle.norms.proofs.weights.wide32.Reads as wide32-reads
-use Rattle.norms.proofs.weights.wide8.Reads as wide8-reads
 
 abbrev Inv-loop : tie.InvT-loop
 Inv-loop counts values sum₀ i₀ sum i = (i ≤ length counts) × (sum ≡ weigh i (at values) (at counts))
@@ -19,28 +15,22 @@ Inv-loop counts values sum₀ i₀ sum i = (i ≤ length counts) × (sum ≡ wei
 abbrev μ-loop : tie.MeasureT-loop
 μ-loop counts values sum₀ i₀ sum i = length counts - i
 
--- src/weights.rt:35:5
 loop-holds : tie.Need-loop-holds Inv-loop μ-loop
 unfolding weigh
 loop-holds c = (search needs, search needs)
 
--- src/weights.rt:36:21
 mul-value : tie.Need-mul-value Inv-loop μ-loop
 mul-value c = search needs
 
--- src/weights.rt:36:21
 array-read-value : tie.Need-array-read-value Inv-loop μ-loop
 array-read-value c = search needs
 
--- src/weights.rt:37:22
 shared-slice-read-wide8 : tie.Need-shared-slice-read-wide8 Inv-loop μ-loop
 shared-slice-read-wide8 c = search needs
 
--- src/weights.rt:37:16
 wide8-requires : tie.Need-wide8-requires Inv-loop μ-loop
 wide8-requires c κs = search needs
 
--- src/weights.rt:37:35
 wide32-requires : tie.Need-wide32-requires Inv-loop μ-loop
 wide32-requires c κs = search needs
 
@@ -54,27 +44,21 @@ more c =
     sum-more (l .i) (length (a .counts .now)) (at (a .t1)) (at (a .counts .now)) (2 ^ 64) (l .sum) (c .before .wide8 .result) (c .wide32 .result) (omega arith)
     (c .before .before .before .before .before .before .pre .1) (l .inv .1) (c .before .wide8 .ensures) (c .wide32 .ensures)
 
--- src/weights.rt:37:16
 mul-sum : tie.Need-mul-sum Inv-loop μ-loop
 mul-sum c = record { fits = more c .product-fits }
 
--- src/weights.rt:37:9
 add-sum : tie.Need-add-sum Inv-loop μ-loop
 add-sum c = record { fits = more c .sum-fits }
 
--- src/weights.rt:38:9
 add-i : tie.Need-add-i Inv-loop μ-loop
 add-i c = search needs
 
--- src/weights.rt:35:5
 loop-less : tie.Need-loop-less Inv-loop μ-loop
 loop-less c = search needs
 
--- src/weights.rt:35:5
 loop-again : tie.Need-loop-again Inv-loop μ-loop
 loop-again c = (search needs, more c .sum-is)
 
--- src/weights.rt:28:1
 returns : tie.Need-returns Inv-loop μ-loop
 returns c =
     let z : c .before .loop .i ≡ length (c .before .before .before .args .counts .now) = omega arith in
