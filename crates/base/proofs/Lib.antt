@@ -11,7 +11,8 @@ pub mod Passing
 -- When a stage is settled; the verdict on two fields.
 pub mod Settled
 pub mod Verdict
--- Laws over plain lists, for the loops: tables of counts, the order of kinds, marks of classes.
+-- Laws over plain lists, for the loops: tables of counts, the order of kinds, marks of classes, lines that match.
 pub mod Tables
 pub mod Sooner
 pub mod Marks
+pub mod Matching

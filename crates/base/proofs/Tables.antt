@@ -1,6 +1,6 @@
 -- Laws over plain lists of counts, of any length, read as fields. The record of a loop is its invariant after i turns; its laws are the loop's begin, one turn, and end.
 -- Assumes nothing.
-use mathlib.Core.Bool.{true, false}
+use mathlib.Core.Bool.{Bool, true, false}
 use mathlib.Core.List.{List, _++_}
 use mathlib.Core.Logic.{_↔_}
 use mathlib.Core.Path.{_≡_, refl, sym, subst, ap, _∙_, fun-ext}
@@ -14,7 +14,7 @@ use lib.Seq.{getD-set-same, getD-set-other, getD-take, getD-drop, getD-append-ad
 use Rattle.model.specs.Field.{Field, none, _⊕_, times, unit, at, weigh}
 use Rattle.model.specs.Limits.{mostKinds}
 use Rattle.model.proofs.Field.{unit-same, unit-other, weigh-next}
-use Rattle.base.specs.Table.{rowIn, formIn, withRow, IsCandidate}
+use Rattle.base.specs.Table.{Under, rowPart, rowIn, formIn, withRow, IsCandidate}
 
 -- Equal fields have equal counts.
 pub at-kind : {a b : Field} → a ≡ b → (j : ℕ) → a j ≡ b j
@@ -96,16 +96,43 @@ module _ {old xs : List ℕ} {i : ℕ} (h : Cleared old xs i) where
       go j (yes p) = h .zeros j p
       go j (no p) = List·getD-eq-default xs 0 (omega arith)
 
+-- A count of a row is one of the table's.
+pub row-at : (t : List ℕ) (k j : ℕ) → j < mostKinds → rowIn t k j ≡ at t (k * mostKinds + j)
+unfolding rowIn rowPart
+row-at t k j h = getD-take mostKinds (drop (k * mostKinds) t) j 0 h ∙ getD-drop (k * mostKinds) t j 0
+
+pub row-past : (t : List ℕ) (k j : ℕ) → mostKinds ≤ j → rowIn t k j ≡ 0
+unfolding rowIn rowPart
+row-past t k j h = first-past (drop (k * mostKinds) t) mostKinds j h
+
+-- Rows are equal when the table's counts are.
+pub row-same : {a : Field} (t : List ℕ) (k : ℕ) → ((j : ℕ) → j < mostKinds → at t (k * mostKinds + j) ≡ a j) → ((j : ℕ) → mostKinds ≤ j → a j ≡ 0) → rowIn t k ≡ a
+row-same {a} t k f g = fun-ext (λ j. go j (decLt j mostKinds))
+  where
+    go : (j : ℕ) → Dec (j < mostKinds) → rowIn t k j ≡ a j
+    go j (yes l) = row-at t k j l ∙ f j l
+    go j (no l) = row-past t k j (omega arith) ∙ sym (g j (omega arith))
+
 -- The part of a table from row k to the next is the row.
-abbrev pub partOf : List ℕ → ℕ → List ℕ
-partOf t k = take (k * mostKinds + mostKinds - k * mostKinds) (drop (k * mostKinds) t)
+pub part-is : (t : List ℕ) (k : ℕ) → take (k * mostKinds + mostKinds - k * mostKinds) (drop (k * mostKinds) t) ≡ rowPart t k
+unfolding rowPart
+part-is t k = rw (add-sub-cancel-left (k * mostKinds) mostKinds)
 
-pub part-row : (t : List ℕ) (k : ℕ) → at (partOf t k) ≡ rowIn t k
+-- The list of a row, read as a field, is the row; it has no more counts than the table, and they are the table's.
+pub part-row : {xs : List ℕ} (t : List ℕ) (k : ℕ) → xs ≡ rowPart t k → at xs ≡ rowIn t k
 unfolding rowIn
-part-row t k = rw (add-sub-cancel-left (k * mostKinds) mostKinds)
+part-row t k e = rw e
 
-pub part-short : (t : List ℕ) (k : ℕ) → length (partOf t k) ≤ mostKinds
-part-short t k = omega (arith, length-take (k * mostKinds + mostKinds - k * mostKinds) (drop (k * mostKinds) t))
+pub part-length : {xs : List ℕ} (t : List ℕ) (k : ℕ) → k * mostKinds + mostKinds ≤ length t → xs ≡ rowPart t k → length xs ≡ mostKinds
+unfolding rowPart
+part-length t k l e = rw e (length-take-le mostKinds (drop (k * mostKinds) t) (omega (arith, length-drop (k * mostKinds) t)))
+
+pub part-under : {xs : List ℕ} {bound : ℕ} (t : List ℕ) (k : ℕ) → xs ≡ rowPart t k → Under bound t → Under bound xs
+part-under {xs} {bound} t k e f j = go (decLt j mostKinds)
+  where
+    go : Dec (j < mostKinds) → at xs j < bound
+    go (yes l) = rw (at-kind (part-row t k e) j, row-at t k j l) (f (k * mostKinds + j))
+    go (no l) = rw (at-kind (part-row t k e) j, row-past t k j (omega arith)) (omega (arith, f 0))
 
 -- A sum over fewer kinds is at most the sum over all.
 pub weigh-fewer : (k n : ℕ) (w : ℕ → ℕ) (a : Field) → k ≤ n → weigh k w a ≤ weigh n w a
@@ -129,24 +156,27 @@ unfolding formIn weigh
 formed-none f r e = record { fits = f; room = r; within = omega arith; kept = refl; total = e }
 
 module _ {counts rows old out : List ℕ} {k : ℕ} (h : Formed counts rows old out k) where
-  pub formed-room : length (partOf rows k) ≤ length out
-  formed-room = omega (arith, part-short rows k, h .room, h .kept)
+  pub formed-fits : k < length counts → k * mostKinds + mostKinds ≤ length rows
+  formed-fits l = omega (arith, h .fits)
 
-  pub formed-next : (x : ℕ) → x ≡ at counts k → (j : ℕ) → at out j + x * at (partOf rows k) j ≡ formIn (k + 1) rows (at counts) j
+  pub formed-next : {row : List ℕ} → row ≡ rowPart rows k → (x : ℕ) → x ≡ at counts k → (j : ℕ) → at out j + x * at row j ≡ formIn (k + 1) rows (at counts) j
   unfolding formIn
-  formed-next x e j = rw (at-kind (h .total) j, at-kind (part-row rows k) j, weigh-next, e)
+  formed-next r x e j = rw (at-kind (h .total) j, at-kind (part-row rows k r) j, weigh-next, e)
 
-  -- No sum on the way passes the bound.
-  pub formed-bound : {bound : ℕ} → ((j : ℕ) → formIn (length counts) rows (at counts) j < bound) → k < length counts → (x : ℕ) → x ≡ at counts k
-      → (j : ℕ) → at out j + x * at (partOf rows k) j < bound
+  -- What add_times asks: the row is no longer than out, and no sum on the way passes the bound.
+  pub formed-room : {row : List ℕ} → row ≡ rowPart rows k → k < length counts → length row ≤ length out
+  formed-room r l = omega (arith, part-length rows k (formed-fits l) r, h .room, h .kept)
+
+  pub formed-bound : {row : List ℕ} {bound : ℕ} → ((j : ℕ) → formIn (length counts) rows (at counts) j < bound) → row ≡ rowPart rows k → k < length counts → (x : ℕ) → x ≡ at counts k
+      → (j : ℕ) → at out j + x * at row j < bound
   unfolding formIn
-  formed-bound f l x e j =
-      omega (arith, formed-next x e j, f j, weigh-fewer (k + 1) (length counts) (λ k. rowIn rows k j) (at counts) (omega arith))
+  formed-bound f r l x e j =
+      omega (arith, formed-next r x e j, f j, weigh-fewer (k + 1) (length counts) (λ k. rowIn rows k j) (at counts) (omega arith))
 
-  pub formed-more : {new : List ℕ} (x : ℕ) → x ≡ at counts k → k < length counts → length new ≡ length out → at new ≡ at out ⊕ times x (at (partOf rows k))
+  pub formed-more : {row new : List ℕ} → row ≡ rowPart rows k → (x : ℕ) → x ≡ at counts k → k < length counts → length new ≡ length out → at new ≡ at out ⊕ times x (at row)
       → Formed counts rows old new (k + 1)
-  formed-more x e l s t =
-      record { fits = h .fits; room = h .room; within = omega arith; kept = s ∙ h .kept; total = t ∙ fun-ext (formed-next x e) }
+  formed-more r x e l s t =
+      record { fits = h .fits; room = h .room; within = omega arith; kept = s ∙ h .kept; total = t ∙ fun-ext (formed-next r x e) }
 
   pub formed-all : length counts ≤ k → at out ≡ formIn (length counts) rows (at counts)
   formed-all l = let e : k ≡ length counts = omega (arith, h .within) in rw e at (h .total)
@@ -178,6 +208,10 @@ tells-same a = (λ _. a, λ _. refl)
 
 pub tells-other : {A : Type 0} → (A → ⊥) → (false ≡ true) ↔ A
 tells-other h = (λ e. let z : _≡_ {A = ℕ} 0 1 = cc in absurd (omega arith), λ a. absurd (h a))
+
+-- What a comparison that answers false says.
+pub told-not : {A : Type 0} {b : Bool} → (b ≡ true) ↔ A → b ≡ false → A → ⊥
+told-not t e a = let u = t .1 a in let z : _≡_ {A = ℕ} 0 1 = cc in omega arith
 
 pub differ : {a b : Field} (i : ℕ) → (a i ≡ b i → ⊥) → (false ≡ true) ↔ (a ≡ b)
 differ i h = tells-other (λ e. h (at-kind e i))
@@ -242,23 +276,6 @@ subtracted-not i h =
       only = λ b f e. absurd (h (b i) (f i) (at-kind e i));
       empty = λ _. refl;
     }
-
--- A count of a row is one of the table's.
-pub row-at : (t : List ℕ) (k j : ℕ) → j < mostKinds → rowIn t k j ≡ at t (k * mostKinds + j)
-unfolding rowIn
-row-at t k j h = getD-take mostKinds (drop (k * mostKinds) t) j 0 h ∙ getD-drop (k * mostKinds) t j 0
-
-pub row-past : (t : List ℕ) (k j : ℕ) → mostKinds ≤ j → rowIn t k j ≡ 0
-unfolding rowIn
-row-past t k j h = first-past (drop (k * mostKinds) t) mostKinds j h
-
--- Rows are equal when the table's counts are.
-pub row-same : {a : Field} (t : List ℕ) (k : ℕ) → ((j : ℕ) → j < mostKinds → at t (k * mostKinds + j) ≡ a j) → ((j : ℕ) → mostKinds ≤ j → a j ≡ 0) → rowIn t k ≡ a
-row-same {a} t k f g = fun-ext (λ j. go j (decLt j mostKinds))
-  where
-    go : (j : ℕ) → Dec (j < mostKinds) → rowIn t k j ≡ a j
-    go j (yes l) = row-at t k j l ∙ f j l
-    go j (no l) = row-past t k j (omega arith) ∙ sym (g j (omega arith))
 
 -- A list with the counts from index a on replaced by those of another.
 module _ (t r : List ℕ) (a : ℕ) (fits : a + length r ≤ length t) where

@@ -12,9 +12,12 @@ use Rattle.model.specs.Base.{earlier}
 abbrev pub Under : ℕ → List ℕ → Type 0
 Under bound xs = (j : ℕ) → at xs j < bound
 
--- Row k of a flat table, as a field: "rows at kind times 32".
+-- Row k of a flat table, as a list and as a field: "rows at kind times 32".
+unfoldable pub rowPart : List ℕ → ℕ → List ℕ
+rowPart t k = take mostKinds (drop (k * mostKinds) t)
+
 unfoldable pub rowIn : List ℕ → ℕ → Field
-rowIn t k = at (take mostKinds (drop (k * mostKinds) t))
+rowIn t k = at (rowPart t k)
 
 -- The decomposition of a field of n kinds by the rows of a table.
 unfoldable pub formIn : ℕ → List ℕ → Field → Field

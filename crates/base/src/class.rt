@@ -1,4 +1,7 @@
 // Which lines match, and which classes of lines a field may use.
+use crate::effect::same_effect;
+use crate::table::form_of;
+use crate::table::row_of;
 ghost use mathlib.Core.Path.{_≡_};
 ghost use mathlib.Core.Bool.{true, false};
 ghost use mathlib.Core.Logic.{_↔_};
@@ -6,7 +9,7 @@ ghost use Prim.Native.Nat.{ℕ, _<_};
 ghost use lib.ListN.{length, getD};
 ghost use Rattle.model.specs.Field.{at};
 ghost use Rattle.base.specs.Table.{Under};
-ghost use Rattle.base.specs.Class.{MayUse};
+ghost use Rattle.base.specs.Class.{LineTables, MatchIn, LeastMatch, TellsMatch, MayUse};
 
 // The count of a kind: none past the kinds there are.
 fn count_of(field: &[u32], kind: usize) -> u32
@@ -49,4 +52,63 @@ pub fn same_marks(a: &[bool], b: &[bool]) -> bool
         i += 1;
     }
     true
+}
+
+// Whether lines i and j match: the same code and the same effect.
+pub fn lines_match(
+    codes: &[usize],
+    kinds: &[usize],
+    rows: &[u32],
+    forms: &[u64],
+    i: usize,
+    j: usize,
+) -> bool
+    requires { ⌜ LineTables (now codes) (now kinds) (now rows) (now forms) ⌝ }
+    requires { ⌜ (i < length (now kinds)) × (j < length (now kinds)) ⌝ }
+    ensures { λ r. ⌜ (r ≡ true) ↔ MatchIn (now (codes .entry)) (now (kinds .entry)) (now (rows .entry)) (now (forms .entry)) i j ⌝ }
+{
+    let code = codes[i];
+    let other = codes[j];
+    if code != other {
+        return false;
+    }
+    let kind = kinds[i];
+    let its = kinds[j];
+    same_effect(
+        form_of(forms, i),
+        row_of(rows, its),
+        form_of(forms, j),
+        row_of(rows, kind),
+    )
+}
+
+// The class of line j: the least line that it matches.
+pub fn class_of(codes: &[usize], kinds: &[usize], rows: &[u32], forms: &[u64], j: usize) -> usize
+    requires { ⌜ LineTables (now codes) (now kinds) (now rows) (now forms) ⌝ }
+    requires { ⌜ j < length (now kinds) ⌝ }
+    ensures { λ r. ⌜ LeastMatch (now (codes .entry)) (now (kinds .entry)) (now (rows .entry)) (now (forms .entry)) j r ⌝ }
+{
+    let mut i = 0;
+    while i < j {
+        if lines_match(codes, kinds, rows, forms, i, j) {
+            return i;
+        }
+        i += 1;
+    }
+    j
+}
+
+// The classes of all lines: two lines match just when their classes are the same number.
+pub fn classes(codes: &[usize], kinds: &[usize], rows: &[u32], forms: &[u64]) -> [usize; 256]
+    requires { ⌜ LineTables (now codes) (now kinds) (now rows) (now forms) ⌝ }
+    ensures { λ r. ⌜ TellsMatch (now (codes .entry)) (now (kinds .entry)) (now (rows .entry)) (now (forms .entry)) r ⌝ }
+    ensures { λ r. ⌜ Under 256 r ⌝ }
+{
+    let mut numbers = [0usize; 256];
+    let mut j = 0;
+    while j < kinds.len() {
+        numbers[j] = class_of(codes, kinds, rows, forms, j);
+        j += 1;
+    }
+    numbers
 }

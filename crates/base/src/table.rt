@@ -3,7 +3,7 @@ ghost use mathlib.Core.Path.{_≡_};
 ghost use Prim.Native.Nat.{ℕ, _+_, _*_, _^_, _≤_, _<_};
 ghost use lib.ListN.{length, replicate};
 ghost use Rattle.model.specs.Field.{none, _⊕_, times, at};
-ghost use Rattle.base.specs.Table.{formIn, withRow};
+ghost use Rattle.base.specs.Table.{rowPart, formIn, withRow};
 
 // A count of 32 bits as one of 64.
 pub fn wide(x: u32) -> u64
@@ -37,6 +37,26 @@ pub fn add_times(sum: &mut [u64], row: &[u32], count: u64)
     }
 }
 
+// Row k of a table of counts of 32 bits, as a part of it.
+pub fn row_of(rows: &[u32], k: usize) -> &[u32]
+    requires { ⌜ k * 32 + 32 ≤ length (now rows) ⌝ }
+    ensures { λ r. ⌜ now r ≡ rowPart (now (rows .entry)) k ⌝ }
+{
+    let start = k * 32;
+    let end = start + 32;
+    &rows[start..end]
+}
+
+// Row j of a table of counts of 64 bits, as a part of it: the form of what line j leaves.
+pub fn form_of(forms: &[u64], j: usize) -> &[u64]
+    requires { ⌜ j * 32 + 32 ≤ length (now forms) ⌝ }
+    ensures { λ r. ⌜ now r ≡ rowPart (now (forms .entry)) j ⌝ }
+{
+    let start = j * 32;
+    let end = start + 32;
+    &forms[start..end]
+}
+
 // Sets every count to 0.
 pub fn clear(out: &mut [u64])
     ensures { λ _. ⌜ at (now (out .exit)) ≡ none ⌝ }
@@ -57,9 +77,8 @@ pub fn form_of_counts(counts: &[u8], rows: &[u32], out: &mut [u64])
     clear(out);
     let mut k = 0;
     while k < counts.len() {
-        let a = k * 32;
-        let e = a + 32;
-        add_times(out, &rows[a..e], wide_byte(counts[k]));
+        let count = wide_byte(counts[k]);
+        add_times(out, row_of(rows, k), count);
         k += 1;
     }
 }
@@ -73,9 +92,8 @@ pub fn form_of_field(field: &[u32], rows: &[u32], out: &mut [u64])
     clear(out);
     let mut k = 0;
     while k < field.len() {
-        let a = k * 32;
-        let e = a + 32;
-        add_times(out, &rows[a..e], wide(field[k]));
+        let count = wide(field[k]);
+        add_times(out, row_of(rows, k), count);
         k += 1;
     }
 }
