@@ -1,14 +1,14 @@
 // The check of a whole sheet: refusals 1 to 8, then 9 and 10 from the norms of its kinds.
 ghost use mathlib.Core.Path.{_≡_};
 ghost use Prim.Native.Nat.{_≤_};
+ghost use lib.Dec.{eqb, ltb};
+ghost use Rattle.model.specs.Finite.{leastFrom};
 ghost use Rattle.model.specs.Field.{at};
-ghost use Rattle.model.specs.Limits.{mostKinds};
+ghost use Rattle.model.specs.Limits.{mostKinds, normLimit};
 ghost use Rattle.model.specs.Refusal.{firstOf};
 ghost use Rattle.sheet.specs.Reader.{outcome};
 ghost use Rattle.norms.specs.Norms.{normChecksBy, refusedWith, acceptanceOf};
 use crate::kinds::kind_norms;
-use crate::order::first_missing;
-use crate::order::first_over;
 use sheet::Card;
 use sheet::checks::Checked;
 use sheet::checks::check_sheet;
@@ -59,6 +59,38 @@ fn check_norms(card: Card, norms: [u32; 32]) -> Checked
         };
     }
     Checked::Passed(card)
+}
+
+// The lowest kind that has no norm; the number of kinds if each has one.
+fn first_missing(norms: [u32; 32], kinds: usize) -> usize
+    requires { ⌜ kinds ≤ mostKinds ⌝ }
+    ensures { λ r. ⌜ r ≡ leastFrom (λ k. eqb (at norms k) 0) 0 kinds ⌝ }
+{
+    let mut k = 0;
+    while k < kinds {
+        let norm = norms[k];
+        if norm == 0 {
+            return k;
+        }
+        k += 1;
+    }
+    k
+}
+
+// The lowest kind with a norm over the limit; the number of kinds if there is none.
+fn first_over(norms: [u32; 32], kinds: usize) -> usize
+    requires { ⌜ kinds ≤ mostKinds ⌝ }
+    ensures { λ r. ⌜ r ≡ leastFrom (λ k. ltb normLimit (at norms k)) 0 kinds ⌝ }
+{
+    let mut k = 0;
+    while k < kinds {
+        let norm = norms[k];
+        if Card::NORM < norm {
+            return k;
+        }
+        k += 1;
+    }
+    k
 }
 
 // The refusal with its number and place.

@@ -1,3 +1,4 @@
+-- The lowest kinds decide the checks.
 use mathlib.Core.Path.{refl}
 use Rattle.model.specs.Field.{at}
 use Rattle.sheet.proofs.Checking.{refuses, passes}

@@ -1,3 +1,4 @@
+-- The array of 0s is that of the empty field.
 use mathlib.Core.Path.{refl}
 use Rattle.model.specs.Finite.{listFrom}
 use Rattle.norms.specs.Norms.{refusedWith}

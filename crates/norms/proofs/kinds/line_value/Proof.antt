@@ -1,3 +1,4 @@
+-- The counts are those of the line, so the value is that of a read by it.
 use mathlib.Core.Path.{sym, _∙_, ap}
 use Prim.Native.Nat.{suc, min}
 use native.Mathlib.Omega.{arith}

@@ -1,3 +1,4 @@
+-- The sum over the line's part of the bytes is the norm of what the line leaves.
 use mathlib.Core.Path.{_∙_}
 use Rattle.norms.proofs.Laws.{part-short, part-fits, part-norm}
 use borrow.Author.Needs.{needs}

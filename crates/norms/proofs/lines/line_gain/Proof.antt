@@ -1,3 +1,4 @@
+-- By the norms of both.
 use native.Mathlib.Omega.{arith}
 use Rattle.norms.specs.Norms.{lineGain}
 use borrow.Author.Needs.{needs}

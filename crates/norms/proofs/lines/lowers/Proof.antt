@@ -1,3 +1,4 @@
+-- By the norms of both.
 use Rattle.norms.specs.Norms.{lowersNorm}
 use borrow.Author.Needs.{needs}
 use Rattle.norms.proofs.lines.lowers.Statement.{statement}

@@ -1,3 +1,4 @@
+-- The line's kind is one of the card's.
 use mathlib.Core.Path.{_∙_, ap}
 use native.Mathlib.Omega.{arith}
 use Rattle.model.specs.Norm.{kindNorm}

@@ -1,3 +1,4 @@
+-- By number where the norms are equal, else by norm.
 use mathlib.Core.Path.{sym}
 use Rattle.model.specs.Field.{at}
 use Rattle.norms.proofs.Values.{earlier-tie, earlier-norm}

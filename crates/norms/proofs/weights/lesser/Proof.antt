@@ -1,3 +1,4 @@
+-- Each of the four cases.
 use mathlib.Core.Path.{sym}
 use native.Mathlib.Omega.{arith}
 use Rattle.norms.proofs.Values.{lesser-right, lesser-left, lesser-both}

@@ -1,7 +1,10 @@
-use mathlib.Core.Path.{sym, _∙_}
+-- Cut where the sum reaches the limit; the sum fits, whatever bytes the counts are.
+use mathlib.Core.Path.{_≡_, sym, _∙_, ap}
+use Prim.Native.Nat.{suc}
 use native.Mathlib.Omega.{arith}
 use lib.ListN.{length}
 use Rattle.model.specs.Field.{at}
+use Rattle.norms.specs.Sweep.{readValue}
 use Rattle.norms.proofs.Bounds.{bytes-fit}
 use Rattle.norms.proofs.Values.{read-missing, read-ready}
 use borrow.Author.Needs.{needs}
@@ -28,26 +31,23 @@ add-result c = search needs
 cast-result : tie.Need-cast-result
 cast-result c = search needs
 
+-- The read's value, where each kind that is left has one.
+value-told : (c : tie.After-weight)
+    → let a = c .before .before .before .before .args in
+    readValue (length (a .counts .now)) (at (a .values)) (at (a .counts .now)) ≡ suc (c .weight .result)
+value-told c =
+    let a = c .before .before .before .before .args in
+    read-ready (length (a .counts .now)) (at (a .values)) (at (a .counts .now)) (sym (c .before .before .all-valued .ensures) ∙ c .before .if1 .taken)
+    ∙ ap suc (sym (c .weight .ensures))
+
 returns : tie.Need-returns
-returns c =
-    let b = c .before .before .before .before .before in
-    omega (
-      arith,
-      c .before .weight .ensures,
-      read-ready (length (b .args .counts .now)) (at (b .args .values)) (at (b .args .counts .now)) (sym (c .before .before .before .all-valued .ensures) ∙ c .before .before .if1 .taken),
-    )
+returns c = omega (arith, value-told (c .before))
 
 add-result-2 : tie.Need-add-result-2
 add-result-2 c = search needs
 
 returns-2 : tie.Need-returns-2
-returns-2 c =
-    let b = c .before .before .before .before .before in
-    omega (
-      arith,
-      c .before .weight .ensures,
-      read-ready (length (b .args .counts .now)) (at (b .args .values)) (at (b .args .counts .now)) (sym (c .before .before .before .all-valued .ensures) ∙ c .before .before .if1 .taken),
-    )
+returns-2 c = omega (arith, value-told (c .before))
 
 returns-3 : tie.Need-returns-3
 returns-3 c =

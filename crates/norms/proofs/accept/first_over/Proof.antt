@@ -8,8 +8,8 @@ use Rattle.model.specs.Finite.{leastFrom}
 use Rattle.model.specs.Field.{at}
 use Rattle.model.specs.Limits.{normLimit}
 use Rattle.norms.proofs.Values.{least-start, least-here, least-later, least-end}
-use Rattle.norms.proofs.order.first_over.Statement.{statement}
-use Rattle.norms.proofs.order.first_over.Tie as tie
+use Rattle.norms.proofs.accept.first_over.Statement.{statement}
+use Rattle.norms.proofs.accept.first_over.Tie as tie
 
 abbrev Inv-loop : tie.InvT-loop
 Inv-loop kinds norms k₀ k = (k ≤ kinds) × (leastFrom (λ j. ltb normLimit (at norms j)) 0 kinds ≡ leastFrom (λ j. ltb normLimit (at norms j)) k (kinds - k))
@@ -27,7 +27,7 @@ array-read-norm : tie.Need-array-read-norm Inv-loop μ-loop
 array-read-norm c = search needs
 
 returns : tie.Need-returns Inv-loop μ-loop
-returns c = sym (c .before .before .loop .inv .1 ∙ least-here (λ j. ltb normLimit (at (c .before .before .before .args .t1) j)) (c .before .before .loop .k) (c .before .before .before .args .kinds) (c .before .loop-test .taken) (lt-ltb normLimit (at (c .before .before .before .args .t1) (c .before .before .loop .k)) (c .if1 .taken)))
+returns c = sym (c .before .before .loop .inv .1 ∙ least-here _ (c .before .before .loop .k) (c .before .before .before .args .kinds) (c .before .loop-test .taken) (lt-ltb normLimit (at (c .before .before .before .args .t1) (c .before .before .loop .k)) (c .if1 .taken)))
 
 add-k : tie.Need-add-k Inv-loop μ-loop
 add-k c = search needs
@@ -36,10 +36,10 @@ loop-less : tie.Need-loop-less Inv-loop μ-loop
 loop-less c = search needs
 
 loop-again : tie.Need-loop-again Inv-loop μ-loop
-loop-again c = (search needs, c .before .before .loop .inv .1 ∙ least-later (λ j. ltb normLimit (at (c .before .before .before .args .t1) j)) (c .before .before .loop .k) (c .before .before .before .args .kinds) (c .before .loop-test .taken) (le-ltb normLimit (at (c .before .before .before .args .t1) (c .before .before .loop .k)) (c .if1 .left)))
+loop-again c = (search needs, c .before .before .loop .inv .1 ∙ least-later _ (c .before .before .loop .k) (c .before .before .before .args .kinds) (c .before .loop-test .taken) (le-ltb normLimit (at (c .before .before .before .args .t1) (c .before .before .loop .k)) (c .if1 .left)))
 
 returns-2 : tie.Need-returns-2 Inv-loop μ-loop
-returns-2 c = sym (c .before .loop .inv .1 ∙ least-end (λ j. ltb normLimit (at (c .before .before .args .t1) j)) (c .before .loop .k) (c .before .before .args .kinds) (c .loop-test .left))
+returns-2 c = sym (c .before .loop .inv .1 ∙ least-end _ (c .before .loop .k) (c .before .before .args .kinds) (c .loop-test .left))
 
 pub first-over-spec : {M : Type 1} → statement M
 first-over-spec =

@@ -7,8 +7,8 @@ use lib.Dec.{eqb}
 use Rattle.model.specs.Finite.{leastFrom}
 use Rattle.model.specs.Field.{at}
 use Rattle.norms.proofs.Values.{least-start, least-here, least-later, least-end}
-use Rattle.norms.proofs.order.first_missing.Statement.{statement}
-use Rattle.norms.proofs.order.first_missing.Tie as tie
+use Rattle.norms.proofs.accept.first_missing.Statement.{statement}
+use Rattle.norms.proofs.accept.first_missing.Tie as tie
 
 abbrev Inv-loop : tie.InvT-loop
 Inv-loop kinds norms k₀ k = (k ≤ kinds) × (leastFrom (λ j. eqb (at norms j) 0) 0 kinds ≡ leastFrom (λ j. eqb (at norms j) 0) k (kinds - k))
@@ -26,7 +26,7 @@ array-read-norm : tie.Need-array-read-norm Inv-loop μ-loop
 array-read-norm c = search needs
 
 returns : tie.Need-returns Inv-loop μ-loop
-returns c = sym (c .before .before .loop .inv .1 ∙ least-here (λ j. eqb (at (c .before .before .before .args .t1) j) 0) (c .before .before .loop .k) (c .before .before .before .args .kinds) (c .before .loop-test .taken) (eq-eqb (at (c .before .before .before .args .t1) (c .before .before .loop .k)) 0 (c .if1 .taken)))
+returns c = sym (c .before .before .loop .inv .1 ∙ least-here _ (c .before .before .loop .k) (c .before .before .before .args .kinds) (c .before .loop-test .taken) (eq-eqb (at (c .before .before .before .args .t1) (c .before .before .loop .k)) 0 (c .if1 .taken)))
 
 add-k : tie.Need-add-k Inv-loop μ-loop
 add-k c = search needs
@@ -35,10 +35,10 @@ loop-less : tie.Need-loop-less Inv-loop μ-loop
 loop-less c = search needs
 
 loop-again : tie.Need-loop-again Inv-loop μ-loop
-loop-again c = (search needs, c .before .before .loop .inv .1 ∙ least-later (λ j. eqb (at (c .before .before .before .args .t1) j) 0) (c .before .before .loop .k) (c .before .before .before .args .kinds) (c .before .loop-test .taken) (ne-eqb (at (c .before .before .before .args .t1) (c .before .before .loop .k)) 0 (c .if1 .left)))
+loop-again c = (search needs, c .before .before .loop .inv .1 ∙ least-later _ (c .before .before .loop .k) (c .before .before .before .args .kinds) (c .before .loop-test .taken) (ne-eqb (at (c .before .before .before .args .t1) (c .before .before .loop .k)) 0 (c .if1 .left)))
 
 returns-2 : tie.Need-returns-2 Inv-loop μ-loop
-returns-2 c = sym (c .before .loop .inv .1 ∙ least-end (λ j. eqb (at (c .before .before .args .t1) j) 0) (c .before .loop .k) (c .before .before .args .kinds) (c .loop-test .left))
+returns-2 c = sym (c .before .loop .inv .1 ∙ least-end _ (c .before .loop .k) (c .before .before .args .kinds) (c .loop-test .left))
 
 pub first-missing-spec : {M : Type 1} → statement M
 first-missing-spec =
