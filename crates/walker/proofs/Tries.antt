@@ -1,0 +1,90 @@
+-- Laws of the walk itself: the numbers of rounds tried one after another, within the session's allowance.
+use mathlib.Core.Bool.{Bool, true, false}
+use mathlib.Core.List.{List}
+use mathlib.Core.Path.{_≡_, refl, sym, ap, _∙_}
+use Prim.Native.Nat.{ℕ, zero, suc, _+_, _-_, _≤_, _<_}
+use native.Mathlib.Omega.{arith}
+use borrow.Author.Tests.{lt-ltb, le-ltb}
+use Rattle.model.specs.Field.{Field}
+use Rattle.model.specs.Card.{Line}
+use Rattle.model.specs.Walk.{Seen, examine, WalkAnswer, apart, together, spent, Walk, walkOn, walk}
+use Rattle.model.specs.Answer.{given, Session, Walked, within}
+use Rattle.walker.specs.Rounds.{examined}
+use Rattle.walker.specs.declared.game.Examined.the-variants.{Spent, Holds, Fails}
+use Rattle.walker.proofs.Cuts.{when-spent, when-known}
+
+spends : (v : Session) (w : Walk) → v .left < w .count → within v w ≡ record { answer = given spent; drawn = v .left; after = record { left = 0 } }
+unfolding within
+spends v w h = rw (lt-ltb (v .left) (w .count) h, within) refl
+
+finds : (v : Session) (w : Walk) → w .count ≤ v .left → within v w ≡ record { answer = given (w .found); drawn = w .count; after = record { left = v .left - w .count } }
+unfolding within
+finds v w h = rw (le-ltb (v .left) (w .count) h, within) refl
+
+module _ (xs : List Line) (a b : Field) where
+  walk-parts : (r n : ℕ) → examine xs r a b .holds ≡ false → walk xs a b r (suc n) ≡ record { found = apart r; count = examine xs r a b .count }
+  unfolding walk
+  walk-parts r n e = rw (e, walk) refl
+
+  walk-holds : (r n : ℕ) → examine xs r a b .holds ≡ true → walk xs a b r (suc n) ≡ walkOn (examine xs r a b .count) (walk xs a b (suc r) n)
+  unfolding walk
+  walk-holds r n e = rw (e, walk) refl
+
+  walk-counts : (r n : ℕ) → examine xs r a b .count ≤ walk xs a b r (suc n) .count
+  walk-counts r n = go (examine xs r a b .holds) refl
+    where
+      go : (h : Bool) → examine xs r a b .holds ≡ h → examine xs r a b .count ≤ walk xs a b r (suc n) .count
+      go true e = rw (walk-holds r n e) (omega arith)
+      go false e = rw (walk-parts r n e) (omega arith)
+
+  -- So much was drawn of the allowance v before the rounds r are tried, and `left` is left of it.
+  module _ (v : Session) (left r many : ℕ) (fits : left ≤ v .left) where
+    -- What is still to come, after what was drawn.
+    abbrev pub after : ℕ → ℕ → ℕ → Walked
+    after left r many = within v (walkOn (v .left - left) (walk xs a b r many))
+
+    pub none-left : many ≡ 0 → record { answer = given together; drawn = v .left - left; after = record { left = left } } ≡ after left r many
+    unfolding walk
+    none-left e =
+        let d : v .left - left + 0 ≡ v .left - left = omega arith in
+        let k : v .left - (v .left - left + 0) ≡ left = omega arith in
+        rw e (sym (finds v (walkOn (v .left - left) (walk xs a b r 0)) (omega arith) ∙ rw (k, d) refl))
+
+    -- The rounds r are tried.
+    module _ (n : ℕ) (some : many ≡ suc n) where
+      pub tries-spent : examined left (examine xs r a b) ≡ Spent → record { answer = given spent; drawn = v .left; after = record { left = 0 } } ≡ after left r many
+      tries-spent e =
+          let l : left < examine xs r a b .count = when-spent left (examine xs r a b) e in
+          rw some (sym (spends v (walkOn (v .left - left) (walk xs a b r (suc n))) (omega (arith, walk-counts r n))))
+
+      pub tries-apart : (u : ℕ) → examined left (examine xs r a b) ≡ Fails u → record { answer = given (apart r); drawn = v .left - u; after = record { left = u } } ≡ after left r many
+      tries-apart u e =
+          let t = when-known left (examine xs r a b) false u e in
+          let c : ℕ = examine xs r a b .count in
+          let d : v .left - u ≡ v .left - left + examine xs r a b .count = omega (arith, t .1, t .2) in
+          let k : u ≡ v .left - (v .left - left + examine xs r a b .count) = omega (arith, t .1, t .2) in
+          ap (λ (n : ℕ). drawing r n u) d
+          ∙ ap (λ (n : ℕ). drawing r (v .left - left + examine xs r a b .count) n) k
+          ∙ sym (finds v (walkOn (v .left - left) (record { found = apart r; count = examine xs r a b .count })) (omega (arith, t .1)))
+          ∙ ap (λ (w : Walk). within v (walkOn (v .left - left) w)) (sym (walk-parts r n (t .0)))
+          ∙ ap (λ (m : ℕ). after left r m) (sym some)
+        where
+          drawing : ℕ → ℕ → ℕ → Walked
+          drawing r drawn u = record { answer = given (apart r); drawn = drawn; after = record { left = u } }
+
+      pub tries-on : (u : ℕ) → examined left (examine xs r a b) ≡ Holds u → (u ≤ v .left) × (after u (r + 1) n ≡ after left r many)
+      tries-on u e =
+          let t = when-known left (examine xs r a b) true u e in
+          let q : r + 1 ≡ suc r = omega arith in
+          let d : v .left - u + walk xs a b (suc r) n .count ≡ v .left - left + (examine xs r a b .count + walk xs a b (suc r) n .count) = omega (arith, t .1, t .2) in
+          (omega (arith, t .2),
+            ap (λ (m : ℕ). after u m n) q
+            ∙ ap (λ (k : ℕ). within v (record { found = walk xs a b (suc r) n .found; count = k })) d
+            ∙ ap (λ (w : Walk). within v (walkOn (v .left - left) w)) (sym (walk-holds r n (t .0)))
+            ∙ ap (λ (m : ℕ). after left r m) (sym some))
+
+  -- Nothing is drawn yet.
+  pub starts : (v : Session) (r many : ℕ) → within v (walkOn (v .left - v .left) (walk xs a b r many)) ≡ within v (walk xs a b r many)
+  starts v r many =
+      let d : v .left - v .left + walk xs a b r many .count ≡ walk xs a b r many .count = omega arith in
+      ap (λ (k : ℕ). within v (record { found = walk xs a b r many .found; count = k })) d

@@ -1,0 +1,21 @@
+-- The walk's answer and session as the model has them: what each case of the enum stands for.
+use Rattle.model.specs.Walk.{WalkAnswer, apart, together, spent}
+use Rattle.model.specs.Answer as model
+use Rattle.walker.specs.declared.entry.Answer.{Answer}
+use Rattle.walker.specs.declared.entry.Answer.the-variants.{Apart, Together, Spent, Refused}
+use Rattle.walker.specs.declared.entry.Session.{Session}
+use Rattle.walker.specs.declared.entry.Walked.{Walked}
+
+-- "apart with the first number of rounds that parts the pair, together, or spent", or a refusal's number and place.
+abbrev pub answerOf : Answer → model.Answer WalkAnswer
+answerOf (Apart rounds) = model.given (apart rounds)
+answerOf Together = model.given together
+answerOf Spent = model.given spent
+answerOf (Refused number place) = model.refused number place
+
+abbrev pub sessionOf : Session → model.Session
+sessionOf v = record { left = v .left }
+
+-- The answer, the pairs drawn and the session afterwards.
+abbrev pub walkedOf : Walked → model.Walked
+walkedOf w = record { answer = answerOf (w .answer); drawn = w .drawn; after = sessionOf (w .session) }
