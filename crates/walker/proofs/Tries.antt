@@ -76,12 +76,13 @@ module _ (xs : List Line) (a b : Field) where
       tries-on u e =
           let t = when-known left (examine xs r a b) true u e in
           let q : r + 1 ≡ suc r = omega arith in
-          let d : v .left - u + walk xs a b (suc r) n .count ≡ v .left - left + (examine xs r a b .count + walk xs a b (suc r) n .count) = omega (arith, t .1, t .2) in
-          (omega (arith, t .2),
+          let d : v .left - u + walk xs a b (suc r) n .count ≡ v .left - left + (examine xs r a b .count + walk xs a b (suc r) n .count) = omega (arith, t .1, t .2) in (
+            omega (arith, t .2),
             ap (λ (m : ℕ). after u m n) q
-            ∙ ap (λ (k : ℕ). within v (record { found = walk xs a b (suc r) n .found; count = k })) d
-            ∙ ap (λ (w : Walk). within v (walkOn (v .left - left) w)) (sym (walk-holds r n (t .0)))
-            ∙ ap (λ (m : ℕ). after left r m) (sym some))
+                ∙ ap (λ (k : ℕ). within v (record { found = walk xs a b (suc r) n .found; count = k })) d
+                ∙ ap (λ (w : Walk). within v (walkOn (v .left - left) w)) (sym (walk-holds r n (t .0)))
+                ∙ ap (λ (m : ℕ). after left r m) (sym some),
+          )
 
   -- Nothing is drawn yet.
   pub starts : (v : Session) (r many : ℕ) → within v (walkOn (v .left - v .left) (walk xs a b r many)) ≡ within v (walk xs a b r many)

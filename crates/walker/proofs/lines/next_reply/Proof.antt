@@ -1,0 +1,57 @@
+-- The invariant: none of the lines passed is a reply. The measure is the lines left.
+use borrow.Author.Needs.{needs}
+use native.Mathlib.Omega.{arith}
+use mathlib.Core.Path.{sym, _∙_}
+use mathlib.Core.Bool.{Bool}
+use Prim.Native.Nat.{ℕ, _-_}
+use Rattle.model.specs.Field.{at}
+use Rattle.model.specs.Sheet.{lineOf}
+use Rattle.walker.specs.Rounds.{answers}
+use Rattle.walker.proofs.Searches.{Searching, searching-starts, searching-on, searching-found, searching-ends}
+use Rattle.walker.proofs.lines.next_reply.Statement.{statement}
+use Rattle.walker.proofs.lines.next_reply.Tie as tie
+
+abbrev Inv-loop : tie.InvT-loop
+Inv-loop card s left code b lines line₀ line = Searching (λ j. answers code (at b) (lineOf s j)) (card .lines) left line
+
+abbrev μ-loop : tie.MeasureT-loop
+μ-loop card s left code b lines line₀ line = card .lines - line
+
+sub-line : tie.Need-sub-line Inv-loop μ-loop
+sub-line c = search needs
+
+loop-holds : tie.Need-loop-holds Inv-loop μ-loop
+loop-holds c = searching-starts _ _ _ (c .before .pre .1)
+
+may-answer-requires : tie.Need-may-answer-requires Inv-loop μ-loop
+may-answer-requires c κs = search needs
+
+returns : tie.Need-returns Inv-loop μ-loop
+returns c = searching-found _ _ _ _ (c .before .before .before .loop .inv) (c .before .before .loop-test .taken) (sym (c .before .may-answer .ensures) ∙ c .if1 .taken)
+
+add-line : tie.Need-add-line Inv-loop μ-loop
+add-line c = search needs
+
+loop-less : tie.Need-loop-less Inv-loop μ-loop
+loop-less c = search needs
+
+loop-again : tie.Need-loop-again Inv-loop μ-loop
+loop-again c = searching-on _ _ _ _ (c .before .before .before .loop .inv) (c .before .before .loop-test .taken) (sym (c .before .may-answer .ensures) ∙ c .if1 .left)
+
+returns-2 : tie.Need-returns-2 Inv-loop μ-loop
+returns-2 c = searching-ends _ _ _ _ (c .before .loop .inv) (c .loop-test .left)
+
+pub next-reply-spec : {M : Type 1} → statement M
+next-reply-spec =
+    tie.close
+    (tie.spec
+    Inv-loop
+    μ-loop
+    sub-line
+    loop-holds
+    may-answer-requires
+    returns
+    add-line
+    loop-less
+    loop-again
+    returns-2)

@@ -1,0 +1,65 @@
+// The next line that a side may use.
+use sheet::Card;
+ghost use mathlib.Core.Path.{_≡_};
+ghost use Prim.Native.Nat.{_≤_, _<_};
+ghost use Rattle.model.specs.Field.{at};
+ghost use Rattle.model.specs.Sheet.{lineOf};
+ghost use Rattle.sheet.specs.Reader.{Reads};
+ghost use Rattle.walker.specs.Rounds.{usable, answers, nextLine};
+
+// Whether the field may use line j.
+fn may_use(card: Card, s: &[u8], j: usize, a: &[u32; 32]) -> bool
+    requires { ⌜ Reads (now s) card ⌝ }
+    requires { ⌜ j < card .lines ⌝ }
+    ensures { λ r. ⌜ r ≡ usable (at (now (a .entry))) (lineOf (now (s .entry)) j) ⌝ }
+{
+    let kind = card.line_kind(s, j);
+    0 < a[kind]
+}
+
+// Whether line j is a reply of that code by the field.
+fn may_answer(card: Card, s: &[u8], j: usize, code: usize, b: &[u32; 32]) -> bool
+    requires { ⌜ Reads (now s) card ⌝ }
+    requires { ⌜ j < card .lines ⌝ }
+    ensures { λ r. ⌜ r ≡ answers code (at (now (b .entry))) (lineOf (now (s .entry)) j) ⌝ }
+{
+    if may_use(card, s, j, b) {
+        card.line_code(s, j) == code
+    } else {
+        false
+    }
+}
+
+// The first of the last `left` lines that the field may use; the number of lines where it may use none.
+pub fn next_challenge(card: Card, s: &[u8], left: usize, a: &[u32; 32]) -> usize
+    requires { ⌜ Reads (now s) card ⌝ }
+    requires { ⌜ left ≤ card .lines ⌝ }
+    ensures { λ r. ⌜ r ≡ nextLine (usable (at (now (a .entry)))) (lineOf (now (s .entry))) (card .lines) left ⌝ }
+{
+    let lines = card.lines;
+    let mut line = lines - left;
+    while line < lines {
+        if may_use(card, s, line, a) {
+            return line;
+        }
+        line += 1;
+    }
+    line
+}
+
+// The first of the last `left` lines that is a reply of that code by the field; the number of lines where none is.
+pub fn next_reply(card: Card, s: &[u8], left: usize, code: usize, b: &[u32; 32]) -> usize
+    requires { ⌜ Reads (now s) card ⌝ }
+    requires { ⌜ left ≤ card .lines ⌝ }
+    ensures { λ r. ⌜ r ≡ nextLine (answers code (at (now (b .entry)))) (lineOf (now (s .entry))) (card .lines) left ⌝ }
+{
+    let lines = card.lines;
+    let mut line = lines - left;
+    while line < lines {
+        if may_answer(card, s, line, code, b) {
+            return line;
+        }
+        line += 1;
+    }
+    line
+}
