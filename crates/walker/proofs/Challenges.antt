@@ -1,122 +1,162 @@
--- Laws of challenges and replies by the last lines of a card: those that cannot be used are passed over, and the next one that can decides.
+-- Laws of challenges and replies by lines in order: those that cannot be used are passed over, and each of the others follows the one before.
 use mathlib.Core.Bool.{Bool, true, false}
-use mathlib.Core.List.{List, [], _∷_}
+use mathlib.Core.List.{List, [], _∷_, _++_}
 use mathlib.Core.Logic.{_⊎_, inl, inr}
 use mathlib.Core.Path.{_≡_, refl, sym, ap, _∙_}
 use Prim.Native.Nat.{ℕ, zero, suc, _+_, _-_, _≤_, _<_}
 use native.Mathlib.Omega.{arith}
 use lib.Dec.{T}
-use borrow.Author.Tests.{lt-ltb}
-use Rattle.model.specs.Finite.{both, listFrom, leastFrom}
+use Rattle.model.specs.Finite.{listFrom, leastFrom}
 use Rattle.model.specs.Field.{Field}
 use Rattle.model.specs.Card.{Line, fire}
-use Rattle.model.specs.Walk.{Seen, more, tryReplies, tryChallenges}
+use Rattle.model.specs.Walk.{Seen, tryReplies, tryChallenges}
 use Rattle.model.proofs.Lists.{least-cases}
-use Rattle.walker.specs.Rounds.{examined, usable, answers, lastLines, nextLine}
+use Rattle.walker.specs.Rounds.{outcome, examined, usable, answers, linesBetween, nextLine}
 use Rattle.walker.specs.declared.game.Examined.{Examined}
 use Rattle.walker.specs.declared.game.Examined.the-variants.{Spent, Holds, Fails}
-use Rattle.walker.proofs.Cuts.{under, ifHolds, ifFails, then-holds, then-fails}
+use Rattle.walker.proofs.Cuts.{under, follow, then-holds, then-fails}
 
 is-true : (b : Bool) → T b → b ≡ true
 is-true true t = refl
 is-true false t = absurd t
 
--- A search through the lines that f numbers: `stop` where none is left, `step` at a line that passes.
-module _ {A : Type 0} (f : ℕ → Line) (p : Line → Bool) (run : List Line → A)
-    (pass : (l : Line) (ls : List Line) → p l ≡ false → run (l ∷ ls) ≡ run ls) where
-  -- Lines that do not pass are passed over.
-  passed-over : (j l : ℕ) → run (listFrom f j l) ≡ run (listFrom f (leastFrom (λ i. p (f i)) j l) (j + l - leastFrom (λ i. p (f i)) j l))
-  unfolding leastFrom listFrom
-  passed-over j zero = let e : j + 0 - j ≡ 0 = omega arith in rw e refl
-  passed-over j (suc l) = go (p (f j)) refl (passed-over (suc j) l)
+-- The next line is one of those given, and passes the test where there is one.
+module _ (p : Line → Bool) (f : ℕ → Line) (from to : ℕ) (fits : from ≤ to) where
+  Least : ℕ → Type 0
+  Least k = (k ≡ from + (to - from)) ⊎ ((k < from + (to - from)) × T (p (f k)))
+
+  pub next-within : (from ≤ nextLine p f from to) × (nextLine p f from to ≤ to)
+  unfolding Least
+  next-within = let t = least-cases (λ j. p (f j)) from (to - from) in (t .1, go (t .0))
     where
-      k : ℕ
-      k = leastFrom (λ i. p (f i)) (suc j) l
-
-      go : (b : Bool) → p (f j) ≡ b → run (listFrom f (suc j) l) ≡ run (listFrom f k (suc j + l - k))
-          → run (f j ∷ listFrom f (suc j) l) ≡ run (listFrom f (elim b as (λ _. ℕ) [ true ↦ j | false ↦ k ]) (j + suc l - (elim b as (λ _. ℕ) [ true ↦ j | false ↦ k ])))
-      go true e r = let d : j + suc l - j ≡ suc l = omega arith in rw d refl
-      go false e r = let d : suc j + l - k ≡ j + suc l - k = omega arith in pass (f j) (listFrom f (suc j) l) e ∙ r ∙ ap (λ (n : ℕ). run (listFrom f k n)) d
-
-  module _ (m left : ℕ) (fits : left ≤ m) where
-    split : run (lastLines f m left) ≡ run (listFrom f (nextLine p f m left) (m - nextLine p f m left))
-    split = let d : m - left + left ≡ m = omega arith in passed-over (m - left) left ∙ ap (λ (n : ℕ). run (listFrom f (nextLine p f m left) (n - nextLine p f m left))) d
-
-    none-passes : nextLine p f m left ≡ m → run (lastLines f m left) ≡ run []
-    unfolding listFrom
-    none-passes e = let d : m - nextLine p f m left ≡ 0 = omega arith in split ∙ rw d refl
-
-    next-passes : nextLine p f m left < m → run (lastLines f m left) ≡ run (f (nextLine p f m left) ∷ lastLines f m (m - nextLine p f m left - 1))
-    unfolding listFrom
-    next-passes h =
-        let d : m - nextLine p f m left ≡ suc (m - nextLine p f m left - 1) = omega arith in
-        let e : m - (m - nextLine p f m left - 1) ≡ suc (nextLine p f m left) = omega arith in
-        split ∙ ap (λ (n : ℕ). run (listFrom f (nextLine p f m left) n)) d ∙ ap (λ (n : ℕ). run (f (nextLine p f m left) ∷ listFrom f n (m - nextLine p f m left - 1))) (sym e)
-
--- The next line is one of the lines left, and passes the test where there is one.
-module _ (p : Line → Bool) (f : ℕ → Line) (m left : ℕ) (fits : left ≤ m) where
-  pub next-within : (m - left ≤ nextLine p f m left) × (nextLine p f m left ≤ m)
-  next-within = let t = least-cases (λ j. p (f j)) (m - left) left in (t .1, go (t .0))
-    where
-      go : (nextLine p f m left ≡ m - left + left) ⊎ ((nextLine p f m left < m - left + left) × T (p (f (nextLine p f m left)))) → nextLine p f m left ≤ m
+      go : Least (nextLine p f from to) → nextLine p f from to ≤ to
       go (inl e) = omega arith
       go (inr e) = omega (arith, e .0)
 
-  pub next-test : nextLine p f m left < m → T (p (f (nextLine p f m left)))
-  next-test h = go (least-cases (λ j. p (f j)) (m - left) left .0)
+  pub next-test : nextLine p f from to < to → p (f (nextLine p f from to)) ≡ true
+  unfolding Least
+  next-test h = is-true _ (go (least-cases (λ j. p (f j)) from (to - from) .0))
     where
-      go : (nextLine p f m left ≡ m - left + left) ⊎ ((nextLine p f m left < m - left + left) × T (p (f (nextLine p f m left)))) → T (p (f (nextLine p f m left)))
+      go : Least (nextLine p f from to) → T (p (f (nextLine p f from to)))
       go (inl e) = absurd (omega arith)
       go (inr e) = e .1
 
-module _ (f : ℕ → Line) (see : Field → Field → Seen) (m left v k : ℕ) (fits : left ≤ m) where
-  -- "lines of the first side in line order, then of the second": the challenges of side a by the last lines.
-  module _ (xs : List Line) (a b : Field) (next : k ≡ nextLine (usable a) f m left) where
-    abbrev Run : List Line → Seen
-    Run ls = tryChallenges see xs a b ls
+-- A run through lines: at none of them it is h, a line that does not pass is passed over, and after one that does, the rest follow where it is h.
+pub record Runs (p : Line → Bool) (h : Bool) (one : Line → Seen) (run : List Line → Seen) : Type 0 where
+  pub none : run [] ≡ record { holds = h; count = 0 }
+  pub pass : (l : Line) (ls : List Line) → p l ≡ false → run (l ∷ ls) ≡ run ls
+  pub step : (v : ℕ) (l : Line) (ls : List Line) → p l ≡ true → examined v (run (l ∷ ls)) ≡ follow h (examined v (one l)) (run ls)
 
-    pass : (l : Line) (ls : List Line) → usable a l ≡ false → Run (l ∷ ls) ≡ Run ls
-    unfolding tryChallenges
-    pass l ls e = rw (e, tryChallenges) refl
+module _ {p : Line → Bool} {h : Bool} {one : Line → Seen} {run : List Line → Seen} (runs : Runs p h one run) where
+  empty : (v : ℕ) → outcome h v ≡ examined v (run [])
+  empty v = let z : v - 0 ≡ v = omega arith in sym (ap (examined v) (runs .none) ∙ under v h 0 (omega arith) ∙ ap (outcome h) z)
 
-    pub no-challenge : k ≡ m → Holds v ≡ examined v (Run (lastLines f m left))
-    unfolding tryChallenges
-    no-challenge e =
-        let z : v - 0 ≡ v = omega arith in
-        sym (ap (examined v) (none-passes f (usable a) Run pass m left fits (sym next ∙ e)) ∙ under v true 0 (omega arith) ∙ ap Holds z)
+  follow-empty : (v : ℕ) (q : Seen) → examined v q ≡ follow h (outcome h v) q
+  follow-empty v q = go h
+    where
+      go : (h : Bool) → examined v q ≡ follow h (outcome h v) q
+      go true = refl
+      go false = refl
 
-    pub challenge-next : k < m
-        → examined v (Run (lastLines f m left)) ≡ ifHolds (examined v (tryReplies see (f k) (fire (f k) a) b xs)) (Run (lastLines f m (m - k - 1)))
-    unfolding tryChallenges
-    challenge-next h = ap (examined v) (at-line ∙ rw (test, tryChallenges) refl) ∙ then-holds v (Run (lastLines f m (m - k - 1))) (tryReplies see (f k) (fire (f k) a) b xs)
+  -- Some lines, and then others.
+  appended : (ls ms : List Line) (v : ℕ) → examined v (run (ls ++ ms)) ≡ follow h (examined v (run ls)) (run ms)
+  appended [] ms v = follow-empty v (run ms) ∙ ap (λ (e : Examined). follow h e (run ms)) (empty v)
+  appended (l ∷ ls) ms v = go (p l) refl (appended ls ms)
+    where
+      both : (h : Bool) (e : Examined) → ((v : ℕ) → examined v (run (ls ++ ms)) ≡ follow h (examined v (run ls)) (run ms))
+          → follow h e (run (ls ++ ms)) ≡ follow h (follow h e (run ls)) (run ms)
+      both true (Holds u) t = t u
+      both true (Fails u) t = refl
+      both true Spent t = refl
+      both false (Holds u) t = refl
+      both false (Fails u) t = t u
+      both false Spent t = refl
+
+      go : (b : Bool) → p l ≡ b → ((v : ℕ) → examined v (run (ls ++ ms)) ≡ follow h (examined v (run ls)) (run ms))
+          → examined v (run (l ∷ (ls ++ ms))) ≡ follow h (examined v (run (l ∷ ls))) (run ms)
+      go false e t = ap (examined v) (runs .pass l (ls ++ ms) e) ∙ t v ∙ ap (λ (s : Seen). follow h (examined v s) (run ms)) (sym (runs .pass l ls e))
+      go true e t =
+          runs .step v l (ls ++ ms) e
+          ∙ both h (examined v (one l)) t
+          ∙ ap (λ (x : Examined). follow h x (run ms)) (sym (runs .step v l ls e))
+
+  module _ (f : ℕ → Line) where
+    -- Lines that do not pass are passed over.
+    passed-over : (j m : ℕ) → run (listFrom f j m) ≡ run (listFrom f (leastFrom (λ i. p (f i)) j m) (j + m - leastFrom (λ i. p (f i)) j m))
+    unfolding leastFrom listFrom
+    passed-over j zero = let e : j + 0 - j ≡ 0 = omega arith in rw e refl
+    passed-over j (suc m) = go (p (f j)) refl (passed-over (suc j) m)
       where
-        at-line : Run (lastLines f m left) ≡ Run (f k ∷ lastLines f m (m - k - 1))
-        at-line = rw next (next-passes f (usable a) Run pass m left fits (rw next at h))
+        k : ℕ
+        k = leastFrom (λ i. p (f i)) (suc j) m
 
-        test : usable a (f k) ≡ true
-        test = is-true (usable a (f k)) (rw next (next-test (usable a) f m left fits (rw next at h)))
+        go : (b : Bool) → p (f j) ≡ b → run (listFrom f (suc j) m) ≡ run (listFrom f k (suc j + m - k))
+            → run (f j ∷ listFrom f (suc j) m) ≡ run (listFrom f (elim b as (λ _. ℕ) [ true ↦ j | false ↦ k ]) (j + suc m - (elim b as (λ _. ℕ) [ true ↦ j | false ↦ k ])))
+        go true e r = let d : j + suc m - j ≡ suc m = omega arith in rw d refl
+        go false e r = let d : suc j + m - k ≡ j + suc m - k = omega arith in runs .pass (f j) (listFrom f (suc j) m) e ∙ r ∙ ap (λ (n : ℕ). run (listFrom f k n)) d
 
-  -- "replies in line order up to the first that holds": the replies of b by the last lines, to the challenge l that left x.
-  module _ (l : Line) (x b : Field) (next : k ≡ nextLine (answers (l .code) b) f m left) where
-    abbrev RunReplies : List Line → Seen
-    RunReplies ms = tryReplies see l x b ms
+    joined-lines : (j m n : ℕ) → listFrom f j (m + n) ≡ listFrom f j m ++ listFrom f (j + m) n
+    unfolding listFrom
+    joined-lines j zero n = let e : 0 + n ≡ n = omega arith in let d : j ≡ j + 0 = omega arith in ap (listFrom f j) e ∙ ap (λ (i : ℕ). listFrom f i n) d
+    joined-lines j (suc m) n =
+        let e : suc m + n ≡ suc (m + n) = omega arith in
+        let d : suc j + m ≡ j + suc m = omega arith in
+        ap (listFrom f j) e
+        ∙ ap (λ (ls : List Line). f j ∷ ls) (joined-lines (suc j) m n)
+        ∙ ap (λ (i : ℕ). f j ∷ (listFrom f (suc j) m ++ listFrom f i n)) d
 
-    pass-reply : (n : Line) (ms : List Line) → answers (l .code) b n ≡ false → RunReplies (n ∷ ms) ≡ RunReplies ms
-    unfolding tryReplies
-    pass-reply n ms e = rw (e, tryReplies) refl
+    module _ (from to v : ℕ) (fits : from ≤ to) where
+      split : run (linesBetween f from to) ≡ run (linesBetween f (nextLine p f from to) to)
+      split =
+          let d : from + (to - from) ≡ to = omega arith in
+          passed-over from (to - from)
+          ∙ ap (λ (n : ℕ). run (listFrom f (nextLine p f from to) (n - nextLine p f from to))) d
 
-    pub no-reply : k ≡ m → Fails v ≡ examined v (RunReplies (lastLines f m left))
-    unfolding tryReplies
-    no-reply e =
-        let z : v - 0 ≡ v = omega arith in
-        sym (ap (examined v) (none-passes f (answers (l .code) b) RunReplies pass-reply m left fits (sym next ∙ e)) ∙ under v false 0 (omega arith) ∙ ap Fails z)
+      -- None of the lines passes.
+      pub run-none : (k : ℕ) → k ≡ nextLine p f from to → k ≡ to → outcome h v ≡ examined v (run (linesBetween f from to))
+      unfolding listFrom
+      run-none k e d =
+          let z : to - nextLine p f from to ≡ 0 = omega arith in
+          empty v ∙ ap (examined v) (sym (split ∙ rw z refl))
 
-    pub reply-next : k < m → examined v (RunReplies (lastLines f m left)) ≡ ifFails (examined v (see x (fire (f k) b))) (RunReplies (lastLines f m (m - k - 1)))
-    unfolding tryReplies
-    reply-next h = ap (examined v) (at-line ∙ rw (test, tryReplies) refl) ∙ then-fails v (RunReplies (lastLines f m (m - k - 1))) (see x (fire (f k) b))
-      where
-        at-line : RunReplies (lastLines f m left) ≡ RunReplies (f k ∷ lastLines f m (m - k - 1))
-        at-line = rw next (next-passes f (answers (l .code) b) RunReplies pass-reply m left fits (rw next at h))
+      -- The next line that passes, and then the others.
+      pub run-next : (k : ℕ) → k ≡ nextLine p f from to → ¬ (k ≡ to)
+          → examined v (run (linesBetween f from to)) ≡ follow h (examined v (one (f k))) (run (linesBetween f (k + 1) to))
+      unfolding listFrom
+      run-next k e n =
+          let t = next-within p f from to fits in
+          let l : k < to = omega (arith, t .1) in
+          let d : to - k ≡ suc (to - (k + 1)) = omega arith in
+          let z : suc k ≡ k + 1 = omega arith in
+          ap (examined v) (split ∙ ap (λ (i : ℕ). run (linesBetween f i to)) (sym e) ∙ ap (λ (m : ℕ). run (listFrom f k m)) d)
+          ∙ runs .step v (f k) (listFrom f (suc k) (to - (k + 1))) (rw e (next-test p f from to fits (rw e at l)))
+          ∙ ap (λ (i : ℕ). follow h (examined v (one (f k))) (run (listFrom f i (to - (k + 1))))) z
 
-        test : answers (l .code) b (f k) ≡ true
-        test = is-true (answers (l .code) b (f k)) (rw next (next-test (answers (l .code) b) f m left fits (rw next at h)))
+      -- The lines up to a middle, and then the others.
+      pub run-halves : (middle : ℕ) → from ≤ middle → middle ≤ to
+          → examined v (run (linesBetween f from to)) ≡ follow h (examined v (run (linesBetween f from middle))) (run (linesBetween f middle to))
+      run-halves middle a b =
+          let d : to - from ≡ middle - from + (to - middle) = omega arith in
+          let z : from + (middle - from) ≡ middle = omega arith in
+          ap (λ (m : ℕ). examined v (run (listFrom f from m))) d
+          ∙ ap (λ (ls : List Line). examined v (run ls)) (joined-lines from (middle - from) (to - middle))
+          ∙ appended (linesBetween f from middle) (listFrom f (from + (middle - from)) (to - middle)) v
+          ∙ ap (λ (i : ℕ). follow h (examined v (run (linesBetween f from middle))) (run (listFrom f i (to - middle)))) z
+
+-- "lines of the first side in line order, then of the second": the challenges of side a.
+pub challenges : (see : Field → Field → Seen) (xs : List Line) (a b : Field) → Runs (usable a) true (λ l. tryReplies see l (fire l a) b xs) (tryChallenges see xs a b)
+unfolding tryChallenges
+challenges see xs a b = record {
+  none = refl;
+  pass = λ l ls e. rw (e, tryChallenges) refl;
+  step = λ v l ls e. ap (examined v) (rw (e, tryChallenges) refl) ∙ then-holds v (tryChallenges see xs a b ls) (tryReplies see l (fire l a) b xs);
+}
+
+-- "replies in line order up to the first that holds": the replies of b to the challenge l that left x.
+pub replies : (see : Field → Field → Seen) (l : Line) (x b : Field) → Runs (answers (l .code) b) false (λ m. see x (fire m b)) (tryReplies see l x b)
+unfolding tryReplies
+replies see l x b = record {
+  none = refl;
+  pass = λ m ms e. rw (e, tryReplies) refl;
+  step = λ v m ms e. ap (examined v) (rw (e, tryReplies) refl) ∙ then-fails v (tryReplies see l x b ms) (see x (fire m b));
+}

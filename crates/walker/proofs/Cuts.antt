@@ -18,16 +18,14 @@ pub under : (left : ℕ) (h : Bool) (n : ℕ) → n ≤ left → within left h n
 unfolding within
 under left h n l = rw (le-ltb left n l, within)
 
--- One part after another, by what the first comes to: the second follows where the first holds, or where it fails.
-abbrev pub ifHolds : Examined → Seen → Examined
-ifHolds (Holds left) q = examined left q
-ifHolds (Fails left) q = Fails left
-ifHolds Spent q = Spent
-
-abbrev pub ifFails : Examined → Seen → Examined
-ifFails (Holds left) q = Holds left
-ifFails (Fails left) q = examined left q
-ifFails Spent q = Spent
+-- One part after another: the second follows where the first holds (or where it fails), and else the first stands.
+abbrev pub follow : Bool → Examined → Seen → Examined
+follow true (Holds left) q = examined left q
+follow true (Fails left) q = Fails left
+follow true Spent q = Spent
+follow false (Holds left) q = Holds left
+follow false (Fails left) q = examined left q
+follow false Spent q = Spent
 
 -- Of m and n pairs the m are drawn first.
 pub joined : (left : ℕ) (h : Bool) (m n : ℕ) → m ≤ left → within left h (m + n) ≡ within (left - m) h n
@@ -40,21 +38,21 @@ joined left h m n p = go (decLt (left - m) n)
         under left h (m + n) (omega arith) ∙ ap (outcome h) e ∙ sym (under (left - m) h n (omega arith))
 
 module _ (left : ℕ) (q : Seen) where
-  pub then-holds : (p : Seen) → examined left (elim (p .holds) as (λ _. Seen) [ true ↦ more (p .count) q | false ↦ p ]) ≡ ifHolds (examined left p) q
-  then-holds p = go (p .holds) (p .count) refl (decLt left (p .count))
+  pub then-holds : (p : Seen) → examined left (elim (p .holds) as (λ _. Seen) [ true ↦ more (p .count) q | false ↦ p ]) ≡ follow true (examined left p) q
+  then-holds p = go (p .holds) refl (decLt left (p .count))
     where
-      go : (h : Bool) (n : ℕ) → p .holds ≡ h → Dec (left < p .count)
-          → examined left (elim h as (λ _. Seen) [ true ↦ more (p .count) q | false ↦ p ]) ≡ ifHolds (within left h (p .count)) q
-      go true n e (yes l) = over left (q .holds) (p .count + q .count) (omega arith) ∙ rw (over left true (p .count) l) refl
-      go true n e (no l) = rw (under left true (p .count) (omega arith)) (joined left (q .holds) (p .count) (q .count) (omega arith))
-      go false n e (yes l) = rw (e, over left false (p .count) l) refl
-      go false n e (no l) = rw (e, under left false (p .count) (omega arith)) refl
+      go : (h : Bool) → p .holds ≡ h → Dec (left < p .count)
+          → examined left (elim h as (λ _. Seen) [ true ↦ more (p .count) q | false ↦ p ]) ≡ follow true (within left h (p .count)) q
+      go true e (yes l) = over left (q .holds) (p .count + q .count) (omega arith) ∙ rw (over left true (p .count) l) refl
+      go true e (no l) = rw (under left true (p .count) (omega arith)) (joined left (q .holds) (p .count) (q .count) (omega arith))
+      go false e (yes l) = rw (e, over left false (p .count) l) refl
+      go false e (no l) = rw (e, under left false (p .count) (omega arith)) refl
 
-  pub then-fails : (p : Seen) → examined left (elim (p .holds) as (λ _. Seen) [ true ↦ p | false ↦ more (p .count) q ]) ≡ ifFails (examined left p) q
+  pub then-fails : (p : Seen) → examined left (elim (p .holds) as (λ _. Seen) [ true ↦ p | false ↦ more (p .count) q ]) ≡ follow false (examined left p) q
   then-fails p = go (p .holds) refl (decLt left (p .count))
     where
       go : (h : Bool) → p .holds ≡ h → Dec (left < p .count)
-          → examined left (elim h as (λ _. Seen) [ true ↦ p | false ↦ more (p .count) q ]) ≡ ifFails (within left h (p .count)) q
+          → examined left (elim h as (λ _. Seen) [ true ↦ p | false ↦ more (p .count) q ]) ≡ follow false (within left h (p .count)) q
       go false e (yes l) = over left (q .holds) (p .count + q .count) (omega arith) ∙ rw (over left false (p .count) l) refl
       go false e (no l) = rw (under left false (p .count) (omega arith)) (joined left (q .holds) (p .count) (q .count) (omega arith))
       go true e (yes l) = rw (e, over left true (p .count) l) refl

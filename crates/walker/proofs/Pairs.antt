@@ -10,7 +10,7 @@ use Rattle.model.specs.Walk.{Seen, more, tryChallenges, examine}
 use Rattle.walker.specs.Rounds.{examined, leaves}
 use Rattle.walker.specs.declared.game.Examined.{Examined}
 use Rattle.walker.specs.declared.game.Examined.the-variants.{Spent, Holds, Fails}
-use Rattle.walker.proofs.Cuts.{over, under, joined, ifHolds, then-holds}
+use Rattle.walker.proofs.Cuts.{over, under, joined, follow, then-holds}
 
 module _ (xs : List Line) (a b : Field) where
   -- The challenges of both sides, where r rounds are left after the one that they begin.
@@ -49,7 +49,7 @@ module _ (xs : List Line) (a b : Field) where
     pair-at-zero r n e = rw e (sym (under v true 1 (omega arith)))
 
     pub pair-next : (r : ℕ) → ¬ (v ≡ 0) → ¬ (r ≡ 0)
-        → examined v (examine xs r a b) ≡ ifHolds (examined (v - 1) (tryChallenges (leaves false xs (r - 1)) xs a b xs)) (tryChallenges (leaves true xs (r - 1)) xs b a xs)
+        → examined v (examine xs r a b) ≡ follow true (examined (v - 1) (tryChallenges (leaves false xs (r - 1)) xs a b xs)) (tryChallenges (leaves true xs (r - 1)) xs b a xs)
     unfolding sides
     pair-next r n m =
         let e : r ≡ suc (r - 1) = omega arith in

@@ -17,36 +17,36 @@ module _ (code : ℕ) (b : Field) (l : Line) (can : Bool) (e : can ≡ usable b 
   pub answers-not : can ≡ false → false ≡ answers code b l
   answers-not t = rw (sym e ∙ t) refl
 
--- None of the lines before `line` passes, of the last `left` of m.
-module _ (p : ℕ → Bool) (m left : ℕ) where
+-- None of the lines before `line` passes.
+module _ (p : ℕ → Bool) (from to : ℕ) where
   pub record Searching (line : ℕ) : Type 0 where
-    pub within : line ≤ m
-    pub same : leastFrom p line (m - line) ≡ leastFrom p (m - left) left
+    pub within : line ≤ to
+    pub same : leastFrom p line (to - line) ≡ leastFrom p from (to - from)
 
-  pub searching-starts : left ≤ m → Searching (m - left)
-  searching-starts h = let e : m - (m - left) ≡ left = omega arith in record { within = omega arith; same = ap (leastFrom p (m - left)) e }
+  pub searching-starts : from ≤ to → Searching from
+  searching-starts h = record { within = h; same = refl }
 
   module _ (line : ℕ) (so-far : Searching line) where
-    next : line < m → p line ≡ false → leastFrom p line (m - line) ≡ leastFrom p (line + 1) (m - (line + 1))
+    next : line < to → p line ≡ false → leastFrom p line (to - line) ≡ leastFrom p (line + 1) (to - (line + 1))
     unfolding leastFrom
     next h f =
-        let e : m - line ≡ suc (m - (line + 1)) = omega arith in
+        let e : to - line ≡ suc (to - (line + 1)) = omega arith in
         let d : suc line ≡ line + 1 = omega arith in
-        rw (e, f, leastFrom) (ap (λ (i : ℕ). leastFrom p i (m - (line + 1))) d)
+        rw (e, f, leastFrom) (ap (λ (i : ℕ). leastFrom p i (to - (line + 1))) d)
 
-    pub searching-on : line < m → p line ≡ false → Searching (line + 1)
+    pub searching-on : line < to → p line ≡ false → Searching (line + 1)
     searching-on h f = record { within = omega arith; same = sym (next h f) ∙ so-far .same }
 
-    here : line < m → p line ≡ true → leastFrom p line (m - line) ≡ line
+    here : line < to → p line ≡ true → leastFrom p line (to - line) ≡ line
     unfolding leastFrom
-    here h t = let e : m - line ≡ suc (m - (line + 1)) = omega arith in rw (e, t, leastFrom) refl
+    here h t = let e : to - line ≡ suc (to - (line + 1)) = omega arith in rw (e, t, leastFrom) refl
 
-    pub searching-found : line < m → p line ≡ true → line ≡ leastFrom p (m - left) left
+    pub searching-found : line < to → p line ≡ true → line ≡ leastFrom p from (to - from)
     searching-found h t = sym (here h t) ∙ so-far .same
 
-    last : m ≤ line → leastFrom p line (m - line) ≡ line
+    last : to ≤ line → leastFrom p line (to - line) ≡ line
     unfolding leastFrom
-    last h = let e : m - line ≡ 0 = omega arith in rw e refl
+    last h = let e : to - line ≡ 0 = omega arith in rw e refl
 
-    pub searching-ends : m ≤ line → line ≡ leastFrom p (m - left) left
+    pub searching-ends : to ≤ line → line ≡ leastFrom p from (to - from)
     searching-ends h = sym (last h) ∙ so-far .same

@@ -41,10 +41,10 @@ answers code b m = both (usable b m) (eqb (m .code) code)
 unfoldable pub Bounded : ℕ → List ℕ → Type 0
 Bounded r a = (k : ℕ) → at a k ≤ 65535 + 255 * (mostRounds - r)
 
--- The last `left` of the m lines that f numbers.
-abbrev pub lastLines : (ℕ → Line) → ℕ → ℕ → List Line
-lastLines f m left = listFrom f (m - left) left
+-- Of the lines that f numbers, those from one number up to another, which is not among them.
+abbrev pub linesBetween : (ℕ → Line) → ℕ → ℕ → List Line
+linesBetween f from to = listFrom f from (to - from)
 
--- "in line order": the first of them that passes a test, m where none does.
+-- "in line order": the first of them that passes a test, the end of them where none does.
 abbrev pub nextLine : (Line → Bool) → (ℕ → Line) → ℕ → ℕ → ℕ
-nextLine p f m left = leastFrom (λ j. p (f j)) (m - left) left
+nextLine p f from to = leastFrom (λ j. p (f j)) from (to - from)

@@ -30,15 +30,14 @@ fn may_answer(card: Card, s: &[u8], j: usize, code: usize, b: &[u32; 32]) -> boo
     }
 }
 
-// The first of the last `left` lines that the field may use; the number of lines where it may use none.
-pub fn next_challenge(card: Card, s: &[u8], left: usize, a: &[u32; 32]) -> usize
+// The first line from `from` up to `to` that the field may use; `to` where it may use none.
+pub fn next_challenge(card: Card, s: &[u8], from: usize, to: usize, a: &[u32; 32]) -> usize
     requires { ⌜ Reads (now s) card ⌝ }
-    requires { ⌜ left ≤ card .lines ⌝ }
-    ensures { λ r. ⌜ r ≡ nextLine (usable (at (now (a .entry)))) (lineOf (now (s .entry))) (card .lines) left ⌝ }
+    requires { ⌜ (from ≤ to) × (to ≤ card .lines) ⌝ }
+    ensures { λ r. ⌜ r ≡ nextLine (usable (at (now (a .entry)))) (lineOf (now (s .entry))) from to ⌝ }
 {
-    let lines = card.lines;
-    let mut line = lines - left;
-    while line < lines {
+    let mut line = from;
+    while line < to {
         if may_use(card, s, line, a) {
             return line;
         }
@@ -47,15 +46,14 @@ pub fn next_challenge(card: Card, s: &[u8], left: usize, a: &[u32; 32]) -> usize
     line
 }
 
-// The first of the last `left` lines that is a reply of that code by the field; the number of lines where none is.
-pub fn next_reply(card: Card, s: &[u8], left: usize, code: usize, b: &[u32; 32]) -> usize
+// The first line from `from` up to `to` that is a reply of that code by the field; `to` where none is.
+pub fn next_reply(card: Card, s: &[u8], from: usize, to: usize, code: usize, b: &[u32; 32]) -> usize
     requires { ⌜ Reads (now s) card ⌝ }
-    requires { ⌜ left ≤ card .lines ⌝ }
-    ensures { λ r. ⌜ r ≡ nextLine (answers code (at (now (b .entry)))) (lineOf (now (s .entry))) (card .lines) left ⌝ }
+    requires { ⌜ (from ≤ to) × (to ≤ card .lines) ⌝ }
+    ensures { λ r. ⌜ r ≡ nextLine (answers code (at (now (b .entry)))) (lineOf (now (s .entry))) from to ⌝ }
 {
-    let lines = card.lines;
-    let mut line = lines - left;
-    while line < lines {
+    let mut line = from;
+    while line < to {
         if may_answer(card, s, line, code, b) {
             return line;
         }

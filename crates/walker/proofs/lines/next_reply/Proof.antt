@@ -12,16 +12,13 @@ use Rattle.walker.proofs.lines.next_reply.Statement.{statement}
 use Rattle.walker.proofs.lines.next_reply.Tie as tie
 
 abbrev Inv-loop : tie.InvT-loop
-Inv-loop card s left code b lines line₀ line = Searching (λ j. answers code (at b) (lineOf s j)) (card .lines) left line
+Inv-loop card s from to code b line₀ line = Searching (λ j. answers code (at b) (lineOf s j)) from to line
 
 abbrev μ-loop : tie.MeasureT-loop
-μ-loop card s left code b lines line₀ line = card .lines - line
-
-sub-line : tie.Need-sub-line Inv-loop μ-loop
-sub-line c = search needs
+μ-loop card s from to code b line₀ line = to - line
 
 loop-holds : tie.Need-loop-holds Inv-loop μ-loop
-loop-holds c = searching-starts _ _ _ (c .before .pre .1)
+loop-holds c = searching-starts _ _ _ (c .before .pre .1 .0)
 
 may-answer-requires : tie.Need-may-answer-requires Inv-loop μ-loop
 may-answer-requires c κs = search needs
@@ -47,7 +44,6 @@ next-reply-spec =
     (tie.spec
     Inv-loop
     μ-loop
-    sub-line
     loop-holds
     may-answer-requires
     returns
