@@ -5,3 +5,4 @@ pub mod Pairs
 pub mod Tries
 pub mod Fields
 pub mod Searches
+pub mod Steps

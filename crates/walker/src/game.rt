@@ -1,6 +1,198 @@
+// A pair of fields at a number of rounds. "A challenge at r rounds is tried against replies at r - 1": challenge and reply call each other,
+// with fewer rounds left, or with fewer lines left. After a line they go on with one half of the lines left and then the other, so
+// that for 256 lines no call of either stands more than 9 deep in calls of its own, and a walk of 8 rounds needs at most
+// 8 × (9 + 9 + 2) calls at once. The two fields of the next pair live in the frame of examine_left, which exists once a round.
+use crate::lines::next_challenge;
+use crate::lines::next_reply;
+use crate::moves::use_line;
+use sheet::Card;
+ghost use mathlib.Core.Bool.{true};
+ghost use mathlib.Core.Path.{_≡_};
+ghost use Prim.Native.Nat.{_+_, _-_, _≤_, _<_};
+ghost use Rattle.model.specs.Field.{at};
+ghost use Rattle.model.specs.Card.{fire};
+ghost use Rattle.model.specs.Limits.{mostRounds};
+ghost use Rattle.model.specs.Sheet.{lineOf, cardOf};
+ghost use Rattle.model.specs.Walk.{tryReplies, tryChallenges, examine};
+ghost use Rattle.sheet.specs.Reader.{Reads};
+ghost use Rattle.walker.specs.Rounds.{Bounded, within, examined, leaves, linesBetween};
+
 // A part of the walk: whether it holds, with what is left of the allowance, or spent where its count passes the allowance.
 pub enum Examined {
     Holds(u32),
     Fails(u32),
     Spent,
+}
+
+// A challenge at `rounds` rounds: those of the field a by the lines from `from` up to `to`, against replies of the field b.
+fn challenge(
+    card: Card,
+    s: &[u8],
+    rounds: u64,
+    second: bool,
+    from: usize,
+    to: usize,
+    a: &[u32; 32],
+    b: &[u32; 32],
+    allowance: u32,
+) -> Examined
+    requires { ⌜ Reads (now s) card ⌝ }
+    requires { ⌜ (0 < rounds) × (rounds ≤ mostRounds) × (from ≤ to) × (to ≤ card .lines) ⌝ }
+    requires { ⌜ Bounded rounds (now a) × Bounded rounds (now b) ⌝ }
+    ensures { λ r. ⌜
+        r ≡ examined allowance (tryChallenges (leaves second (cardOf (now (s .entry)) .lines) (rounds - 1)) (cardOf (now (s .entry)) .lines)
+        (at (now (a .entry))) (at (now (b .entry))) (linesBetween (lineOf (now (s .entry))) from to)) ⌝ }
+{
+    let line = next_challenge(card, s, from, to, a);
+    if line == to {
+        return Examined::Holds(allowance);
+    }
+    let next = line + 1;
+    let middle = next + (to - next) / 2;
+    match reply(
+        card,
+        s,
+        rounds - 1,
+        second,
+        line,
+        0,
+        card.lines,
+        a,
+        b,
+        allowance,
+    ) {
+        Examined::Holds(left) => match challenge(
+            card,
+            s,
+            rounds,
+            second,
+            next,
+            middle,
+            a,
+            b,
+            left,
+        ) {
+            Examined::Holds(rest) => challenge(card, s, rounds, second, middle, to, a, b, rest),
+            Examined::Fails(rest) => Examined::Fails(rest),
+            Examined::Spent => Examined::Spent,
+        },
+        Examined::Fails(left) => Examined::Fails(left),
+        Examined::Spent => Examined::Spent,
+    }
+}
+
+// The replies of the field b, by the lines from `from` up to `to`, to the challenge of the field a by `line`: each leaves a pair at `rounds` rounds.
+fn reply(
+    card: Card,
+    s: &[u8],
+    rounds: u64,
+    second: bool,
+    line: usize,
+    from: usize,
+    to: usize,
+    a: &[u32; 32],
+    b: &[u32; 32],
+    allowance: u32,
+) -> Examined
+    requires { ⌜ Reads (now s) card ⌝ }
+    requires { ⌜ (rounds < mostRounds) × (line < card .lines) × (from ≤ to) × (to ≤ card .lines) ⌝ }
+    requires { ⌜ Bounded (rounds + 1) (now a) × Bounded (rounds + 1) (now b) ⌝ }
+    ensures { λ r. ⌜
+        r ≡ examined allowance (tryReplies (leaves second (cardOf (now (s .entry)) .lines) rounds) (lineOf (now (s .entry)) line)
+        (fire (lineOf (now (s .entry)) line) (at (now (a .entry)))) (at (now (b .entry))) (linesBetween (lineOf (now (s .entry))) from to)) ⌝ }
+{
+    let answer = next_reply(card, s, from, to, card.line_code(s, line), b);
+    if answer == to {
+        return Examined::Fails(allowance);
+    }
+    let next = answer + 1;
+    let middle = next + (to - next) / 2;
+    match examine_left(card, s, rounds, second, line, answer, a, b, allowance) {
+        Examined::Holds(left) => Examined::Holds(left),
+        Examined::Fails(left) => match reply(
+            card,
+            s,
+            rounds,
+            second,
+            line,
+            next,
+            middle,
+            a,
+            b,
+            left,
+        ) {
+            Examined::Holds(rest) => Examined::Holds(rest),
+            Examined::Fails(rest) => reply(card, s, rounds, second, line, middle, to, a, b, rest),
+            Examined::Spent => Examined::Spent,
+        },
+        Examined::Spent => Examined::Spent,
+    }
+}
+
+// "A pair examined at r rounds counts 1. At 0 rounds it holds."
+fn hold(allowance: u32) -> Examined
+    ensures { λ r. ⌜ r ≡ within allowance true 1 ⌝ }
+{
+    if allowance == 0 {
+        return Examined::Spent;
+    }
+    Examined::Holds(allowance - 1)
+}
+
+// The pair that a challenge of the field a by `line` and the reply of the field b by `answer` leave. At 0 rounds its fields are not wanted.
+fn examine_left(
+    card: Card,
+    s: &[u8],
+    rounds: u64,
+    second: bool,
+    line: usize,
+    answer: usize,
+    a: &[u32; 32],
+    b: &[u32; 32],
+    allowance: u32,
+) -> Examined
+    requires { ⌜ Reads (now s) card ⌝ }
+    requires { ⌜ (rounds < mostRounds) × (line < card .lines) × (answer < card .lines) ⌝ }
+    requires { ⌜ Bounded (rounds + 1) (now a) × Bounded (rounds + 1) (now b) ⌝ }
+    ensures { λ r. ⌜
+        r ≡ examined allowance (leaves second (cardOf (now (s .entry)) .lines) rounds
+        (fire (lineOf (now (s .entry)) line) (at (now (a .entry)))) (fire (lineOf (now (s .entry)) answer) (at (now (b .entry))))) ⌝ }
+{
+    if rounds == 0 {
+        return hold(allowance);
+    }
+    let x = use_line(card, s, line, a);
+    let y = use_line(card, s, answer, b);
+    if second {
+        examine_pair(card, s, rounds, &y, &x, allowance)
+    } else {
+        examine_pair(card, s, rounds, &x, &y, allowance)
+    }
+}
+
+// A pair at `rounds` rounds, itself counted: the first side's challenges, then the second's.
+pub fn examine_pair(
+    card: Card,
+    s: &[u8],
+    rounds: u64,
+    a: &[u32; 32],
+    b: &[u32; 32],
+    allowance: u32,
+) -> Examined
+    requires { ⌜ Reads (now s) card ⌝ }
+    requires { ⌜ rounds ≤ mostRounds ⌝ }
+    requires { ⌜ Bounded rounds (now a) × Bounded rounds (now b) ⌝ }
+    ensures { λ r. ⌜ r ≡ examined allowance (examine (cardOf (now (s .entry)) .lines) rounds (at (now (a .entry))) (at (now (b .entry)))) ⌝ }
+{
+    if rounds == 0 {
+        return hold(allowance);
+    }
+    if allowance == 0 {
+        return Examined::Spent;
+    }
+    match challenge(card, s, rounds, false, 0, card.lines, a, b, allowance - 1) {
+        Examined::Holds(rest) => challenge(card, s, rounds, true, 0, card.lines, b, a, rest),
+        Examined::Fails(rest) => Examined::Fails(rest),
+        Examined::Spent => Examined::Spent,
+    }
 }
