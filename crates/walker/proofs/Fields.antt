@@ -10,6 +10,9 @@ use Rattle.model.specs.Field.{Field, unit, _⊕_, at}
 use Rattle.model.specs.Card.{Line, fire}
 use Rattle.model.specs.Limits.{mostRounds}
 use Rattle.model.proofs.Field.{unit-same, unit-other}
+use Rattle.sheet.specs.Reader.{Reads, fieldCounts}
+use Rattle.sheet.specs.declared.reader.Card.{Card}
+use Rattle.sheet.proofs.Laws.{Bytes, field-under, field-counts-at}
 use Rattle.walker.specs.Rounds.{Bounded}
 
 -- A field without a token of kind k has none to lose.
@@ -76,3 +79,8 @@ fire-bounded r l a sum p q e h j = omega (arith, ap (λ (f : Field). f j) e, h j
 pub bounded-less : (r q : ℕ) (a : List ℕ) → q ≤ r → Bounded r a → Bounded q a
 unfolding Bounded
 bounded-less r q a p h j = omega (arith, h j)
+
+-- A field of the sheet is of counts of two bytes.
+pub field-bounded : {s : List ℕ} {card : Card} (read : Reads s card) (i : ℕ) (a : List ℕ) → a ≡ fieldCounts s i → Bytes s → Bounded mostRounds a
+unfolding Bounded
+field-bounded {s} read i a e b k = omega (arith, ap (λ (f : Field). f k) (ap at e ∙ field-counts-at read i), field-under s i b k)

@@ -6,3 +6,4 @@ pub mod Tries
 pub mod Fields
 pub mod Searches
 pub mod Steps
+pub mod Refusals

@@ -1,4 +1,5 @@
 -- The walk's answer and session as the model has them: what each case of the enum stands for.
+use Prim.Native.Nat.{ℕ}
 use Rattle.model.specs.Walk.{WalkAnswer, apart, together, spent}
 use Rattle.model.specs.Answer as model
 use Rattle.walker.specs.declared.entry.Answer.{Answer}
@@ -19,3 +20,7 @@ sessionOf v = record { left = v .left }
 -- The answer, the pairs drawn and the session afterwards.
 abbrev pub walkedOf : Walked → model.Walked
 walkedOf w = record { answer = answerOf (w .answer); drawn = w .drawn; after = sessionOf (w .session) }
+
+-- "A refused call leaves .. the session as [it was]", and draws nothing.
+abbrev pub refusedOf : ℕ → ℕ → model.Session → model.Walked
+refusedOf number place v = record { answer = model.refused number place; drawn = 0; after = v }

@@ -1,5 +1,19 @@
-// What a walk is asked with, and what it answers.
+// The walk as it is called: the checks, the numbers of rounds one after another, and the session.
+use crate::game::Examined;
+use crate::game::examine_pair;
+use sheet::Card;
+use sheet::Checked;
+use sheet::check_sheet;
 ghost use mathlib.Core.Path.{_≡_};
+ghost use Prim.Native.Nat.{_≤_, _<_};
+ghost use Rattle.model.specs.Field.{at};
+ghost use Rattle.model.specs.Limits.{mostRounds};
+ghost use Rattle.model.specs.Sheet.{cardOf};
+ghost use Rattle.model.specs.Walk as model;
+ghost use Rattle.model.specs.Answer.{within, walkOf};
+ghost use Rattle.sheet.specs.Reader.{Reads};
+ghost use Rattle.walker.specs.Rounds.{Bounded};
+ghost use Rattle.walker.specs.Answers.{sessionOf, walkedOf, refusedOf};
 
 // "the allowance, 32 bits for all callers together, [belongs] to the session": what is left of it.
 pub struct Session {
@@ -27,4 +41,102 @@ pub struct Walked {
     pub answer: Answer,
     pub drawn: u32,
     pub session: Session,
+}
+
+// "a round limit 0 to 8"
+const ROUNDS: u64 = 8;
+
+// "A refused call leaves .. the session as [it was]."
+fn refuse(number: usize, place: usize, session: Session) -> Walked
+    ensures { λ r. ⌜ walkedOf r ≡ refusedOf number place (sessionOf session) ⌝ }
+{
+    Walked {
+        answer: Answer::Refused { number, place },
+        drawn: 0,
+        session,
+    }
+}
+
+// "It tries 1, 2, up to the limit."
+fn try_rounds(
+    card: Card,
+    s: &[u8],
+    a: &[u32; 32],
+    b: &[u32; 32],
+    limit: u64,
+    session: Session,
+) -> Walked
+    requires { ⌜ Reads (now s) card ⌝ }
+    requires { ⌜ limit ≤ mostRounds ⌝ }
+    requires { ⌜ Bounded mostRounds (now a) × Bounded mostRounds (now b) ⌝ }
+    ensures { λ r. ⌜
+        walkedOf r ≡ within (sessionOf session) (model.walk (cardOf (now (s .entry)) .lines) (at (now (a .entry))) (at (now (b .entry))) 1 limit) ⌝ }
+{
+    let allowance = session.left;
+    let mut left = allowance;
+    let mut rounds: u64 = 1;
+    while rounds <= limit {
+        match examine_pair(card, s, rounds, a, b, left) {
+            Examined::Holds(rest) => {
+                left = rest;
+            }
+            Examined::Fails(rest) => {
+                return Walked {
+                    answer: Answer::Apart { rounds },
+                    drawn: allowance - rest,
+                    session: Session { left: rest },
+                };
+            }
+            Examined::Spent => {
+                return Walked {
+                    answer: Answer::Spent,
+                    drawn: allowance,
+                    session: Session { left: 0 },
+                };
+            }
+        }
+        rounds += 1;
+    }
+    Walked {
+        answer: Answer::Together,
+        drawn: allowance - left,
+        session: Session { left },
+    }
+}
+
+// The walk on a card that was read: 11 and 13 are checked, and the fields are read.
+fn walk_card(
+    card: Card,
+    s: &[u8],
+    first: usize,
+    second: usize,
+    limit: u64,
+    session: Session,
+) -> Walked
+    requires { ⌜ Reads (now s) card ⌝ }
+    ensures { λ r. ⌜ walkedOf r ≡ walkOf (now (s .entry)) first second limit (sessionOf session) ⌝ }
+{
+    let fields = card.fields;
+    if fields <= first {
+        return refuse(11, 0, session);
+    }
+    if fields <= second {
+        return refuse(11, 1, session);
+    }
+    if ROUNDS < limit {
+        return refuse(13, 0, session);
+    }
+    let a = card.field(s, first);
+    let b = card.field(s, second);
+    try_rounds(card, s, &a, &b, limit, session)
+}
+
+// Walk: "two fields, a round limit 0 to 8, a session".
+pub fn walk(s: &[u8], first: usize, second: usize, limit: u64, session: Session) -> Walked
+    ensures { λ r. ⌜ walkedOf r ≡ walkOf (now (s .entry)) first second limit (sessionOf session) ⌝ }
+{
+    match check_sheet(s) {
+        Checked::Passed(card) => walk_card(card, s, first, second, limit, session),
+        Checked::Refused { number, place } => refuse(number, place, session),
+    }
 }

@@ -7,3 +7,4 @@ pub mod entry; // the session, the answer and the call itself
 pub use entry::Answer;
 pub use entry::Session;
 pub use entry::Walked;
+pub use entry::walk;

@@ -1,0 +1,96 @@
+-- 11 at the first field's number, then at the second's, then 13; a call that passes them walks.
+use borrow.Author.Needs.{needs}
+use native.Mathlib.Omega.{arith}
+use mathlib.Core.Path.{_≡_, ap, _∙_}
+use Prim.Native.Nat.{ℕ, _≤_, _<_}
+use Rattle.model.specs.Field.{at}
+use Rattle.model.specs.Sheet.{fieldCount}
+use Rattle.sheet.proofs.Laws.{fields-are, field-counts-at}
+use Rattle.walker.specs.Answers.{sessionOf}
+use Rattle.walker.proofs.Fields.{field-bounded}
+use Rattle.walker.proofs.Refusals.{full-walk, first-refused, second-refused, limit-refused, call-walks}
+use Rattle.walker.proofs.entry.walk_card.Statement.{statement}
+use Rattle.walker.proofs.entry.walk_card.Tie as tie
+
+refuse-requires : tie.Need-refuse-requires
+refuse-requires c κs = search needs
+
+returns : tie.Need-returns
+returns c =
+    let a = c .before .before .before .args in
+    let read = c .before .before .before .pre in
+    c .refuse .ensures
+    ∙ first-refused (a .s .now) (a .first) (a .second) (a .limit) (sessionOf (a .session)) (read .passed) (omega (arith, fields-are read, c .before .if1 .taken))
+
+refuse-requires-2 : tie.Need-refuse-requires-2
+refuse-requires-2 c κs = search needs
+
+-- The first number is a field's, and the second.
+first-field : (c : tie.Else1) → c .before .before .args .first < fieldCount (c .before .before .args .s .now)
+first-field c = omega (arith, fields-are (c .before .before .pre), c .if1 .left)
+
+second-field : (c : tie.Else2) → c .before .before .before .args .second < fieldCount (c .before .before .before .args .s .now)
+second-field c = omega (arith, fields-are (c .before .before .before .pre), c .if2 .left)
+
+returns-2 : tie.Need-returns-2
+returns-2 c =
+    let a = c .before .before .before .before .args in
+    let read = c .before .before .before .before .pre in
+    c .refuse2 .ensures
+    ∙ second-refused (a .s .now) (a .first) (a .second) (a .limit) (sessionOf (a .session)) (read .passed) (first-field (c .before .before))
+    (omega (arith, fields-are read, c .before .if2 .taken))
+
+refuse-requires-3 : tie.Need-refuse-requires-3
+refuse-requires-3 c κs = search needs
+
+returns-3 : tie.Need-returns-3
+returns-3 c =
+    let a = c .before .before .before .before .before .args in
+    let read = c .before .before .before .before .before .pre in
+    c .refuse3 .ensures
+    ∙ limit-refused (a .s .now) (a .first) (a .second) (a .limit) (sessionOf (a .session)) (read .passed) (first-field (c .before .before .before)) (second-field (c .before .before)) (c .before .if3 .taken)
+
+field-requires : tie.Need-field-requires
+field-requires c κs = search needs
+
+field-requires-2 : tie.Need-field-requires-2
+field-requires-2 c κs = search needs
+
+try-rounds-requires : tie.Need-try-rounds-requires
+try-rounds-requires c κs =
+    let a = c .before .before .before .before .before .before .before .before .args in
+    let read = c .before .before .before .before .before .before .before .before .pre in (
+      read,
+      (
+        c .before .before .before .before .if3 .left,
+        (
+          field-bounded read (a .first) _ (c .before .before .before .field .ensures) (λ k. omega (arith, c .before .before .before .before .before .before .before .shared-slice-known .given k)),
+          field-bounded read (a .second) _ (c .before .before .field2 .ensures) (λ k. omega (arith, c .before .before .before .before .before .before .before .shared-slice-known .given k)),
+        ),
+      ),
+    )
+
+returns-4 : tie.Need-returns-4
+returns-4 c =
+    let a = c .before .before .before .before .before .before .before .before .before .args in
+    let read = c .before .before .before .before .before .before .before .before .before .pre in
+    c .try-rounds .ensures
+    ∙ full-walk (a .s .now) (a .first) (a .second) (a .limit) (sessionOf (a .session)) _ _
+    (ap at (c .before .before .before .before .field .ensures) ∙ field-counts-at read (a .first))
+    (ap at (c .before .before .before .field2 .ensures) ∙ field-counts-at read (a .second))
+    ∙ call-walks (a .s .now) (a .first) (a .second) (a .limit) (sessionOf (a .session)) (read .passed) (first-field (c .before .before .before .before .before .before .before)) (second-field (c .before .before .before .before .before .before)) (c .before .before .before .before .before .if3 .left)
+
+pub walk-card-spec : {M : Type 1} → statement M
+walk-card-spec =
+    tie.close
+    (tie.spec
+    refuse-requires
+    returns
+    refuse-requires-2
+    returns-2
+    refuse-requires-3
+    returns-3
+    field-requires
+    field-requires-2
+    try-rounds-requires
+    returns-4)
