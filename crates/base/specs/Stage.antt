@@ -1,14 +1,17 @@
 -- What the code of a stage tells of lines, by the rows and the forms of stage q + 1.
+use mathlib.Core.Bool.{Bool, false}
 use mathlib.Core.List.{List}
 use mathlib.Core.Logic.{_↔_}
 use mathlib.Core.Path.{_≡_}
 use Prim.Native.Nat.{ℕ, suc, _<_}
-use lib.ListN.{getD}
+use lib.ListN.{length, getD}
 use Rattle.model.specs.Field.{Field, _⊕_, unit}
 use Rattle.model.specs.Card.{Line, Card}
 use Rattle.model.specs.Norm.{kindNorm, norm}
 use Rattle.model.specs.Base.{stageRow, stageForm}
-use Rattle.model.specs.Sheet.{lineCount, lineOf, cardOf}
+use Rattle.model.specs.Sheet.{kindCount, lineCount, lineOf, cardOf}
+use Rattle.norms.specs.Norms.{lowersNorm}
+use Rattle.base.specs.Table.{rowIn}
 
 -- b is the candidate for the row of l's kind that the lines l and m tell: m's kind and what l leaves, less what m leaves, in atoms.
 abbrev pub Told : Card → ℕ → Line → Line → Field → Type 0
@@ -50,3 +53,20 @@ module _ (s : List ℕ) where
   -- The two fields may use lines of the same classes.
   abbrev pub SameUses : List ℕ → Field → Field → Type 0
   SameUses classes a b = (x : ℕ) → Uses classes a x ↔ Uses classes b x
+
+  -- "A base at a stage gives each kind the counts" of the table's row. Stages here are from 1 up.
+  abbrev pub BaseAt : ℕ → List ℕ → Type 0
+  BaseAt t rows = (k : ℕ) → k < kindCount s → rowIn rows k ≡ stageRow (cardOf s) t k
+
+  -- The table's rows are the decompositions, at a stage, of what the lines leave.
+  abbrev pub FormsAt : ℕ → List ℕ → Type 0
+  FormsAt t forms = (j : ℕ) → j < lineCount s → rowIn forms j ≡ stageForm (cardOf s) t (lineOf s j .left)
+
+  -- The lines, read once: their kinds, their codes, and which of them lower the norm.
+  pub record LinesAre (kinds codes : List ℕ) (lowers : List Bool) : Type 0 where
+    pub kinds-long : length kinds ≡ lineCount s
+    pub codes-long : length codes ≡ lineCount s
+    pub lowers-long : length lowers ≡ lineCount s
+    pub kind-is : (j : ℕ) → j < lineCount s → getD kinds j 0 ≡ lineOf s j .kind
+    pub code-is : (j : ℕ) → j < lineCount s → getD codes j 0 ≡ lineOf s j .code
+    pub lowers-is : (j : ℕ) → j < lineCount s → getD lowers j false ≡ lowersNorm s j
