@@ -16,3 +16,7 @@ pub mod Tables
 pub mod Sooner
 pub mod Marks
 pub mod Matching
+-- Rows of tables that are set; forms of lines; what tests of lines come to.
+pub mod TableRows
+pub mod LineForms
+pub mod Answers

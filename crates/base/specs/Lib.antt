@@ -4,3 +4,7 @@ pub mod Table
 pub mod Class
 -- What the tables hold at a stage, and lines at a stage: candidates, replies, classes.
 pub mod Stage
+-- Tables of forms.
+pub mod Forms
+-- Challenges and replies that lower the norm.
+pub mod Answer

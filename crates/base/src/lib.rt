@@ -8,3 +8,7 @@ pub mod effect;
 pub mod order;
 // Which lines match, and which classes of lines a field may use.
 pub mod class;
+// The forms of what the lines leave.
+pub mod line_forms;
+// Norm-reducing expansion of a kind against a product.
+pub mod answer;
