@@ -13,7 +13,7 @@ use Rattle.model.specs.Field.{_⊕_, at}
 use Rattle.model.specs.Limits.{mostLines}
 use Rattle.base.specs.Table.{Under, rowPart, rowIn}
 use Rattle.base.specs.Class.{LineTables, MatchIn, LeastMatch, TellsMatch}
-use Rattle.base.proofs.Tables.{at-kind, zero-counts, part-row, part-length, part-under}
+use Rattle.base.proofs.Tables.{at-kind, zero-counts, lent-row, lent-length, lent-under}
 
 -- The tables of the lines: codes, kinds, rows of the kinds, forms of what the lines leave.
 module _ (codes kinds rows forms : List ℕ) where
@@ -46,9 +46,9 @@ module _ {codes kinds rows forms : List ℕ} where
     pub parts-fit : {l y m x : List ℕ} → l ≡ rowPart forms i → y ≡ rowPart rows (at kinds j) → m ≡ rowPart forms j → x ≡ rowPart rows (at kinds i)
         → ((length y ≡ length l) × (length m ≡ length l) × (length x ≡ length l)) × (Under (2 ^ 63) l × Under (2 ^ 63) m)
     parts-fit a b c d =
-        let e = part-length forms i (omega (arith, t .formed)) a in (
-          (part-length rows (at kinds j) (t .kinds-rows j q) b ∙ sym e, part-length forms j (omega (arith, t .formed)) c ∙ sym e, part-length rows (at kinds i) (t .kinds-rows i p) d ∙ sym e),
-          (part-under forms i a (t .small), part-under forms j c (t .small)),
+        let e = lent-length forms i (omega (arith, t .formed)) a in (
+          (lent-length rows (at kinds j) (t .kinds-rows j q) b ∙ sym e, lent-length forms j (omega (arith, t .formed)) c ∙ sym e, lent-length rows (at kinds i) (t .kinds-rows i p) d ∙ sym e),
+          (lent-under forms i a (t .small), lent-under forms j c (t .small)),
         )
 
     pub parts-tell : {b : Bool} {l y m x : List ℕ} → at codes i ≡ at codes j → l ≡ rowPart forms i → y ≡ rowPart rows (at kinds j) → m ≡ rowPart forms j → x ≡ rowPart rows (at kinds i)
@@ -56,10 +56,10 @@ module _ {codes kinds rows forms : List ℕ} where
     parts-tell {b} {l} {y} {m} {x} e a f c d r = (λ u. (sym e, sym here ∙ r .0 u ∙ there), λ u. r .1 (here ∙ u .1 ∙ sym there))
       where
         here : at l ⊕ at y ≡ rowIn forms i ⊕ rowIn rows (at kinds j)
-        here = rw (part-row forms i a, part-row rows (at kinds j) f)
+        here = rw (lent-row forms i a, lent-row rows (at kinds j) f)
 
         there : at m ⊕ at x ≡ rowIn forms j ⊕ rowIn rows (at kinds i)
-        there = rw (part-row forms j c, part-row rows (at kinds i) d)
+        there = rw (lent-row forms j c, lent-row rows (at kinds i) d)
 
   -- The search for the least line that matches.
   pub none-first : {j : ℕ} → NoneBelow codes kinds rows forms j 0

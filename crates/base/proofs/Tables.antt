@@ -13,7 +13,7 @@ use lib.ListN.{length, getD, set, take, drop, replicate, List·getD-eq-default, 
 use lib.Seq.{getD-set-same, getD-set-other, getD-take, getD-drop, getD-append-add, length-take-le, take-all, paste, paste-zero, paste-suc, take-length}
 use Rattle.model.specs.Field.{Field, none, _⊕_, times, unit, at, weigh}
 use Rattle.model.specs.Limits.{mostKinds}
-use Rattle.model.proofs.Field.{unit-same, unit-other, weigh-next}
+use Rattle.model.proofs.Field.{unit-same, unit-other, weigh-next, weigh-weights}
 use Rattle.base.specs.Table.{Under, rowPart, rowIn, formIn, withRow, IsCandidate}
 
 -- Equal fields have equal counts.
@@ -98,11 +98,11 @@ module _ {old xs : List ℕ} {i : ℕ} (h : Cleared old xs i) where
 
 -- A count of a row is one of the table's.
 pub row-at : (t : List ℕ) (k j : ℕ) → j < mostKinds → rowIn t k j ≡ at t (k * mostKinds + j)
-unfolding rowIn rowPart
+unfolding rowIn
 row-at t k j h = getD-take mostKinds (drop (k * mostKinds) t) j 0 h ∙ getD-drop (k * mostKinds) t j 0
 
 pub row-past : (t : List ℕ) (k j : ℕ) → mostKinds ≤ j → rowIn t k j ≡ 0
-unfolding rowIn rowPart
+unfolding rowIn
 row-past t k j h = first-past (drop (k * mostKinds) t) mostKinds j h
 
 -- Rows are equal when the table's counts are.
@@ -114,25 +114,30 @@ row-same {a} t k f g = fun-ext (λ j. go j (decLt j mostKinds))
     go j (no l) = row-past t k j (omega arith) ∙ sym (g j (omega arith))
 
 -- The part of a table from row k to the next is the row.
-pub part-is : (t : List ℕ) (k : ℕ) → take (k * mostKinds + mostKinds - k * mostKinds) (drop (k * mostKinds) t) ≡ rowPart t k
-unfolding rowPart
+abbrev pub partOf : List ℕ → ℕ → List ℕ
+partOf t k = take (k * mostKinds + mostKinds - k * mostKinds) (drop (k * mostKinds) t)
+
+pub part-is : (t : List ℕ) (k : ℕ) → partOf t k ≡ rowPart t k
 part-is t k = rw (add-sub-cancel-left (k * mostKinds) mostKinds)
 
--- The list of a row, read as a field, is the row; it has no more counts than the table, and they are the table's.
-pub part-row : {xs : List ℕ} (t : List ℕ) (k : ℕ) → xs ≡ rowPart t k → at xs ≡ rowIn t k
+pub part-row : (t : List ℕ) (k : ℕ) → at (partOf t k) ≡ rowIn t k
 unfolding rowIn
-part-row t k e = rw e
+part-row t k = rw (add-sub-cancel-left (k * mostKinds) mostKinds)
 
-pub part-length : {xs : List ℕ} (t : List ℕ) (k : ℕ) → k * mostKinds + mostKinds ≤ length t → xs ≡ rowPart t k → length xs ≡ mostKinds
-unfolding rowPart
-part-length t k l e = rw e (length-take-le mostKinds (drop (k * mostKinds) t) (omega (arith, length-drop (k * mostKinds) t)))
+-- A list that is row k: as a field it is the row, it is 32 counts long, and its counts are the table's.
+pub lent-row : {xs : List ℕ} (t : List ℕ) (k : ℕ) → xs ≡ rowPart t k → at xs ≡ rowIn t k
+unfolding rowIn
+lent-row t k e = rw e
 
-pub part-under : {xs : List ℕ} {bound : ℕ} (t : List ℕ) (k : ℕ) → xs ≡ rowPart t k → Under bound t → Under bound xs
-part-under {xs} {bound} t k e f j = go (decLt j mostKinds)
+pub lent-length : {xs : List ℕ} (t : List ℕ) (k : ℕ) → k * mostKinds + mostKinds ≤ length t → xs ≡ rowPart t k → length xs ≡ mostKinds
+lent-length t k l e = rw e (length-take-le mostKinds (drop (k * mostKinds) t) (omega (arith, length-drop (k * mostKinds) t)))
+
+pub lent-under : {xs : List ℕ} {bound : ℕ} (t : List ℕ) (k : ℕ) → xs ≡ rowPart t k → Under bound t → Under bound xs
+lent-under {xs} {bound} t k e f j = go (decLt j mostKinds)
   where
     go : Dec (j < mostKinds) → at xs j < bound
-    go (yes l) = rw (at-kind (part-row t k e) j, row-at t k j l) (f (k * mostKinds + j))
-    go (no l) = rw (at-kind (part-row t k e) j, row-past t k j (omega arith)) (omega (arith, f 0))
+    go (yes l) = rw (at-kind (lent-row t k e) j, row-at t k j l) (f (k * mostKinds + j))
+    go (no l) = rw (at-kind (lent-row t k e) j, row-past t k j (omega arith)) (omega (arith, f 0))
 
 -- A sum over fewer kinds is at most the sum over all.
 pub weigh-fewer : (k n : ℕ) (w : ℕ → ℕ) (a : Field) → k ≤ n → weigh k w a ≤ weigh n w a
@@ -161,11 +166,11 @@ module _ {counts rows old out : List ℕ} {k : ℕ} (h : Formed counts rows old 
 
   pub formed-next : {row : List ℕ} → row ≡ rowPart rows k → (x : ℕ) → x ≡ at counts k → (j : ℕ) → at out j + x * at row j ≡ formIn (k + 1) rows (at counts) j
   unfolding formIn
-  formed-next r x e j = rw (at-kind (h .total) j, at-kind (part-row rows k r) j, weigh-next, e)
+  formed-next r x e j = rw (at-kind (h .total) j, at-kind (lent-row rows k r) j, weigh-next, e)
 
   -- What add_times asks: the row is no longer than out, and no sum on the way passes the bound.
   pub formed-room : {row : List ℕ} → row ≡ rowPart rows k → k < length counts → length row ≤ length out
-  formed-room r l = omega (arith, part-length rows k (formed-fits l) r, h .room, h .kept)
+  formed-room r l = omega (arith, lent-length rows k (formed-fits l) r, h .room, h .kept)
 
   pub formed-bound : {row : List ℕ} {bound : ℕ} → ((j : ℕ) → formIn (length counts) rows (at counts) j < bound) → row ≡ rowPart rows k → k < length counts → (x : ℕ) → x ≡ at counts k
       → (j : ℕ) → at out j + x * at row j < bound
@@ -350,3 +355,8 @@ module _ {old row rows : List ℕ} {start i : ℕ} (h : Copied old row rows star
 
   pub copied-all : length row ≤ i → rows ≡ take start old ++ row ++ drop (start + length row) old
   copied-all l = let e : i ≡ length row = omega (arith, h .within) in rw (h .copy, e, take-length)
+
+-- A decomposition needs the rows of the kinds that the field holds.
+pub form-is : (n : ℕ) (t : List ℕ) (rows : ℕ → Field) (a : Field) → ((k : ℕ) → k < n → 0 < a k → rowIn t k ≡ rows k) → formIn n t a ≡ (λ j. weigh n (λ k. rows k j) a)
+unfolding formIn
+form-is n t rows a f = fun-ext (λ j. weigh-weights n (λ k. rowIn t k j) (λ k. rows k j) a (λ k l p. at-kind (f k l p) j))

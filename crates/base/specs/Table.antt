@@ -13,7 +13,7 @@ abbrev pub Under : ℕ → List ℕ → Type 0
 Under bound xs = (j : ℕ) → at xs j < bound
 
 -- Row k of a flat table, as a list and as a field: "rows at kind times 32".
-unfoldable pub rowPart : List ℕ → ℕ → List ℕ
+abbrev pub rowPart : List ℕ → ℕ → List ℕ
 rowPart t k = take mostKinds (drop (k * mostKinds) t)
 
 unfoldable pub rowIn : List ℕ → ℕ → Field
