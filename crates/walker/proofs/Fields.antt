@@ -1,7 +1,7 @@
 -- Laws of fields as lists of counts: one token less, counts added, and how far the counts grow.
 use mathlib.Core.List.{List}
 use mathlib.Core.Path.{_≡_, refl, sym, ap, fun-ext, _∙_}
-use Prim.Native.Nat.{ℕ, _+_, _-_, _*_, _≤_, _<_}
+use Prim.Native.Nat.{ℕ, _+_, _-_, _^_, _≤_, _<_}
 use native.Mathlib.Decide.{ℕ-discrete, decLt}
 use native.Mathlib.Omega.{arith}
 use lib.ListN.{length, getD, set, length-set, List·getD-eq-default}
@@ -30,38 +30,15 @@ less-set a k h = fun-ext (λ j. go j (ℕ-discrete j k))
     go j (yes d) = rw d (omega (arith, getD-set-same a k (at a k - 1) 0 h, unit-same k))
     go j (no d) = omega (arith, getD-set-other a k j (at a k - 1) 0 d, unit-other k j d)
 
--- The first i of the counts are added to the field a.
-pub record Added (a counts sum : List ℕ) (i : ℕ) : Type 0 where
-  pub done : (k : ℕ) → k < i → at sum k ≡ at a k + at counts k
-  pub rest : (k : ℕ) → i ≤ k → at sum k ≡ at a k
-  pub same : length sum ≡ length a
-
-pub added-none : (a counts : List ℕ) → Added a counts a 0
-added-none a counts = record { done = λ k h. absurd (omega arith); rest = λ k h. refl; same = refl }
-
-module _ (a counts sum : List ℕ) (i v : ℕ) (so-far : Added a counts sum i) where
-  pub added-more : i < length a → v ≡ at counts i → Added a counts (set sum i (at sum i + v)) (i + 1)
-  added-more h e = record {
-    done = λ k l. done k l (ℕ-discrete k i);
-    rest = λ k l. getD-set-other sum i k (at sum i + v) 0 (λ d. omega arith) ∙ so-far .rest k (omega arith);
-    same = length-set sum i (at sum i + v) ∙ so-far .same;
-  }
-    where
-      done : (k : ℕ) → k < i + 1 → Dec (k ≡ i) → at (set sum i (at sum i + v)) k ≡ at a k + at counts k
-      done k l (yes d) = rw d (omega (arith, getD-set-same sum i (at sum i + v) 0 (omega (arith, so-far .same)), so-far .rest i (omega arith)))
-      done k l (no d) = getD-set-other sum i k (at sum i + v) 0 d ∙ so-far .done k (omega arith)
-
-  pub added-all : length counts ≤ i → at sum ≡ at a ⊕ at counts
-  added-all h = fun-ext (λ k. go k (decLt k i))
-    where
-      go : (k : ℕ) → Dec (k < i) → at sum k ≡ at a k + at counts k
-      go k (yes l) = so-far .done k l
-      go k (no l) = omega (arith, so-far .rest k (omega arith), List·getD-eq-default counts 0 {n = k} (omega arith))
-
 -- The counts do not grow where a token goes.
 pub less-bounded : (r k : ℕ) (a rest : List ℕ) → at rest ≡ (λ j. at a j - unit k j) → Bounded r a → Bounded r rest
 unfolding Bounded
 less-bounded r k a rest e h j = omega (arith, ap (λ (f : Field). f j) e, h j)
+
+-- A line's counts are bytes, so that the sums stay small.
+pub addable : (l : Line) (rest counts : List ℕ) → at counts ≡ l .left → ((k : ℕ) → l .left k < 256) → Bounded 1 rest → (k : ℕ) → at rest k + at counts k < 2 ^ 32
+unfolding Bounded
+addable l rest counts e b h k = omega (arith, ap (λ (f : Field). f k) e, b k, h k)
 
 -- The two steps of a line's use.
 pub fired : (l : Line) (kind : ℕ) (a rest counts sum : List ℕ) → kind ≡ l .kind → at rest ≡ (λ j. at a j - unit kind j) → at counts ≡ l .left

@@ -1,9 +1,9 @@
 // The use of a line: "one X goes, the counts come".
 use sheet::Card;
+use sheet::add_counts;
 ghost use mathlib.Core.Path.{_≡_};
-ghost use Prim.Native.Nat.{ℕ, _+_, _-_, _≤_, _<_};
-ghost use lib.ListN.{length};
-ghost use Rattle.model.specs.Field.{unit, _⊕_, at};
+ghost use Prim.Native.Nat.{_-_, _<_};
+ghost use Rattle.model.specs.Field.{unit, at};
 ghost use Rattle.model.specs.Card.{fire};
 ghost use Rattle.model.specs.Sheet.{lineOf};
 ghost use Rattle.sheet.specs.Reader.{Reads};
@@ -25,28 +25,6 @@ fn less_one(a: [u32; 32], k: usize) -> [u32; 32]
     rest
 }
 
-fn wide(x: u8) -> u32
-    ensures { λ r. ⌜ (r ≡ x) × (r < 256) ⌝ }
-{
-    x as u32
-}
-
-// The field with a line's counts added.
-fn add_counts(a: [u32; 32], counts: &[u8]) -> [u32; 32]
-    requires { ⌜ length (now counts) ≤ 32 ⌝ }
-    requires { ⌜ Bounded 1 a ⌝ }
-    ensures { λ r. ⌜ at r ≡ at a ⊕ at (now (counts .entry)) ⌝ }
-{
-    let mut sum = a;
-    let mut k = 0;
-    while k < counts.len() {
-        let tokens = sum[k];
-        sum[k] = tokens + wide(counts[k]);
-        k += 1;
-    }
-    sum
-}
-
 // The field after it used line j.
 pub fn use_line(card: Card, s: &[u8], j: usize, a: &[u32; 32]) -> [u32; 32]
     requires { ⌜ Reads (now s) card ⌝ }
@@ -56,6 +34,7 @@ pub fn use_line(card: Card, s: &[u8], j: usize, a: &[u32; 32]) -> [u32; 32]
 {
     let kind = card.line_kind(s, j);
     let field = *a;
-    let rest = less_one(field, kind);
-    add_counts(rest, card.line_counts(s, j))
+    let mut left = less_one(field, kind);
+    add_counts(&mut left, card.line_counts(s, j));
+    left
 }
