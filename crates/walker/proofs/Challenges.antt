@@ -153,7 +153,7 @@ challenges see xs a b = record {
 }
 
 -- "replies in line order up to the first that holds": the replies of b to the challenge l that left x.
-pub replies : (see : Field → Field → Seen) (l : Line) (x b : Field) → Runs (answers (l .code) b) false (λ m. see x (fire m b)) (tryReplies see l x b)
+pub replies : (see : Field → Field → Seen) (l : Line) (x b : Field) → Runs (answers l b) false (λ m. see x (fire m b)) (tryReplies see l x b)
 unfolding tryReplies
 replies see l x b = record {
   none = refl;

@@ -10,11 +10,11 @@ use Rattle.model.specs.Card.{Line}
 use Rattle.walker.specs.Rounds.{usable, answers}
 
 -- A reply may be used, and then its code decides.
-module _ (code : ℕ) (b : Field) (l : Line) (can : Bool) (e : can ≡ usable b l) where
-  pub answers-code : (x : ℕ) → x ≡ l .code → can ≡ true → eqb x code ≡ answers code b l
-  answers-code x d t = rw (sym e ∙ t, d) refl
+module _ (l : Line) (b : Field) (m : Line) (can : Bool) (e : can ≡ usable b m) where
+  pub answers-code : (x y : ℕ) → x ≡ m .code → y ≡ l .code → can ≡ true → eqb x y ≡ answers l b m
+  answers-code x y p q t = rw (sym e ∙ t, p, q) refl
 
-  pub answers-not : can ≡ false → false ≡ answers code b l
+  pub answers-not : can ≡ false → false ≡ answers l b m
   answers-not t = rw (sym e ∙ t) refl
 
 -- None of the lines before `line` passes.

@@ -54,11 +54,11 @@ module _ {s : List ℕ} {card : Card} (read : Reads s card) (r : ℕ) (second : 
         (run-halves (challenges (leaves second (cardOf s .lines) r) (cardOf s .lines) a b) (lineOf s) from to v fits middle p q) d m
 
     module _ (line : ℕ) where
-      pub reply-none : (answer : ℕ) → answer ≡ nextLine (answers (lineOf s line .code) b) (lineOf s) from to → answer ≡ to → Fails v ≡ examined v (Replied line from to)
+      pub reply-none : (answer : ℕ) → answer ≡ nextLine (answers (lineOf s line) b) (lineOf s) from to → answer ≡ to → Fails v ≡ examined v (Replied line from to)
       reply-none answer e d =
           run-none (replies (leaves second (cardOf s .lines) r) (lineOf s line) (fire (lineOf s line) a) b) (lineOf s) from to v fits answer e d
 
-      pub reply-next : (answer : ℕ) → answer ≡ nextLine (answers (lineOf s line .code) b) (lineOf s) from to → ¬ (answer ≡ to) → (found known : Examined)
+      pub reply-next : (answer : ℕ) → answer ≡ nextLine (answers (lineOf s line) b) (lineOf s) from to → ¬ (answer ≡ to) → (found known : Examined)
           → found ≡ examined v (leaves second (cardOf s .lines) r (fire (lineOf s line) a) (fire (lineOf s answer) b)) → found ≡ known
           → follow false known (Replied line (answer + 1) to) ≡ examined v (Replied line from to)
       reply-next answer e n found known d m =

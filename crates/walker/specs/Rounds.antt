@@ -34,8 +34,8 @@ abbrev pub usable : Field → Line → Bool
 usable a l = ltb 0 (a (l .kind))
 
 -- "A reply is a line of the same code that the other side may use."
-abbrev pub answers : ℕ → Field → Line → Bool
-answers code b m = both (usable b m) (eqb (m .code) code)
+abbrev pub answers : Line → Field → Line → Bool
+answers l b m = both (usable b m) (eqb (m .code) (l .code))
 
 -- With r of 8 rounds left no count has passed 65,535 + 255 × (8 - r).
 unfoldable pub Bounded : ℕ → List ℕ → Type 0

@@ -101,7 +101,7 @@ fn reply(
         r ≡ examined allowance (tryReplies (leaves second (cardOf (now (s .entry)) .lines) rounds) (lineOf (now (s .entry)) line)
         (fire (lineOf (now (s .entry)) line) (at (now (a .entry)))) (at (now (b .entry))) (linesBetween (lineOf (now (s .entry))) from to)) ⌝ }
 {
-    let answer = next_reply(card, s, from, to, card.line_code(s, line), b);
+    let answer = next_reply(card, s, from, to, line, b);
     if answer == to {
         return Examined::Fails(allowance);
     }

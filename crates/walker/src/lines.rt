@@ -17,14 +17,14 @@ fn may_use(card: Card, s: &[u8], j: usize, a: &[u32; 32]) -> bool
     0 < a[kind]
 }
 
-// Whether line j is a reply of that code by the field.
-fn may_answer(card: Card, s: &[u8], j: usize, code: usize, b: &[u32; 32]) -> bool
+// Whether line j is a reply of the field to a challenge by `line`.
+fn may_answer(card: Card, s: &[u8], j: usize, line: usize, b: &[u32; 32]) -> bool
     requires { ⌜ Reads (now s) card ⌝ }
-    requires { ⌜ j < card .lines ⌝ }
-    ensures { λ r. ⌜ r ≡ answers code (at (now (b .entry))) (lineOf (now (s .entry)) j) ⌝ }
+    requires { ⌜ (j < card .lines) × (line < card .lines) ⌝ }
+    ensures { λ r. ⌜ r ≡ answers (lineOf (now (s .entry)) line) (at (now (b .entry))) (lineOf (now (s .entry)) j) ⌝ }
 {
     if may_use(card, s, j, b) {
-        card.line_code(s, j) == code
+        card.line_code(s, j) == card.line_code(s, line)
     } else {
         false
     }
@@ -46,15 +46,22 @@ pub fn next_challenge(card: Card, s: &[u8], from: usize, to: usize, a: &[u32; 32
     line
 }
 
-// The first line from `from` up to `to` that is a reply of that code by the field; `to` where none is.
-pub fn next_reply(card: Card, s: &[u8], from: usize, to: usize, code: usize, b: &[u32; 32]) -> usize
+// The first line from `from` up to `to` that is a reply of the field to a challenge by `challenge`; `to` where none is.
+pub fn next_reply(
+    card: Card,
+    s: &[u8],
+    from: usize,
+    to: usize,
+    challenge: usize,
+    b: &[u32; 32],
+) -> usize
     requires { ⌜ Reads (now s) card ⌝ }
-    requires { ⌜ (from ≤ to) × (to ≤ card .lines) ⌝ }
-    ensures { λ r. ⌜ r ≡ nextLine (answers code (at (now (b .entry)))) (lineOf (now (s .entry))) from to ⌝ }
+    requires { ⌜ (from ≤ to) × (to ≤ card .lines) × (challenge < card .lines) ⌝ }
+    ensures { λ r. ⌜ r ≡ nextLine (answers (lineOf (now (s .entry)) challenge) (at (now (b .entry)))) (lineOf (now (s .entry))) from to ⌝ }
 {
     let mut line = from;
     while line < to {
-        if may_answer(card, s, line, code, b) {
+        if may_answer(card, s, line, challenge, b) {
             return line;
         }
         line += 1;

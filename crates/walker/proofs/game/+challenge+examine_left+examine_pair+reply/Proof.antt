@@ -10,7 +10,7 @@ use Rattle.sheet.proofs.Laws.{lines-most, left-under}
 use Rattle.walker.specs.declared.game.Examined.{Examined}
 use Rattle.walker.specs.declared.game.Examined.the-variants.{Holds, Fails, Spent}
 use Rattle.walker.proofs.Cuts.{follow}
-use Rattle.walker.specs.Rounds.{Bounded, examined, usable, answers, leaves, nextLine}
+use Rattle.walker.specs.Rounds.{Bounded, examined, usable, answers, leaves}
 use Rattle.walker.proofs.Fields.{fire-bounded, bounded-less}
 use Rattle.walker.proofs.Challenges.{next-within}
 use Rattle.walker.proofs.Pairs.{pair-spent, pair-holds, left-holds, left-first, left-second}
@@ -30,7 +30,6 @@ use Rattle.walker.proofs.game.+challenge+examine_left+examine_pair+repl
 use Rattle.walker.proofs.game.reply.Reads as reply
 use Rattle.walker.proofs.game.reply.Kinds as reply-kinds
 use Rattle.walker.proofs.game.+challenge+examine_left+examine_pair+reply.Lts-reply as reply-lts
-use Rattle.sheet.proofs.reader.Card.line_code.Reads as line-code-reads
 use Rattle.walker.proofs.game.hold.Reads as hold-reads
 use Rattle.walker.proofs.lines.next_challenge.Reads as next-challenge-reads
 use Rattle.walker.proofs.lines.next_reply.Reads as next-reply-reads
@@ -101,7 +100,7 @@ examine-pair-calls t = (hold-reads.Asked, hold-reads.Learnt, challenge-below t, 
 
 -- what reply calls
 abbrev reply-calls : ℕ → reply-lts.Claims
-reply-calls t = (line-code-reads.Asked, line-code-reads.Learnt, next-reply-reads.Asked, next-reply-reads.Learnt, examine-left-below t, examine-left.Post, reply-below t, reply.Post)
+reply-calls t = (next-reply-reads.Asked, next-reply-reads.Learnt, examine-left-below t, examine-left.Post, reply-below t, reply.Post)
 
 challenge-next-challenge-requires : (t : ℕ) → challenge-lts.Need-next-challenge-requires (challenge-calls t) (challenge-at t) challenge.Post
 challenge-next-challenge-requires t c κs = search needs
@@ -319,33 +318,23 @@ examine-pair-returns-4 t c = pair-after t (c .before .before .before) (Fails (c 
 examine-pair-returns-5 : (t : ℕ) → examine-pair-lts.Need-returns-5 (examine-pair-calls t) (examine-pair-at t) examine-pair.Post
 examine-pair-returns-5 t c = pair-after t (c .before .before) Spent (c .enum-told .given .1)
 
-reply-line-code-requires : (t : ℕ) → reply-lts.Need-line-code-requires (reply-calls t) (reply-at t) reply.Post
-reply-line-code-requires t c κs = search needs
-
 reply-next-reply-requires : (t : ℕ) → reply-lts.Need-next-reply-requires (reply-calls t) (reply-at t) reply.Post
 reply-next-reply-requires t c κs = search needs
 
--- The next reply is one to the line's own code.
-reply-found : (t : ℕ) (c : reply-lts.After-next-reply (reply-calls t) (reply-at t) reply.Post)
-    → c .next-reply .result ≡ nextLine (answers (lineOf (c .before .before .before .args .s .now) (c .before .before .before .args .line) .code) (at (c .before .before .before .args .b .now))) (lineOf (c .before .before .before .args .s .now)) (c .before .before .before .args .from) (c .before .before .before .args .to)
-reply-found t c =
-    let a = c .before .before .before .args in
-    c .next-reply .ensures ∙ ap (λ (code : ℕ). nextLine (answers code (at (a .b .now))) (lineOf (a .s .now)) (a .from) (a .to)) (c .before .line-code .ensures)
-
 -- The reply is one of the lines given.
-reply-line : (t : ℕ) (c : reply-lts.Else1 (reply-calls t) (reply-at t) reply.Post) → (c .before .before .before .before .args .from ≤ c .before .next-reply .result) × (c .before .next-reply .result < c .before .before .before .before .args .to)
+reply-line : (t : ℕ) (c : reply-lts.Else1 (reply-calls t) (reply-at t) reply.Post) → (c .before .before .before .args .from ≤ c .before .next-reply .result) × (c .before .next-reply .result < c .before .before .before .args .to)
 reply-line t c =
-    let a = c .before .before .before .before .args in
+    let a = c .before .before .before .args in
     let n : (c .before .next-reply .result ≡ a .to) → ⊥ = c .if1 .left in
-    let w = next-within (answers (lineOf (a .s .now) (a .line) .code) (at (a .b .now))) (lineOf (a .s .now)) (a .from) (a .to) (c .before .before .before .before .pre .1 .1 .0 .2) in
-    (omega (arith, w .0, reply-found t (c .before)), omega (arith, w .1, reply-found t (c .before)))
+    let w = next-within (answers (lineOf (a .s .now) (a .line)) (at (a .b .now))) (lineOf (a .s .now)) (a .from) (a .to) (c .before .before .before .pre .1 .1 .0 .2) in
+    (omega (arith, w .0, c .before .next-reply .ensures), omega (arith, w .1, c .before .next-reply .ensures))
 
 reply-returns : (t : ℕ) → reply-lts.Need-returns (reply-calls t) (reply-at t) reply.Post
 reply-returns t c =
-    let a = c .before .before .before .before .args in
-    let p = c .before .before .before .before .pre .1 in
+    let a = c .before .before .before .args in
+    let p = c .before .before .before .pre .1 in
     reply-none (p .0) (a .rounds) (a .second) (at (a .a .now)) (at (a .b .now)) (a .from) (a .to) (a .allowance) (p .1 .0 .2) (a .line) (c .before .next-reply .result)
-    (reply-found t (c .before)) (c .if1 .taken)
+    (c .before .next-reply .ensures) (c .if1 .taken)
 
 reply-add-next : (t : ℕ) → reply-lts.Need-add-next (reply-calls t) (reply-at t) reply.Post
 reply-add-next t c = omega (arith, reply-line t c)
@@ -358,7 +347,7 @@ reply-add-middle t c = omega (arith, reply-line t c)
 
 reply-examine-left-requires : (t : ℕ) → reply-lts.Need-examine-left-requires (reply-calls t) (reply-at t) reply.Post
 reply-examine-left-requires t c κs =
-    let p = c .before .before .before .before .pre in
+    let p = c .before .before .before .pre in
     let w = reply-line t c in
     (omega (arith, p .0, p .1 .1 .0), (p .1 .0, (omega (arith, p .1 .1 .0, w), p .1 .1 .1)))
 
@@ -370,7 +359,7 @@ reply-enum-known-left-2 t c = search needs
 
 reply-reply-requires : (t : ℕ) → reply-lts.Need-reply-requires (reply-calls t) (reply-at t) reply.Post
 reply-reply-requires t c κs =
-    let p = c .before .before .before .before .before .before .before .before .pre in
+    let p = c .before .before .before .before .before .before .before .pre in
     let w = reply-line t (c .before .before .before .before) in
     (omega (arith, p .0, p .1 .1 .0, w), (p .1 .0, (omega (arith, p .1 .1 .0, w), p .1 .1 .1)))
 
@@ -382,7 +371,7 @@ reply-enum-known-rest-2 t c = search needs
 
 reply-reply-requires-2 : (t : ℕ) → reply-lts.Need-reply-requires-2 (reply-calls t) (reply-at t) reply.Post
 reply-reply-requires-2 t c κs =
-    let p = c .before .before .before .before .before .before .before .before .before .before .before .before .pre in
+    let p = c .before .before .before .before .before .before .before .before .before .before .before .pre in
     let w = reply-line t (c .before .before .before .before .before .before .before .before) in
     (omega (arith, p .0, p .1 .1 .0, w), (p .1 .0, (omega (arith, p .1 .1 .0, w), p .1 .1 .1)))
 
@@ -394,21 +383,21 @@ reply-enum-told-2 t c = search needs
 
 -- What the lines after the first reply come to, by what is known of the pair that it leaves.
 reply-after : (t : ℕ) (c : reply-lts.After-examine-left (reply-calls t) (reply-at t) reply.Post) (known : Examined) → c .examine-left .result ≡ known
-    → follow false known (Replied (c .before .before .before .before .before .pre .1 .0) (c .before .before .before .before .before .args .rounds) (c .before .before .before .before .before .args .second) (at (c .before .before .before .before .before .args .a .now)) (at (c .before .before .before .before .before .args .b .now)) (c .before .before .before .before .before .args .line) (c .before .before .next-reply .result + 1) (c .before .before .before .before .before .args .to))
-    ≡ examined (c .before .before .before .before .before .args .allowance) (Replied (c .before .before .before .before .before .pre .1 .0) (c .before .before .before .before .before .args .rounds) (c .before .before .before .before .before .args .second) (at (c .before .before .before .before .before .args .a .now)) (at (c .before .before .before .before .before .args .b .now)) (c .before .before .before .before .before .args .line) (c .before .before .before .before .before .args .from) (c .before .before .before .before .before .args .to))
+    → follow false known (Replied (c .before .before .before .before .pre .1 .0) (c .before .before .before .before .args .rounds) (c .before .before .before .before .args .second) (at (c .before .before .before .before .args .a .now)) (at (c .before .before .before .before .args .b .now)) (c .before .before .before .before .args .line) (c .before .before .next-reply .result + 1) (c .before .before .before .before .args .to))
+    ≡ examined (c .before .before .before .before .args .allowance) (Replied (c .before .before .before .before .pre .1 .0) (c .before .before .before .before .args .rounds) (c .before .before .before .before .args .second) (at (c .before .before .before .before .args .a .now)) (at (c .before .before .before .before .args .b .now)) (c .before .before .before .before .args .line) (c .before .before .before .before .args .from) (c .before .before .before .before .args .to))
 reply-after t c known m =
-    let a = c .before .before .before .before .before .args in
-    let p = c .before .before .before .before .before .pre .1 in
+    let a = c .before .before .before .before .args in
+    let p = c .before .before .before .before .pre .1 in
     reply-next (p .0) (a .rounds) (a .second) (at (a .a .now)) (at (a .b .now)) (a .from) (a .to) (a .allowance) (p .1 .0 .2) (a .line) (c .before .before .next-reply .result)
-    (reply-found t (c .before .before)) (c .before .if1 .left) (c .examine-left .result) known (c .examine-left .ensures) m
+    (c .before .before .next-reply .ensures) (c .before .if1 .left) (c .examine-left .result) known (c .examine-left .ensures) m
 
 -- The same of the second half of them, by what is known of the first half.
 reply-middle : (t : ℕ) (c : reply-lts.After-reply (reply-calls t) (reply-at t) reply.Post) (known : Examined) → c .reply .result ≡ known
-    → follow false known (Replied (c .before .before .before .before .before .before .before .before .before .pre .1 .0) (c .before .before .before .before .before .before .before .before .before .args .rounds) (c .before .before .before .before .before .before .before .before .before .args .second) (at (c .before .before .before .before .before .before .before .before .before .args .a .now)) (at (c .before .before .before .before .before .before .before .before .before .args .b .now)) (c .before .before .before .before .before .before .before .before .before .args .line) (c .before .before .before .before .before .before .next-reply .result + 1 + (c .before .before .before .before .before .before .before .before .before .args .to - (c .before .before .before .before .before .before .next-reply .result + 1)) / 2) (c .before .before .before .before .before .before .before .before .before .args .to))
-    ≡ examined (c .before .before .before .before .before .before .before .before .before .args .allowance) (Replied (c .before .before .before .before .before .before .before .before .before .pre .1 .0) (c .before .before .before .before .before .before .before .before .before .args .rounds) (c .before .before .before .before .before .before .before .before .before .args .second) (at (c .before .before .before .before .before .before .before .before .before .args .a .now)) (at (c .before .before .before .before .before .before .before .before .before .args .b .now)) (c .before .before .before .before .before .before .before .before .before .args .line) (c .before .before .before .before .before .before .before .before .before .args .from) (c .before .before .before .before .before .before .before .before .before .args .to))
+    → follow false known (Replied (c .before .before .before .before .before .before .before .before .pre .1 .0) (c .before .before .before .before .before .before .before .before .args .rounds) (c .before .before .before .before .before .before .before .before .args .second) (at (c .before .before .before .before .before .before .before .before .args .a .now)) (at (c .before .before .before .before .before .before .before .before .args .b .now)) (c .before .before .before .before .before .before .before .before .args .line) (c .before .before .before .before .before .before .next-reply .result + 1 + (c .before .before .before .before .before .before .before .before .args .to - (c .before .before .before .before .before .before .next-reply .result + 1)) / 2) (c .before .before .before .before .before .before .before .before .args .to))
+    ≡ examined (c .before .before .before .before .before .before .before .before .args .allowance) (Replied (c .before .before .before .before .before .before .before .before .pre .1 .0) (c .before .before .before .before .before .before .before .before .args .rounds) (c .before .before .before .before .before .before .before .before .args .second) (at (c .before .before .before .before .before .before .before .before .args .a .now)) (at (c .before .before .before .before .before .before .before .before .args .b .now)) (c .before .before .before .before .before .before .before .before .args .line) (c .before .before .before .before .before .before .before .before .args .from) (c .before .before .before .before .before .before .before .before .args .to))
 reply-middle t c known m =
-    let a = c .before .before .before .before .before .before .before .before .before .args in
-    let p = c .before .before .before .before .before .before .before .before .before .pre .1 in
+    let a = c .before .before .before .before .before .before .before .before .args in
+    let p = c .before .before .before .before .before .before .before .before .pre .1 in
     let next = c .before .before .before .before .before .before .next-reply .result + 1 in
     let w = reply-line t (c .before .before .before .before .before) in
     reply-half (p .0) (a .rounds) (a .second) (at (a .a .now)) (at (a .b .now)) next (a .to) (c .before .before .left2 .given .0 .0) (omega (arith, w)) (a .line) (next + (a .to - next) / 2) (omega (arith, w)) (omega (arith, w))
@@ -484,7 +473,6 @@ pub +challenge+examine-left+examine-pair+reply-spec : {M : Type 1} → statement
     λ t. reply-lts.spec (reply-calls t)
     (reply-at t)
     reply.Post
-    (reply-line-code-requires t)
     (reply-next-reply-requires t)
     (reply-returns t)
     (reply-add-next t)

@@ -12,10 +12,10 @@ use Rattle.walker.proofs.lines.next_reply.Statement.{statement}
 use Rattle.walker.proofs.lines.next_reply.Tie as tie
 
 abbrev Inv-loop : tie.InvT-loop
-Inv-loop card s from to code b line₀ line = Searching (λ j. answers code (at b) (lineOf s j)) from to line
+Inv-loop card s from to challenge b line₀ line = Searching (λ j. answers (lineOf s challenge) (at b) (lineOf s j)) from to line
 
 abbrev μ-loop : tie.MeasureT-loop
-μ-loop card s from to code b line₀ line = to - line
+μ-loop card s from to challenge b line₀ line = to - line
 
 loop-holds : tie.Need-loop-holds Inv-loop μ-loop
 loop-holds c = searching-starts _ _ _ (c .before .pre .1 .0)
