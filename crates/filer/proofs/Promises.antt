@@ -1,0 +1,297 @@
+-- What the answers mean, proved as the specification states it.
+use mathlib.Core.List.{List}
+use mathlib.Core.Logic.{_↔_, Iff·symm, Iff·trans, _⊎_, inl, inr}
+use mathlib.Core.Path.{_≡_, refl, sym, _∙_, ap, fun-ext}
+use Prim.Native.Nat.{ℕ, _+_, _*_, _≤_, _<_}
+use native.Mathlib.Decide.{decLt}
+use native.Mathlib.Nat.{mul-le-mul-right, suc-mul}
+use native.Mathlib.Omega.{arith}
+use lib.ListN.{length, take, List·getD-append}
+use lib.Seq.{take-at}
+use Rattle.model.specs.Field.{Field, unit, at}
+use Rattle.model.specs.Card.{Card, Live}
+use Rattle.model.specs.Base.{settledStage, settledRow}
+use Rattle.model.specs.Sheet.{kindCount, fieldCount, cardOf}
+use Rattle.model.specs.Limits.{Limits}
+use Rattle.model.specs.Refusal.{Accepted, Finding, clear, refusal, firstOf, settleChecks, compareChecks, formChecks}
+use Rattle.model.specs.Terms.{Before, BaseOf, Stage, Settled as IsSettled}
+use Rattle.model.specs.Meanings.{Settles}
+use Rattle.model.specs.Demands.{Demand2, Demand3}
+use Rattle.model.specs.Answer.{Answer, refused, given, Lent, same, different, settleOf, compareOf, formOf, rowOf, rowCheckOf, tableOf, primeForm, written}
+use Rattle.model.proofs.Lists.{length-from}
+use Rattle.model.proofs.Field.{unit-other}
+use Rattle.model.proofs.Answers.{demand1, table-length}
+use Rattle.model.proofs.Demands.{demands}
+use Rattle.model.proofs.Meanings.{meanings}
+use Rattle.filer.specs.Answers.{settlingOf, findingOf, verdictOf, formingOf}
+use Rattle.filer.specs.Promises.{SettleAnswers, SettleMeans, RowAnswers, CompareAnswers, CompareMeans, CompareGames, FormAnswers, FormMeans, Promises}
+use Rattle.filer.specs.declared.answers.Settling.{Settling}
+use Rattle.filer.specs.declared.answers.Settling.the-variants.{Settled, Refused as NotSettled}
+use Rattle.filer.specs.declared.answers.RowCheck.{RowCheck}
+use Rattle.filer.specs.declared.answers.RowCheck.the-variants.{Clear, Refused as NoRow}
+use Rattle.filer.specs.declared.answers.Verdict.{Verdict}
+use Rattle.filer.specs.declared.answers.Verdict.the-variants.{Same, Different, Refused as NotCalled}
+use Rattle.filer.specs.declared.answers.Forming.{Forming}
+use Rattle.filer.specs.declared.answers.Forming.the-variants.{Written, Refused as NotFormed}
+use Rattle.filer.proofs.Rows.{Whole, row-clear, row-at, row-past}
+
+-- The cases have different values.
+settling-only : (v w : Settling) → settlingOf v ≡ settlingOf w → v ≡ w
+settling-only (Settled t) (Settled u) e = cc
+settling-only (Settled t) (NotSettled k p) e = let z : _≡_ {A = ℕ} 0 1 = cc in absurd (omega arith)
+settling-only (NotSettled k p) (Settled t) e = let z : _≡_ {A = ℕ} 0 1 = cc in absurd (omega arith)
+settling-only (NotSettled k p) (NotSettled i q) e = cc
+
+finding-only : (v w : RowCheck) → findingOf v ≡ findingOf w → v ≡ w
+finding-only Clear Clear e = refl
+finding-only Clear (NoRow k p) e = let z : _≡_ {A = ℕ} 0 1 = cc in absurd (omega arith)
+finding-only (NoRow k p) Clear e = let z : _≡_ {A = ℕ} 0 1 = cc in absurd (omega arith)
+finding-only (NoRow k p) (NoRow i q) e = cc
+
+verdict-only : (v w : Verdict) → verdictOf v ≡ verdictOf w → v ≡ w
+verdict-only Same Same e = refl
+verdict-only Same (Different t r) e = let z : _≡_ {A = ℕ} 0 1 = cc in absurd (omega arith)
+verdict-only Same (NotCalled k p) e = let z : _≡_ {A = ℕ} 0 1 = cc in absurd (omega arith)
+verdict-only (Different t r) Same e = let z : _≡_ {A = ℕ} 0 1 = cc in absurd (omega arith)
+verdict-only (Different t r) (Different u q) e = cc
+verdict-only (Different t r) (NotCalled k p) e = let z : _≡_ {A = ℕ} 0 1 = cc in absurd (omega arith)
+verdict-only (NotCalled k p) Same e = let z : _≡_ {A = ℕ} 0 1 = cc in absurd (omega arith)
+verdict-only (NotCalled k p) (Different t r) e = let z : _≡_ {A = ℕ} 0 1 = cc in absurd (omega arith)
+verdict-only (NotCalled k p) (NotCalled i q) e = cc
+
+forming-only : (v w : Forming) → formingOf v ≡ formingOf w → v ≡ w
+forming-only Written Written e = refl
+forming-only Written (NotFormed k p) e = let z : _≡_ {A = ℕ} 0 1 = cc in absurd (omega arith)
+forming-only (NotFormed k p) Written e = let z : _≡_ {A = ℕ} 0 1 = cc in absurd (omega arith)
+forming-only (NotFormed k p) (NotFormed i q) e = cc
+
+-- So an answer is a case just when the value that the contract gives it is that of the case.
+told : {A B : Type 0} (f : A → B) → ((v w : A) → f v ≡ f w → v ≡ w) → {y : B} (v : A) → f v ≡ y → (w : A) → (v ≡ w) ↔ (y ≡ f w)
+told f only v e w = ((λ h. sym e ∙ ap f h), (λ h. only v w (e ∙ h)))
+
+-- A call is refused just as its checks find.
+module _ {X A : Type 0} (answer : X → Answer A) (x : X) (r : ℕ → ℕ → X) (a : A) (gives : answer x ≡ given a) (refuses : (k p : ℕ) → answer (r k p) ≡ refused k p) where
+  given-not : (k p : ℕ) → _≡_ {A = Answer A} (given a) (refused k p) → _≡_ {A = Finding} clear (refusal k p)
+  given-not k p e = let z : _≡_ {A = ℕ} 0 1 = cc in absurd (omega arith)
+
+  clear-not : (k p : ℕ) → _≡_ {A = Finding} clear (refusal k p) → answer x ≡ refused k p
+  clear-not k p e = let z : _≡_ {A = ℕ} 0 1 = cc in absurd (omega arith)
+
+  same-refusal : (j q k p : ℕ) → _≡_ {A = Answer A} (refused j q) (refused k p) → refusal j q ≡ refusal k p
+  same-refusal j q k p e = let h : j ≡ k = cc in let l : q ≡ p = cc in cc
+
+  same-refused : (j q k p : ℕ) → refusal j q ≡ refusal k p → _≡_ {A = Answer A} (refused j q) (refused k p)
+  same-refused j q k p e = let h : j ≡ k = cc in let l : q ≡ p = cc in cc
+
+  found : (f : Finding) (k p : ℕ) → (answer (elim f as (λ _. X) [ clear ↦ x | refusal k p ↦ r k p ]) ≡ refused k p) ↔ (f ≡ refusal k p)
+  found clear k p = ((λ e. given-not k p (sym gives ∙ e)), clear-not k p)
+  found (refusal j q) k p = ((λ e. same-refusal j q k p (sym (refuses j q) ∙ e)), (λ e. refuses j q ∙ same-refused j q k p e))
+
+-- The parts of what a call leaves.
+answer-of : {A : Type 0} {x y : Lent A} → x ≡ y → x .answer ≡ y .answer
+answer-of e = ap (λ z. z .answer) e
+
+lent-of : {A : Type 0} {x y : Lent A} → x ≡ y → x .lent ≡ y .lent
+lent-of e = ap (λ z. z .lent) e
+
+-- Settle.
+module _ (s table : List ℕ) (answer : Settling) (after : List ℕ) (e : settlingOf answer ≡ settleOf s table .answer) (d : after ≡ settleOf s table .lent) where
+  settle-refused : (k p : ℕ) → (answer ≡ NotSettled k p) ↔ (firstOf (settleChecks s (length table)) ≡ refusal k p)
+  unfolding settleOf
+  settle-refused k p =
+      Iff·trans (told settlingOf settling-only answer e (NotSettled k p))
+      (found (λ (x : Lent ℕ). x .answer) (record { answer = given (settledStage (cardOf s)); lent = written (tableOf s) table }) (λ k p. record { answer = refused k p; lent = table })
+      (settledStage (cardOf s)) refl (λ k p. refl) (firstOf (settleChecks s (length table))) k p)
+
+  settle-given : Limits s → kindCount s * kindCount s ≤ length table → (answer ≡ Settled (settledStage (cardOf s))) × (after ≡ written (tableOf s) table)
+  settle-given L h =
+      let r = demand1 s .settled L table h in
+      (settling-only answer (Settled (settledStage (cardOf s))) (e ∙ answer-of r), d ∙ lent-of r)
+
+  settle-answers : SettleAnswers s table answer after
+  settle-answers = record {
+    settled = settle-given;
+    refused = settle-refused;
+    unchanged = λ k p h. d ∙ lent-of (demand1 s .settle-refused table k p (settle-refused k p .0 h));
+  }
+
+  module _ (ok : Accepted s) (room : kindCount s * kindCount s ≤ length table) where
+    n : ℕ
+    n = kindCount s
+
+    limits : Limits s
+    limits = demand1 s .accepted .0 ok
+
+    card-kinds : cardOf s .kinds ≡ kindCount s
+    unfolding cardOf
+    card-kinds = refl
+
+    settles : Settles (cardOf s)
+    settles = meanings {0} .settles s ok
+
+    stage-is : (t : ℕ) → answer ≡ Settled t → settledStage (cardOf s) ≡ t
+    stage-is t h = let a = settle-given limits room .0 in cc
+
+    -- A row of the final base has counts of the card's kinds alone.
+    settled-past : (k j : ℕ) → k < kindCount s → kindCount s ≤ j → settledRow (cardOf s) k j ≡ 0
+    settled-past k j h l = go (settles .final .counts k (rw card-kinds h)) (decLt 0 (settledRow (cardOf s) k j))
+      where
+        go : {P Q : Type 0} → ((settledRow (cardOf s) k ≡ unit k) × P) ⊎ (Before (cardOf s) k (settledRow (cardOf s) k) × Q)
+            → Dec (0 < settledRow (cardOf s) k j) → settledRow (cardOf s) k j ≡ 0
+        go x (no z) = omega arith
+        go (inl x) (yes z) = ap (λ (f : Field). f j) (x .0) ∙ unit-other k j (λ i. omega arith)
+        go (inr x) (yes z) = absurd (omega (arith, x .0 j z .0, card-kinds))
+
+    row-handed : (k : ℕ) → k < kindCount s → rowCheckOf (kindCount s) k after ≡ clear
+    row-handed k h =
+        row-clear (kindCount s) k after (record {
+          some = limits .kinds .0;
+          few = limits .kinds .1;
+          kind = h;
+          room = omega (arith, ap length d, demand1 s .settle-length table);
+        })
+
+    -- The row that Row hands out is that of the final base.
+    row-is : (k : ℕ) → k < kindCount s → at (rowOf (kindCount s) k after) ≡ settledRow (cardOf s) k
+    unfolding written
+    row-is k h = fun-ext (λ j. go j (decLt j (kindCount s)))
+      where
+        go : (j : ℕ) → Dec (j < kindCount s) → at (rowOf (kindCount s) k after) j ≡ settledRow (cardOf s) k j
+        go j (yes l) =
+            row-at (kindCount s) k after (row-handed k h) j l
+            ∙ ap (λ (xs : List ℕ). at xs (k * kindCount s + j)) (settle-given limits room .1)
+            ∙ List·getD-append (tableOf s) _ 0 (k * kindCount s + j) (omega (arith, table-length s, mul-le-mul-right (kindCount s) h, suc-mul k (kindCount s)))
+            ∙ demand1 s .table-row k j h l
+        go j (no l) = row-past (kindCount s) k after (row-handed k h) j (omega arith) ∙ sym (settled-past k j h (omega arith))
+
+    base-handed : BaseOf (cardOf s) (Stage (cardOf s) (settledStage (cardOf s))) (λ k. at (rowOf (kindCount s) k after))
+    base-handed = record {
+      related = λ k h. rw (row-is k (rw card-kinds at h)) (settles .final .related k h);
+      counts = λ k h. go k h (settles .final .counts k h);
+    }
+      where
+        same-row : (k : ℕ) → Live (cardOf s) k → at (rowOf (kindCount s) k after) ≡ settledRow (cardOf s) k
+        same-row k h = row-is k (rw card-kinds at h)
+
+        go : {P : Type 0} (k : ℕ) → Live (cardOf s) k
+            → ((settledRow (cardOf s) k ≡ unit k) × P) ⊎ (Before (cardOf s) k (settledRow (cardOf s) k) × ((j : ℕ) → 0 < settledRow (cardOf s) k j → settledRow (cardOf s) j ≡ unit j))
+            → ((at (rowOf (kindCount s) k after) ≡ unit k) × P) ⊎ (Before (cardOf s) k (at (rowOf (kindCount s) k after)) × ((j : ℕ) → 0 < at (rowOf (kindCount s) k after) j → at (rowOf (kindCount s) j after) ≡ unit j))
+        go k h (inl x) = inl (same-row k h ∙ x .0, x .1)
+        go k h (inr x) =
+            inr ((λ j z. x .0 j (count j z)), λ j z. same-row j (x .0 j (count j z) .0) ∙ x .1 j (count j z))
+          where
+            count : (j : ℕ) → 0 < at (rowOf (kindCount s) k after) j → 0 < settledRow (cardOf s) k j
+            count j z = rw (ap (λ (f : Field). f j) (same-row k h)) at z
+
+    stage-means : (1 ≤ settledStage (cardOf s)) × (settledStage (cardOf s) ≤ kindCount s) × IsSettled (cardOf s) (settledStage (cardOf s))
+        × ((q : ℕ) → 1 ≤ q → q < settledStage (cardOf s) → ¬ IsSettled (cardOf s) q)
+    stage-means = (settles .from, omega (arith, settles .most, card-kinds), settles .settled, settles .least)
+
+    settle-means {ℓ} : SettleMeans {ℓ} s table answer after
+    settle-means = record {
+      stage = λ t h. rw (stage-is t h) at stage-means;
+      base = λ t h. rw (stage-is t h) at base-handed;
+      prime = λ k h. rw (row-is k h) (meanings {ℓ} .primes s ok .own-row k (rw card-kinds h));
+    }
+
+-- Row.
+row-answers : (n k : ℕ) (table : List ℕ) (answer : RowCheck) (part : List ℕ)
+    → findingOf answer ≡ rowCheckOf n k table → part ≡ rowOf n k table → RowAnswers n k table answer part
+row-answers n k table answer part e d = record {
+  handed = λ h. d ∙ demand1 table .row-part n k table (told findingOf finding-only answer e Clear .0 h);
+  empty = (
+    (λ h. let r = demand1 table .row-refused n k table .0 (sym d ∙ h) in (r .0, r .1, told findingOf finding-only answer e (NoRow (r .0) (r .1)) .1 (r .2))),
+    (λ x. d ∙ demand1 table .row-refused n k table .1 (x .0, x .1, told findingOf finding-only answer e (NoRow (x .0) (x .1)) .0 (x .2))),
+  );
+}
+
+-- Compare.
+module _ (s : List ℕ) (i j : ℕ) (answer : Verdict) (e : verdictOf answer ≡ compareOf s i j) where
+  is-same : (answer ≡ Same) ↔ (compareOf s i j ≡ given same)
+  is-same = told verdictOf verdict-only answer e Same
+
+  is-different : (t r : ℕ) → (answer ≡ Different t r) ↔ (compareOf s i j ≡ given (different t r))
+  is-different t r = told verdictOf verdict-only answer e (Different t r)
+
+  some-different : ((t : ℕ) × (r : ℕ) × (answer ≡ Different t r)) ↔ ((t : ℕ) × (r : ℕ) × (compareOf s i j ≡ given (different t r)))
+  some-different = ((λ x. (x .0, x .1, is-different (x .0) (x .1) .0 (x .2))), (λ x. (x .0, x .1, is-different (x .0) (x .1) .1 (x .2))))
+
+  compare-refused : (k p : ℕ) → (answer ≡ NotCalled k p) ↔ (firstOf (compareChecks s i j) ≡ refusal k p)
+  unfolding compareOf
+  compare-refused k p =
+      Iff·trans (told verdictOf verdict-only answer e (NotCalled k p)) (found (λ x. x) _ refused _ refl (λ k p. refl) (firstOf (compareChecks s i j)) k p)
+
+  compare-answers : CompareAnswers s i j answer
+  compare-answers = record { called = λ L h l. go (demand1 s .called L i j h l); refused = compare-refused }
+    where
+      go : (compareOf s i j ≡ given same) ⊎ ((t : ℕ) × (r : ℕ) × (compareOf s i j ≡ given (different t r))) → (answer ≡ Same) ⊎ ((t : ℕ) × (r : ℕ) × (answer ≡ Different t r))
+      go (inl x) = inl (is-same .1 x)
+      go (inr x) = inr (some-different .1 x)
+
+  module _ (ok : Accepted s) (h : i < fieldCount s) (l : j < fieldCount s) where
+    compare-means {ℓ} : CompareMeans {ℓ} s i j answer
+    compare-means =
+        let D : Demand2 {ℓ} s i j = demands {ℓ} .demand2 s ok i j h l in
+        record { same-means = Iff·trans is-same (D .same-means); different-means = Iff·trans some-different (D .different-means) }
+
+    compare-games : CompareGames s i j answer
+    compare-games =
+        let D : Demand3 s i j = demands {0} .demand3 s ok i j h l in
+        record {
+          same-plays = λ x. D .same-plays (is-same .0 x);
+          plays-same = λ f x. is-same .1 (D .plays-same f x);
+          parted-different = λ x. some-different .1 (D .parted-different x);
+          different-parted = λ t r x. D .different-parted t r (is-different t r .0 x);
+          different-stage = λ t r x. D .different-stage t r (is-different t r .0 x);
+        }
+
+-- Prime form.
+module _ (s : List ℕ) (i : ℕ) (buffer after : List ℕ) (d : after ≡ formOf s i buffer .lent) where
+  module _ (answer : Forming) (e : formingOf answer ≡ formOf s i buffer .answer) where
+    form-refused : (k p : ℕ) → (answer ≡ NotFormed k p) ↔ (firstOf (formChecks s i (length buffer)) ≡ refusal k p)
+    unfolding formOf
+    form-refused k p =
+        Iff·trans (told formingOf forming-only answer e (NotFormed k p))
+        (found (λ (x : Lent (Unit {0})). x .answer) (record { answer = given tt; lent = written (primeForm s i) buffer }) (λ k p. record { answer = refused k p; lent = buffer })
+        tt refl (λ k p. refl) (firstOf (formChecks s i (length buffer))) k p)
+
+    form-answers : FormAnswers s i buffer answer after
+    form-answers = record {
+      formed = λ L h l. let r = demand1 s .formed L i buffer h l in (forming-only answer Written (e ∙ answer-of r), d ∙ lent-of r);
+      refused = form-refused;
+      unchanged = λ k p h. d ∙ lent-of (demand1 s .form-refused i buffer k p (form-refused k p .0 h));
+    }
+
+  module _ (ok : Accepted s) (h : i < fieldCount s) (l : kindCount s ≤ length buffer) where
+    -- The buffer begins with the prime form.
+    begins : take (kindCount s) after ≡ primeForm s i
+    unfolding written primeForm
+    begins =
+        ap (take (kindCount s)) (d ∙ lent-of (demand1 s .formed (demand1 s .accepted .0 ok) i buffer h l))
+        ∙ take-at (primeForm s i) _ (kindCount s) (length-from _ 0 (kindCount s))
+
+    form-means {ℓ} : FormMeans {ℓ} s i after
+    form-means =
+        let D : Demand2 {ℓ} s i i = demands {ℓ} .demand2 s ok i i h h in
+        record { primes = λ k x. D .form-primes k (rw begins at x); bisimilar = rw begins (D .form-bisimilar) }
+
+form-equal : (s : List ℕ) (i j : ℕ) (first second after-first after-second : List ℕ) (answer : Verdict)
+    → after-first ≡ formOf s i first .lent → after-second ≡ formOf s j second .lent → verdictOf answer ≡ compareOf s i j
+    → Accepted s → i < fieldCount s → j < fieldCount s → kindCount s ≤ length first → kindCount s ≤ length second
+    → (take (kindCount s) after-first ≡ take (kindCount s) after-second) ↔ (answer ≡ Same)
+form-equal s i j first second after-first after-second answer d f e ok h l x y =
+    let D : Demand2 {0} s i j = demands {0} .demand2 s ok i j h l in
+    rw (begins s i first after-first d ok h x, begins s j second after-second f ok l y) (Iff·trans (D .form-equal) (Iff·symm (is-same s i j answer e)))
+
+pub promises {ℓ} : Promises {ℓ}
+promises = record {
+  settle-answers = settle-answers;
+  settle-means = λ s table answer after e d ok room. settle-means s table answer after e d ok room;
+  row-answers = row-answers;
+  compare-answers = compare-answers;
+  compare-means = λ s i j answer e ok h l. compare-means s i j answer e ok h l;
+  compare-games = compare-games;
+  form-answers = λ s i buffer answer after e d. form-answers s i buffer after d answer e;
+  form-means = λ s i buffer after d ok h l. form-means s i buffer after d ok h l;
+  form-equal = form-equal;
+}

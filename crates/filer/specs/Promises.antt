@@ -1,0 +1,121 @@
+-- What the answers mean: the three demands, said of the enums that the calls return and of what they leave in the lent buffers.
+use mathlib.Core.List.{List, []}
+use mathlib.Core.Logic.{_↔_, _⊎_}
+use mathlib.Core.Path.{_≡_}
+use Prim.Native.Nat.{ℕ, _*_, _≤_, _<_, min}
+use lib.ListN.{length, take, drop}
+use Rattle.model.specs.Field.{unit, at}
+use Rattle.model.specs.Card.{On}
+use Rattle.model.specs.Norm.{IsNorm}
+use Rattle.model.specs.Expansion.{Bisimilar}
+use Rattle.model.specs.Base.{roundsFor, settledStage}
+use Rattle.model.specs.Game.{Holds, Always, Parting, Parted, Strategy, Answered, Challenge}
+use Rattle.model.specs.Sheet.{kindCount, fieldCount, cardOf, fieldOf}
+use Rattle.model.specs.Limits.{Limits}
+use Rattle.model.specs.Refusal.{Accepted, refusal, firstOf, settleChecks, compareChecks, formChecks}
+use Rattle.model.specs.Terms.{IsGain, Stage, BaseOf, Prime, Settled as IsSettled}
+use Rattle.model.specs.Answer.{settleOf, compareOf, formOf, rowOf, rowCheckOf, tableOf, primeForm, written}
+use Rattle.filer.specs.Answers.{settlingOf, findingOf, verdictOf, formingOf}
+use Rattle.filer.specs.declared.answers.Settling.{Settling}
+use Rattle.filer.specs.declared.answers.Settling.the-variants.{Settled, Refused as NotSettled}
+use Rattle.filer.specs.declared.answers.RowCheck.{RowCheck}
+use Rattle.filer.specs.declared.answers.RowCheck.the-variants.{Clear, Refused as NoRow}
+use Rattle.filer.specs.declared.answers.Verdict.{Verdict}
+use Rattle.filer.specs.declared.answers.Verdict.the-variants.{Same, Different, Refused as NotCalled}
+use Rattle.filer.specs.declared.answers.Forming.{Forming}
+use Rattle.filer.specs.declared.answers.Forming.the-variants.{Written, Refused as NotFormed}
+
+-- Settle, of the bytes s and a lent table: its answer, and the table afterwards.
+pub record SettleAnswers (s table : List ℕ) (answer : Settling) (after : List ℕ) : Type 0 where
+  -- Demand 1: "Every sheet within the written limits is settled".
+  pub settled : Limits s → kindCount s * kindCount s ≤ length table → (answer ≡ Settled (settledStage (cardOf s))) × (after ≡ written (tableOf s) table)
+  -- Demand 1: "Every other sheet .. or short buffer gets the first number that applies in the table, and nothing lent changes."
+  pub refused : (k p : ℕ) → (answer ≡ NotSettled k p) ↔ (firstOf (settleChecks s (length table)) ≡ refusal k p)
+  pub unchanged : (k p : ℕ) → answer ≡ NotSettled k p → after ≡ table
+
+-- What Settle gives of an accepted sheet, in a table that is large enough.
+pub record SettleMeans {ℓ} (s table : List ℕ) (answer : Settling) (after : List ℕ) : Type (ℓ + 1) where
+  -- "The settled stage is the least s from 1 up in which every related pair satisfies expansion; it is at most n."
+  pub stage : (t : ℕ) → answer ≡ Settled t → (1 ≤ t) × (t ≤ kindCount s) × IsSettled (cardOf s) t × ((q : ℕ) → 1 ≤ q → q < t → ¬ IsSettled (cardOf s) q)
+  -- The rows that Row hands out of the table are "the final base", the base at that stage.
+  pub base : (t : ℕ) → answer ≡ Settled t → BaseOf (cardOf s) (Stage (cardOf s) t) (λ k. at (rowOf (kindCount s) k after))
+  -- "A prime kind's row is itself once."
+  pub prime : (k : ℕ) → k < kindCount s → (at (rowOf (kindCount s) k after) ≡ unit k) ↔ Prime {ℓ} (cardOf s) k
+
+-- Row, of a lent table, n and a kind: what its check answers, and the part handed out.
+pub record RowAnswers (n k : ℕ) (table : List ℕ) (answer : RowCheck) (part : List ℕ) : Type 0 where
+  -- "The row of a kind is handed out as that part of the lent table": the n entries from k × n on.
+  pub handed : answer ≡ Clear → part ≡ take n (drop (k * n) table)
+  -- "the part is empty just when that check refuses"
+  pub empty : (part ≡ []) ↔ ((q : ℕ) × (p : ℕ) × (answer ≡ NoRow q p))
+
+-- Compare, of the bytes s and two field numbers: its answer.
+pub record CompareAnswers (s : List ℕ) (i j : ℕ) (answer : Verdict) : Type 0 where
+  -- Demand 1: "any two of its fields are called same or different".
+  pub called : Limits s → i < fieldCount s → j < fieldCount s → (answer ≡ Same) ⊎ ((t : ℕ) × (r : ℕ) × (answer ≡ Different t r))
+  -- Demand 1: "Every other sheet, field number .. gets the first number that applies in the table".
+  pub refused : (k p : ℕ) → (answer ≡ NotCalled k p) ↔ (firstOf (compareChecks s i j) ≡ refusal k p)
+
+-- Demand 2 of Compare, of fields i and j of an accepted sheet, with bisimulations of every universe.
+pub record CompareMeans {ℓ} (s : List ℕ) (i j : ℕ) (answer : Verdict) : Type (ℓ + 1) where
+  -- "Same means that some bisimulation of Hirshfeld, Jerrum and Moller relates them, and different that none does."
+  pub same-means : (answer ≡ Same) ↔ Bisimilar {ℓ} (On (cardOf s)) (fieldOf s i) (fieldOf s j)
+  pub different-means : ((t : ℕ) × (r : ℕ) × (answer ≡ Different t r)) ↔ (¬ Bisimilar {ℓ} (On (cardOf s)) (fieldOf s i) (fieldOf s j))
+
+-- Demand 3 of Compare, one claim about whole games, of fields i and j of an accepted sheet.
+pub record CompareGames (s : List ℕ) (i j : ℕ) (answer : Verdict) : Type 0 where
+  -- "The two are called same exactly when, whatever list of challenges is given, however long and on whichever side each falls, every
+  -- challenge can be answered, by replies that need not know what is still to come." The pair left after every such list holds at every r.
+  pub same-plays : answer ≡ Same
+      → (f : Strategy (cardOf s)) × ((hs : List (Challenge (cardOf s))) → Answered (cardOf s) f (Always (cardOf s)) [] hs (fieldOf s i) (fieldOf s j))
+  pub plays-same : (f : Strategy (cardOf s))
+      → ((hs : List (Challenge (cardOf s))) → Answered (cardOf s) f (λ _ _. Unit {0}) [] hs (fieldOf s i) (fieldOf s j)) → answer ≡ Same
+  -- "They are called different exactly when some choice of challenges, each made in view of the replies so far, parts them whatever the replies,
+  -- and then within the number of rounds reported, which is N + 1 + (s - 1)(g + 1), or N + 1 if s is 0: N the smaller of the two norms, s the
+  -- stage reported, never above the number of kinds, g the most that one read adds to a norm."
+  pub parted-different : Parting (cardOf s) (fieldOf s i) (fieldOf s j) → (t : ℕ) × (r : ℕ) × (answer ≡ Different t r)
+  pub different-parted : (t r : ℕ) → answer ≡ Different t r → Parting (cardOf s) (fieldOf s i) (fieldOf s j) × Parted (cardOf s) r (fieldOf s i) (fieldOf s j)
+      × (¬ Holds (cardOf s) r (fieldOf s i) (fieldOf s j)) × (t ≤ kindCount s)
+      × ((x : ℕ) × (y : ℕ) × (g : ℕ) × IsNorm (cardOf s) (fieldOf s i) x × IsNorm (cardOf s) (fieldOf s j) y × IsGain (cardOf s) g
+      × (r ≡ roundsFor (min x y) g t))
+  -- "The stage is the least that does not relate the pair."
+  pub different-stage : (t r : ℕ) → answer ≡ Different t r
+      → (¬ Stage (cardOf s) t (fieldOf s i) (fieldOf s j)) × ((q : ℕ) → q < t → Stage (cardOf s) q (fieldOf s i) (fieldOf s j))
+
+-- Prime form, of the bytes s, a field number and a lent buffer: its answer, and the buffer afterwards.
+pub record FormAnswers (s : List ℕ) (i : ℕ) (buffer : List ℕ) (answer : Forming) (after : List ℕ) : Type 0 where
+  -- Demand 1: "every prime form is written".
+  pub formed : Limits s → i < fieldCount s → kindCount s ≤ length buffer → (answer ≡ Written) × (after ≡ written (primeForm s i) buffer)
+  -- Demand 1: "Every other sheet, field number .. or short buffer gets the first number that applies in the table, and nothing lent changes."
+  pub refused : (k p : ℕ) → (answer ≡ NotFormed k p) ↔ (firstOf (formChecks s i (length buffer)) ≡ refusal k p)
+  pub unchanged : (k p : ℕ) → answer ≡ NotFormed k p → after ≡ buffer
+
+-- Demand 2 of Prime form, of field i of an accepted sheet and a buffer that is large enough: the n counts that it then begins with.
+pub record FormMeans {ℓ} (s : List ℕ) (i : ℕ) (after : List ℕ) : Type (ℓ + 1) where
+  -- "A prime form holds prime kinds only, is bisimilar to its field".
+  pub primes : (k : ℕ) → 0 < at (take (kindCount s) after) k → Prime {ℓ} (cardOf s) k
+  pub bisimilar : Bisimilar {ℓ} (On (cardOf s)) (fieldOf s i) (at (take (kindCount s) after))
+
+-- The promises. Each takes the equations of a call's contract, and says what they mean.
+pub record Promises {ℓ} : Type (ℓ + 1) where
+  pub settle-answers : (s table : List ℕ) (answer : Settling) (after : List ℕ)
+      → settlingOf answer ≡ settleOf s table .answer → after ≡ settleOf s table .lent → SettleAnswers s table answer after
+  pub settle-means : (s table : List ℕ) (answer : Settling) (after : List ℕ)
+      → settlingOf answer ≡ settleOf s table .answer → after ≡ settleOf s table .lent
+      → Accepted s → kindCount s * kindCount s ≤ length table → SettleMeans {ℓ} s table answer after
+  pub row-answers : (n k : ℕ) (table : List ℕ) (answer : RowCheck) (part : List ℕ)
+      → findingOf answer ≡ rowCheckOf n k table → part ≡ rowOf n k table → RowAnswers n k table answer part
+  pub compare-answers : (s : List ℕ) (i j : ℕ) (answer : Verdict) → verdictOf answer ≡ compareOf s i j → CompareAnswers s i j answer
+  pub compare-means : (s : List ℕ) (i j : ℕ) (answer : Verdict) → verdictOf answer ≡ compareOf s i j
+      → Accepted s → i < fieldCount s → j < fieldCount s → CompareMeans {ℓ} s i j answer
+  pub compare-games : (s : List ℕ) (i j : ℕ) (answer : Verdict) → verdictOf answer ≡ compareOf s i j
+      → Accepted s → i < fieldCount s → j < fieldCount s → CompareGames s i j answer
+  pub form-answers : (s : List ℕ) (i : ℕ) (buffer : List ℕ) (answer : Forming) (after : List ℕ)
+      → formingOf answer ≡ formOf s i buffer .answer → after ≡ formOf s i buffer .lent → FormAnswers s i buffer answer after
+  pub form-means : (s : List ℕ) (i : ℕ) (buffer after : List ℕ) → after ≡ formOf s i buffer .lent
+      → Accepted s → i < fieldCount s → kindCount s ≤ length buffer → FormMeans {ℓ} s i after
+  -- Demand 2: a prime form "is equal for two fields just when they are the same".
+  pub form-equal : (s : List ℕ) (i j : ℕ) (first second after-first after-second : List ℕ) (answer : Verdict)
+      → after-first ≡ formOf s i first .lent → after-second ≡ formOf s j second .lent → verdictOf answer ≡ compareOf s i j
+      → Accepted s → i < fieldCount s → j < fieldCount s → kindCount s ≤ length first → kindCount s ≤ length second
+      → (take (kindCount s) after-first ≡ take (kindCount s) after-second) ↔ (answer ≡ Same)
