@@ -20,3 +20,11 @@ pub mod Matching
 pub mod TableRows
 pub mod LineForms
 pub mod Answers
+-- Arrays that are filled; where two fields part, stage by stage; fields as read.
+pub mod Filling
+pub mod Parted
+pub mod Fields
+-- What the tables of the lines tell of a stage; the loop over the stages; what the calls answer.
+pub mod LineTables
+pub mod Unsettled
+pub mod Outcomes

@@ -8,3 +8,5 @@ pub mod Stage
 pub mod Forms
 -- Challenges and replies that lower the norm.
 pub mod Answer
+-- The settle loop: what it holds at a stage, and what it answers.
+pub mod Settle

@@ -12,3 +12,11 @@ pub mod class;
 pub mod line_forms;
 // Norm-reducing expansion of a kind against a product.
 pub mod answer;
+// The lines, read once.
+pub mod sheet_lines;
+// Where the fields part from one of them.
+pub mod parting;
+// Whether the rows of a stage satisfy expansion.
+pub mod expansion;
+// The stages one after the other, up to the settled one.
+pub mod settle;

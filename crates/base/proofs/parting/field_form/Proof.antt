@@ -1,0 +1,53 @@
+-- The kinds of the card are a part of the field's counts.
+use borrow.Author.Needs.{needs}
+use mathlib.Core.Path.{_≡_, sym, _∙_}
+use native.Mathlib.Omega.{arith}
+use lib.ListN.{length}
+use Rattle.sheet.proofs.Laws.{kinds-most}
+use Rattle.base.proofs.Tables.{at-kind}
+use Rattle.base.proofs.Fields.{part-long, part-form}
+use Rattle.base.proofs.parting.field_form.Statement.{statement}
+use Rattle.base.proofs.parting.field_form.Tie as tie
+
+field-requires : tie.Need-field-requires
+field-requires c κs = search needs
+
+array-share-prefix-field : tie.Need-array-share-prefix-field
+array-share-prefix-field c =
+    let R = c .before .before .before .pre .0 in
+    let e : length (c .field .result) ≡ 32 = search needs in
+    omega (arith, kinds-most R)
+
+slice-aggregate-form-of-field : tie.Need-slice-aggregate-form-of-field
+slice-aggregate-form-of-field c =
+    let b = c .before .before .before .before in
+    sym (part-long (b .pre .0) (b .args .i) _ (c .before .field .ensures))
+
+slice-aggregate-form-of-field-2 : tie.Need-slice-aggregate-form-of-field-2
+slice-aggregate-form-of-field-2 c = search needs
+
+form-of-field-requires : tie.Need-form-of-field-requires
+form-of-field-requires c κs =
+    let b = c .before .before .before .before .before in
+    let R = b .pre .0 in
+    let xs = c .before .before .field .result in
+    let e = c .before .before .field .ensures in
+    let long = part-long R (b .args .i) xs e in
+    let rows = b .args .rows .now in
+    ((omega (arith, long, kinds-most R, b .pre .1 .1 .0), search needs), λ j. omega (arith, at-kind (part-form R (b .args .i) xs e rows) j, b .pre .1 .1 .1 (b .args .i) j))
+
+returns : tie.Need-returns
+returns c =
+    let b = c .before .before .before .before .before .before .before in
+    c .before .form-of-field .ensures ∙ part-form (b .pre .0) (b .args .i) _ (c .before .before .before .before .field .ensures) (b .args .rows .now)
+
+pub field-form-spec : {M : Type 1} → statement M
+field-form-spec =
+    tie.close
+    (tie.spec
+    field-requires
+    array-share-prefix-field
+    slice-aggregate-form-of-field
+    slice-aggregate-form-of-field-2
+    form-of-field-requires
+    returns)

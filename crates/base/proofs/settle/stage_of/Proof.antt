@@ -1,0 +1,51 @@
+-- The classes and the partings are those of the rows.
+use borrow.Author.Needs.{needs}
+use mathlib.Core.Path.{_≡_}
+use Prim.Native.Nat.{_-_}
+use lib.ListN.{length}
+use Rattle.base.proofs.Unsettled.{base-before}
+use Rattle.base.proofs.settle.stage_of.Statement.{statement}
+use Rattle.base.proofs.settle.stage_of.Tie as tie
+
+slice-aggregate-line-classes : tie.Need-slice-aggregate-line-classes
+slice-aggregate-line-classes c = search needs
+
+line-classes-requires : tie.Need-line-classes-requires
+line-classes-requires c κs =
+    let b = c .before .before .before .before .before .before .before in
+    let e : length (b .args .base .rows) ≡ 1024 = search needs in
+    (b .pre .0, (b .pre .1 .0, (b .pre .1 .1 .0, (e, b .pre .1 .1 .1 .0 .0))))
+
+slice-aggregate-parted-by-forms : tie.Need-slice-aggregate-parted-by-forms
+slice-aggregate-parted-by-forms c = search needs
+
+parted-by-forms-requires : tie.Need-parted-by-forms-requires
+parted-by-forms-requires c κs =
+    let b = c .before .before .before .before .before .before .before .before .before .before .before in
+    let e : length (b .args .base .rows) ≡ 1024 = search needs in
+    (b .pre .0, (b .pre .1 .0, ((e, b .pre .1 .1 .1 .0 .1, b .pre .1 .1 .1 .0 .2), (b .pre .1 .1 .1 .1 .0, b .pre .1 .1 .1 .1 .1))))
+
+same-length : tie.Need-same-length
+same-length c = search needs
+
+returns : tie.Need-returns
+returns c =
+    let b = c .before .before .before .before .before .before .before .before .before .before .before .before in
+    let told = c .before .before .before .before .line-classes .ensures in
+    record {
+      base-is = b .pre .1 .1 .1 .1 .0;
+      classes-tell = told .0 (b .args .t - 1) (base-before (b .args .s .now) (b .args .base .rows) (b .args .t) (b .pre .1 .1 .1 .0 .1) (b .pre .1 .1 .1 .1 .0));
+      classes-small = told .1;
+      parted-is = c .parted-by-forms .ensures;
+    }
+
+pub stage-of-spec : {M : Type 1} → statement M
+stage-of-spec =
+    tie.close
+    (tie.spec
+    slice-aggregate-line-classes
+    line-classes-requires
+    slice-aggregate-parted-by-forms
+    parted-by-forms-requires
+    same-length
+    returns)

@@ -1,0 +1,43 @@
+// Whether the rows of a stage satisfy expansion, by the classes of the lines.
+use crate::class::marks;
+use crate::class::same_marks;
+use crate::table::row_of;
+ghost use mathlib.Core.Path.{_≡_};
+ghost use mathlib.Core.Bool.{true};
+ghost use mathlib.Core.Logic.{_↔_};
+ghost use Prim.Native.Nat.{_≤_, _<_};
+ghost use lib.ListN.{length};
+ghost use Rattle.model.specs.Field.{unit};
+ghost use Rattle.model.specs.Limits.{mostKinds};
+ghost use Rattle.base.specs.Table.{Under, rowIn};
+ghost use Rattle.base.specs.Settle.{MayUseAlike, RowsExpand};
+
+// Whether kind k and its row may use lines of the same classes.
+fn row_expands(kinds: &[usize], classes: &[usize], rows: &[u32], k: usize) -> bool
+    requires { ⌜ (length (now classes) ≡ length (now kinds)) × Under 256 (now classes) ⌝ }
+    requires { ⌜ (length (now rows) ≡ 1024) × (k < mostKinds) ⌝ }
+    ensures { λ r. ⌜ (r ≡ true) ↔ MayUseAlike (now (kinds .entry)) (now (classes .entry)) (unit k) (rowIn (now (rows .entry)) k) ⌝ }
+{
+    let mut token = [0u32; 32];
+    token[k] = 1;
+    let own = marks(kinds, classes, &token);
+    let row = marks(kinds, classes, row_of(rows, k));
+    same_marks(&own, &row)
+}
+
+// Whether each of n kinds and its row do: "every row must".
+pub fn rows_expand(kinds: &[usize], classes: &[usize], rows: &[u32], n: usize) -> bool
+    requires { ⌜ (length (now classes) ≡ length (now kinds)) × Under 256 (now classes) ⌝ }
+    requires { ⌜ (length (now rows) ≡ 1024) × (n ≤ mostKinds) ⌝ }
+    ensures { λ r. ⌜ (r ≡ true) ↔ RowsExpand (now (kinds .entry)) (now (classes .entry)) (now (rows .entry)) n ⌝ }
+{
+    let mut k = 0;
+    while k < n {
+        if row_expands(kinds, classes, rows, k) {
+            k += 1;
+        } else {
+            return false;
+        }
+    }
+    true
+}
