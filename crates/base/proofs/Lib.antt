@@ -20,6 +20,10 @@ pub mod Matching
 pub mod TableRows
 pub mod LineForms
 pub mod Answers
+pub mod Products
+-- The row of a kind at a stage, from the tables; the loop over the kinds.
+pub mod StageRows
+pub mod KindByKind
 -- Arrays that are filled; where two fields part, stage by stage; fields as read.
 pub mod Filling
 pub mod Parted

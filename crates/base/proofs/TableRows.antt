@@ -1,17 +1,17 @@
 -- Rows of flat tables: read from a part, set by a store of a part, and how large their counts and the forms by them are.
 -- Assumes nothing.
-use mathlib.Core.List.{List, _++_}
+use mathlib.Core.List.{List, _++_, append-assoc}
 use mathlib.Core.Path.{_≡_, refl, sym, ap, _∙_, fun-ext}
 use Prim.Native.Nat.{ℕ, _+_, _*_, _-_, _^_, _≤_, _<_}
 use native.Mathlib.Decide.{decLt}
 use native.Mathlib.Nat.{add-sub-cancel-left}
 use native.Mathlib.Omega.{arith}
 use lib.ListN.{length, take, drop, List·getD-append, length-take, length-drop}
-use lib.Seq.{getD-take, getD-drop, getD-append-add, length-take-le}
+use lib.Seq.{getD-take, getD-drop, getD-append-add, length-take-le, drop-drop}
 use Rattle.model.specs.Field.{Field, at, weigh}
 use Rattle.model.specs.Limits.{mostKinds}
 use Rattle.norms.proofs.Counts.{weigh-within}
-use Rattle.base.specs.Table.{Under, rowIn, formIn}
+use Rattle.base.specs.Table.{Under, rowIn, formIn, withRow}
 use Rattle.base.specs.Forms.{RowSet}
 use Rattle.base.proofs.Tables.{past, partOf}
 
@@ -110,6 +110,11 @@ module _ (xs : List ℕ) (k : ℕ) (ys : List ℕ) (long : length ys ≡ mostKin
 
   pub row-set-under : {bound : ℕ} → Under bound xs → Under bound ys → Under bound (withPart xs k ys)
   row-set-under u v = rw (add-sub-cancel-left (k * mostKinds) mostKinds) (put-under xs (k * mostKinds) mostKinds ys long room u v)
+
+  -- The same of the table with a row replaced.
+  pub with-row : (f : Field) → at ys ≡ f → RowSet f k xs (withRow xs k ys)
+  unfolding withRow
+  with-row f e = rw (append-assoc, long, ← drop-drop mostKinds (k * mostKinds) xs) (stored f e)
 
 -- The form of a line's byte counts, by rows of 32-bit counts, keeps within 63 bits.
 pub form-small : (n : ℕ) (rows : List ℕ) (a : Field) → n ≤ mostKinds → Under (2 ^ 32) rows → ((k : ℕ) → a k < 256) → (j : ℕ) → formIn n rows a j < 2 ^ 63

@@ -8,5 +8,8 @@ pub mod Stage
 pub mod Forms
 -- Challenges and replies that lower the norm.
 pub mod Answer
+-- Candidates for the row of a kind, and the tests they pass; what is given and known when rows are sought.
+pub mod Row
+pub mod StageRows
 -- The settle loop: what it holds at a stage, and what it answers.
 pub mod Settle

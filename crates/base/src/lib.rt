@@ -12,6 +12,12 @@ pub mod class;
 pub mod line_forms;
 // Norm-reducing expansion of a kind against a product.
 pub mod answer;
+// The tests of a product as the row of a kind.
+pub mod product;
+// The row of a kind.
+pub mod row;
+// The rows of a stage.
+pub mod stage;
 // The lines, read once.
 pub mod sheet_lines;
 // Where the fields part from one of them.

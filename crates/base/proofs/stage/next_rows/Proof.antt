@@ -1,0 +1,34 @@
+use Rattle.base.proofs.StageRows.{follows-next, base-next}
+use borrow.Author.Needs.{needs}
+use Rattle.base.proofs.stage.next_rows.Statement.{statement}
+use Rattle.base.proofs.stage.next_rows.Tie as tie
+use Rattle.base.proofs.stage.next_rows.Reads as reads
+use Rattle.base.proofs.stage.next_rows.Lts as lts
+use Rattle.base.proofs.stage.stage_rows.Reads as stage-rows-reads
+
+-- src/stage.rt:70:5
+stage-rows-requires : tie.Need-stage-rows-requires
+stage-rows-requires c κs =
+    let b = c .before .before .before .before .before .before .before .before in
+    let p = b .pre .1 .1 .1 in (
+      record {
+        accepts = b .pre .0;
+        lines = b .pre .1 .0;
+        previous-long = p .0 .0;
+        classes-long = p .0 .1;
+        classes-under = p .0 .2;
+        follows = follows-next (b .args .s .now) (b .args .t) (b .args .previous .now) (b .args .classes .now) (p .1 .1) (p .1 .2);
+      },
+      b .pre .1 .1 .0,
+    )
+
+-- src/stage.rt:62:1
+same-length : tie.Need-same-length
+same-length c = search needs
+
+-- src/stage.rt:62:1
+returns : tie.Need-returns
+returns c = base-next (c .before .before .before .before .before .before .before .before .before .before .before .args .s .now) (c .before .before .before .before .before .before .before .before .before .before .before .args .t) (c .before .before .stage-rows .result .rows) (c .before .before .stage-rows .ensures)
+
+pub next-rows-spec : {M : Type 1} → statement M
+next-rows-spec = tie.close (tie.spec stage-rows-requires same-length returns)

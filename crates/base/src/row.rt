@@ -1,0 +1,200 @@
+// The row of a kind at stage t + 1: the first candidate that passes, or the kind itself.
+use crate::effect::RowCandidate;
+use crate::effect::candidate;
+use crate::product::one_token;
+use crate::product::passes;
+use norms::order::earlier;
+use sheet::Card;
+ghost use mathlib.Core.Path.{_≡_};
+ghost use mathlib.Core.Bool.{true};
+ghost use mathlib.Core.Logic.{_↔_};
+ghost use Prim.Native.Nat.{ℕ, suc, _^_, _<_};
+ghost use lib.ListN.{length};
+ghost use Rattle.model.specs.Field.{at};
+ghost use Rattle.model.specs.Base.{stageRow};
+ghost use Rattle.model.specs.Sheet.{cardOf};
+ghost use Rattle.base.specs.Table.{Under, rowIn};
+ghost use Rattle.base.specs.Answer.{LoweringTables};
+ghost use Rattle.base.specs.Row.{LowersKind, Suits, IsTold};
+ghost use Rattle.base.specs.StageRows.{StageGiven, RowSought};
+
+// A line of kind k that lowers the norm; there is one.
+fn lowering_line(kinds: &[usize], lowers: &[bool], k: usize) -> usize
+    requires { ⌜ length (now lowers) ≡ length (now kinds) ⌝ }
+    requires { ⌜ ((l : ℕ) × LowersKind (now kinds) (now lowers) k l) ⌝ }
+    ensures { λ r. ⌜ LowersKind (now (kinds .entry)) (now (lowers .entry)) k r ⌝ }
+{
+    let mut l = 0;
+    while l < kinds.len() {
+        let kind = kinds[l];
+        if kind == k {
+            if lowers[l] {
+                return l;
+            }
+        }
+        l += 1;
+    }
+    l
+}
+
+// Whether line m lowers the norm, reads line l's code, and is of an atom earlier than k.
+fn suits(
+    norms: [u32; 32],
+    kinds: &[usize],
+    codes: &[usize],
+    lowers: &[bool],
+    rows: &[u32],
+    k: usize,
+    l: usize,
+    m: usize,
+) -> bool
+    requires { ⌜ (length (now codes) ≡ length (now kinds)) × (length (now lowers) ≡ length (now kinds)) × (length (now rows) ≡ 1024) ⌝ }
+    requires { ⌜ ((j : ℕ) → j < length (now kinds) → at (now kinds) j < 32) ⌝ }
+    requires { ⌜ (k < 32) × (l < length (now kinds)) × (m < length (now kinds)) ⌝ }
+    ensures { λ r. ⌜ (r ≡ true) ↔ Suits norms (now (kinds .entry)) (now (codes .entry)) (now (lowers .entry)) (now (rows .entry)) k l m ⌝ }
+{
+    if lowers[m] {
+        let code = codes[l];
+        let other = codes[m];
+        if other == code {
+            let kind = kinds[m];
+            if earlier(norms, k, kind) {
+                let own = kind * 32 + kind;
+                let count = rows[own];
+                return count == 1;
+            }
+        }
+    }
+    false
+}
+
+// The candidate that lines l and m tell, where m suits.
+fn told(
+    norms: [u32; 32],
+    kinds: &[usize],
+    codes: &[usize],
+    forms: &[u64],
+    lowers: &[bool],
+    rows: &[u32],
+    k: usize,
+    l: usize,
+    m: usize,
+) -> RowCandidate
+    requires { ⌜ LoweringTables (now kinds) (now codes) (now forms) (now lowers) ⌝ }
+    requires { ⌜ length (now rows) ≡ 1024 ⌝ }
+    requires { ⌜ (k < 32) × (l < length (now kinds)) × (m < length (now kinds)) ⌝ }
+    ensures { λ r. ⌜ IsTold norms (now (kinds .entry)) (now (codes .entry)) (now (forms .entry)) (now (lowers .entry)) (now (rows .entry)) k l m (r .found) (r .counts) ⌝ }
+{
+    if suits(norms, kinds, codes, lowers, rows, k, l, m) {
+        let first = l * 32;
+        let second = m * 32;
+        return candidate(
+            &forms[first..first + 32],
+            &forms[second..second + 32],
+            kinds[m],
+        );
+    }
+    RowCandidate {
+        found: false,
+        counts: [0u32; 32],
+    }
+}
+
+// The row of kind k, of those that its lines tell.
+fn told_row(
+    s: &[u8],
+    card: Card,
+    norms: [u32; 32],
+    kinds: &[usize],
+    codes: &[usize],
+    lowers: &[bool],
+    t: usize,
+    previous: &[u32],
+    classes: &[usize],
+    rows: &[u32],
+    forms: &[u64],
+    k: usize,
+) -> [u32; 32]
+    requires { ⌜ StageGiven (now s) card norms (now kinds) (now codes) (now lowers) t (now previous) (now classes) ⌝ }
+    requires { ⌜ (k < card .kinds) × (length (now rows) ≡ 1024) × (length (now forms) ≡ 8192) × Under (2 ^ 63) (now forms) ⌝ }
+    requires { ⌜ RowSought (now s) t k (now rows) (now forms) ⌝ }
+    ensures { λ r. ⌜ at r ≡ stageRow (cardOf (now (s .entry))) (suc t) k ⌝ }
+{
+    let n = card.kinds;
+    let l = lowering_line(kinds, lowers, k);
+    let mut m = 0;
+    while m < kinds.len() {
+        let x = told(norms, kinds, codes, forms, lowers, rows, k, l, m);
+        if x.found {
+            let counts = x.counts;
+            if passes(
+                kinds,
+                codes,
+                forms,
+                lowers,
+                n,
+                t,
+                previous,
+                classes,
+                k,
+                &counts,
+            ) {
+                return counts;
+            }
+        }
+        m += 1;
+    }
+    one_token(k)
+}
+
+// Whether kind k was an atom at stage t, if that is one from 1 up.
+fn was_atom(t: usize, previous: &[u32], k: usize) -> bool
+    requires { ⌜ (k < 32) × (length (now previous) ≡ 1024) ⌝ }
+    ensures { λ r. ⌜ (r ≡ true) ↔ ((0 < t) × (rowIn (now (previous .entry)) k k ≡ 1)) ⌝ }
+{
+    if 0 < t {
+        let own = k * 32 + k;
+        let count = previous[own];
+        return count == 1;
+    }
+    false
+}
+
+// The row of kind k. An atom stays an atom.
+pub fn row_of_kind(
+    s: &[u8],
+    card: Card,
+    norms: [u32; 32],
+    kinds: &[usize],
+    codes: &[usize],
+    lowers: &[bool],
+    t: usize,
+    previous: &[u32],
+    classes: &[usize],
+    rows: &[u32],
+    forms: &[u64],
+    k: usize,
+) -> [u32; 32]
+    requires { ⌜ StageGiven (now s) card norms (now kinds) (now codes) (now lowers) t (now previous) (now classes) ⌝ }
+    requires { ⌜ (k < card .kinds) × (length (now rows) ≡ 1024) × (length (now forms) ≡ 8192) × Under (2 ^ 63) (now forms) ⌝ }
+    requires { ⌜ RowSought (now s) t k (now rows) (now forms) ⌝ }
+    ensures { λ r. ⌜ at r ≡ stageRow (cardOf (now (s .entry))) (suc t) k ⌝ }
+{
+    if was_atom(t, previous, k) {
+        return one_token(k);
+    }
+    told_row(
+        s,
+        card,
+        norms,
+        kinds,
+        codes,
+        lowers,
+        t,
+        previous,
+        classes,
+        rows,
+        forms,
+        k,
+    )
+}

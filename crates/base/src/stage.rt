@@ -1,0 +1,162 @@
+// The rows of one stage, kind by kind: the earliest kind that is not done first, so that all earlier kinds are done.
+use crate::line_forms::kind_forms;
+use crate::order::earliest;
+use crate::row::row_of_kind;
+use crate::table::Base;
+use crate::table::clear;
+use sheet::Card;
+ghost use mathlib.Core.Path.{_≡_};
+ghost use Prim.Native.Nat.{ℕ, suc, _+_, _-_, _^_, _≤_, _<_};
+ghost use lib.ListN.{length};
+ghost use Rattle.norms.specs.Norms.{Accepts};
+ghost use Rattle.base.specs.Table.{Under};
+ghost use Rattle.base.specs.Stage.{BaseAt, Classes, LinesAre};
+ghost use Rattle.base.specs.StageRows.{StageGiven, EarlierSet, KindSet};
+
+// The base with kind k set, and the forms of its lowering lines.
+fn set_kind(
+    s: &[u8],
+    card: Card,
+    norms: [u32; 32],
+    kinds: &[usize],
+    codes: &[usize],
+    lowers: &[bool],
+    t: usize,
+    previous: &[u32],
+    classes: &[usize],
+    base: Base,
+    forms: &mut [u64],
+    k: usize,
+) -> Base
+    requires { ⌜ StageGiven (now s) card norms (now kinds) (now codes) (now lowers) t (now previous) (now classes) ⌝ }
+    requires { ⌜ (k < card .kinds) × (length (now forms) ≡ 8192) × Under (2 ^ 63) (now forms) ⌝ }
+    requires { ⌜ EarlierSet (now s) t k (base .rows) (now forms) ⌝ }
+    ensures { λ r. ⌜ KindSet (now (s .entry)) t k (base .rows) (r .rows) (now (forms .entry)) (now (forms .exit)) ⌝ }
+{
+    let rows = base.rows;
+    kind_forms(s, card, kinds, lowers, &rows, forms, k);
+    let row = row_of_kind(
+        s,
+        card,
+        norms,
+        kinds,
+        codes,
+        lowers,
+        t,
+        previous,
+        classes,
+        &rows,
+        forms,
+        k,
+    );
+    base.set_row(k, &row)
+}
+
+// The rows of stage t + 1, from those of stage t; of stage 1, where t is 0, from the norms alone.
+fn stage_rows(
+    s: &[u8],
+    card: Card,
+    norms: [u32; 32],
+    kinds: &[usize],
+    codes: &[usize],
+    lowers: &[bool],
+    t: usize,
+    previous: &[u32],
+    classes: &[usize],
+    forms: &mut [u64],
+) -> Base
+    requires { ⌜ StageGiven (now s) card norms (now kinds) (now codes) (now lowers) t (now previous) (now classes) ⌝ }
+    requires { ⌜ length (now forms) ≡ 8192 ⌝ }
+    ensures { λ r. ⌜ BaseAt (now (s .entry)) (suc t) (r .rows) ⌝ }
+{
+    clear(forms);
+    let n = card.kinds;
+    let mut base = Base::new();
+    let mut done = [false; 32];
+    let mut k = earliest(&norms, n, &done);
+    while k < n {
+        base = set_kind(
+            s,
+            card,
+            norms,
+            kinds,
+            codes,
+            lowers,
+            t,
+            previous,
+            classes,
+            base,
+            forms,
+            k,
+        );
+        done[k] = true;
+        k = earliest(&norms, n, &done);
+    }
+    base
+}
+
+// The base at stage 1.
+pub fn first_rows(
+    s: &[u8],
+    card: Card,
+    norms: [u32; 32],
+    kinds: &[usize],
+    codes: &[usize],
+    lowers: &[bool],
+    forms: &mut [u64],
+) -> Base
+    requires { ⌜ Accepts (now s) card norms ⌝ }
+    requires { ⌜ LinesAre (now s) (now kinds) (now codes) (now lowers) ⌝ }
+    requires { ⌜ length (now forms) ≡ 8192 ⌝ }
+    ensures { λ r. ⌜ BaseAt (now (s .entry)) 1 (r .rows) ⌝ }
+{
+    let none = [0u32; 1024];
+    let one = [0usize; 256];
+    let lines = card.lines;
+    stage_rows(
+        s,
+        card,
+        norms,
+        kinds,
+        codes,
+        lowers,
+        0,
+        &none,
+        &one[0..lines],
+        forms,
+    )
+}
+
+// The base at stage t + 1, from the base and the classes at stage t.
+pub fn next_rows(
+    s: &[u8],
+    card: Card,
+    norms: [u32; 32],
+    kinds: &[usize],
+    codes: &[usize],
+    lowers: &[bool],
+    previous: &[u32],
+    classes: &[usize],
+    t: usize,
+    forms: &mut [u64],
+) -> Base
+    requires { ⌜ Accepts (now s) card norms ⌝ }
+    requires { ⌜ LinesAre (now s) (now kinds) (now codes) (now lowers) ⌝ }
+    requires { ⌜ length (now forms) ≡ 8192 ⌝ }
+    requires { ⌜ (length (now previous) ≡ 1024) × (length (now classes) ≡ length (now kinds)) × Under 256 (now classes) ⌝ }
+    requires { ⌜ (1 ≤ t) × BaseAt (now s) t (now previous) × Classes (now s) (t - 1) (now classes) ⌝ }
+    ensures { λ r. ⌜ BaseAt (now (s .entry)) (t + 1) (r .rows) ⌝ }
+{
+    stage_rows(
+        s,
+        card,
+        norms,
+        kinds,
+        codes,
+        lowers,
+        t,
+        previous,
+        classes,
+        forms,
+    )
+}
