@@ -3,20 +3,27 @@ use crate::class::classes;
 use crate::expansion::rows_expand;
 use crate::line_forms::all_forms;
 use crate::parting::parted_by_forms;
+use crate::parting::parted_by_norms;
+use crate::sheet_lines::line_codes;
+use crate::sheet_lines::line_kinds;
+use crate::sheet_lines::lowering_lines;
+use crate::stage::first_rows;
+use crate::stage::next_rows;
 use crate::table::Base;
 use sheet::Card;
 ghost use mathlib.Core.Path.{_≡_};
 ghost use mathlib.Core.Bool.{Bool, true};
 ghost use mathlib.Core.List.{List};
 ghost use mathlib.Core.Logic.{_↔_};
-ghost use Prim.Native.Nat.{ℕ, suc, _-_, _≤_};
+ghost use Prim.Native.Nat.{ℕ, suc, _+_, _-_, _≤_, _<_};
 ghost use lib.ListN.{length, take};
 ghost use Rattle.model.specs.Limits.{mostKinds};
 ghost use Rattle.model.specs.Refusal.{Accepted};
 ghost use Rattle.sheet.specs.Reader.{Reads};
+ghost use Rattle.norms.specs.Norms.{Accepts};
 ghost use Rattle.base.specs.Table.{Under};
 ghost use Rattle.base.specs.Stage.{BaseAt, Classes, LinesAre};
-ghost use Rattle.base.specs.Settle.{PartedAt, RowsExpand, AtStage};
+ghost use Rattle.base.specs.Settle.{PartedAt, RowsExpand, AtStage, IsSettled};
 
 // What is held at a stage: its base, the classes of the lines by it, and where the fields part from the first one.
 pub struct Stage {
@@ -91,4 +98,120 @@ fn stage_of(
         classes: numbers,
         parted: next,
     }
+}
+
+// What is held at stage 1.
+fn first_stage(
+    s: &[u8],
+    card: Card,
+    norms: [u32; 32],
+    first: usize,
+    kinds: &[usize],
+    codes: &[usize],
+    lowers: &[bool],
+    forms: &mut [u64],
+) -> Stage
+    requires { ⌜ Accepts (now s) card norms ⌝ }
+    requires { ⌜ LinesAre (now s) (now kinds) (now codes) (now lowers) ⌝ }
+    requires { ⌜ length (now forms) ≡ 8192 ⌝ }
+    ensures { λ r. ⌜ AtStage (now (s .entry)) first 1 r ⌝ }
+{
+    let base = first_rows(s, card, norms, kinds, codes, lowers, forms);
+    let parted = parted_by_norms(s, card, norms, first);
+    stage_of(s, card, first, kinds, codes, base, 1, parted, forms)
+}
+
+// What is held at stage t + 1, from what is held at stage t.
+fn next_stage(
+    s: &[u8],
+    card: Card,
+    norms: [u32; 32],
+    first: usize,
+    kinds: &[usize],
+    codes: &[usize],
+    lowers: &[bool],
+    held: Stage,
+    t: usize,
+    forms: &mut [u64],
+) -> Stage
+    requires { ⌜ Accepts (now s) card norms ⌝ }
+    requires { ⌜ LinesAre (now s) (now kinds) (now codes) (now lowers) ⌝ }
+    requires { ⌜ (length (now forms) ≡ 8192) × (1 ≤ t) × (t < mostKinds) ⌝ }
+    requires { ⌜ AtStage (now s) first t held ⌝ }
+    ensures { λ r. ⌜ AtStage (now (s .entry)) first (t + 1) r ⌝ }
+{
+    let base = held.base;
+    let rows = base.rows;
+    let numbers = held.classes;
+    let parted = held.parted;
+    let lines = kinds.len();
+    let next = next_rows(
+        s,
+        card,
+        norms,
+        kinds,
+        codes,
+        lowers,
+        &rows,
+        &numbers[..lines],
+        t,
+        forms,
+    );
+    stage_of(s, card, first, kinds, codes, next, t + 1, parted, forms)
+}
+
+// The first stage that is settled, from stage 1 on.
+fn settle_lines(
+    s: &[u8],
+    card: Card,
+    norms: [u32; 32],
+    first: usize,
+    kinds: &[usize],
+    codes: &[usize],
+    lowers: &[bool],
+    forms: &mut [u64],
+) -> Settled
+    requires { ⌜ Accepts (now s) card norms ⌝ }
+    requires { ⌜ LinesAre (now s) (now kinds) (now codes) (now lowers) ⌝ }
+    requires { ⌜ length (now forms) ≡ 8192 ⌝ }
+    ensures { λ r. ⌜ IsSettled (now (s .entry)) first r ⌝ }
+{
+    let n = card.kinds;
+    let mut held = first_stage(s, card, norms, first, kinds, codes, lowers, forms);
+    let mut t = 1;
+    loop {
+        if is_settled(kinds, n, held) {
+            let base = held.base;
+            let parted = held.parted;
+            return Settled {
+                base,
+                stage: t,
+                parted,
+            };
+        }
+        held = next_stage(s, card, norms, first, kinds, codes, lowers, held, t, forms);
+        t += 1;
+    }
+}
+
+// "The settled stage is the least s from 1 up in which every related pair satisfies expansion", with its base, and where the fields part from the first one.
+pub fn settle(s: &[u8], card: Card, norms: [u32; 32], first: usize) -> Settled
+    requires { ⌜ Accepts (now s) card norms ⌝ }
+    ensures { λ r. ⌜ IsSettled (now (s .entry)) first r ⌝ }
+{
+    let lines = card.lines;
+    let kinds = line_kinds(s, card);
+    let codes = line_codes(s, card);
+    let lowers = lowering_lines(s, card, norms);
+    let mut forms = [0u64; 8192];
+    settle_lines(
+        s,
+        card,
+        norms,
+        first,
+        &kinds[..lines],
+        &codes[..lines],
+        &lowers[..lines],
+        &mut forms,
+    )
 }

@@ -1,0 +1,34 @@
+-- Stage 0 and the rows of stage 1 give what is held there.
+use borrow.Author.Needs.{needs}
+use mathlib.Core.Path.{_∙_}
+use native.Mathlib.Omega.{arith}
+use Rattle.base.proofs.settle.first_stage.Statement.{statement}
+use Rattle.base.proofs.settle.first_stage.Tie as tie
+
+first-rows-requires : tie.Need-first-rows-requires
+first-rows-requires c κs = let b = c .before .before .before .before .before .before in (b .pre .0, (b .pre .1 .0, b .pre .1 .1))
+
+parted-by-norms-requires : tie.Need-parted-by-norms-requires
+parted-by-norms-requires c κs = c .before .before .before .before .before .before .before .before .before .pre .0
+
+stage-of-requires : tie.Need-stage-of-requires
+stage-of-requires c κs =
+    let b = c .before .before .before .before .before .before .before .before .before .before .before in
+    let f = c .before .before .before .before .first-rows in
+    (b .pre .0 .reads, (b .pre .0 .accepted, ((b .args .lowers .now, b .pre .1 .0), ((f .kept .1 .1 .1 .1 .1 .1 .0 ∙ b .pre .1 .1, omega arith, omega arith), (f .ensures, c .before .parted-by-norms .ensures)))))
+
+same-length : tie.Need-same-length
+same-length c = search needs
+
+returns : tie.Need-returns
+returns c = c .before .before .stage-of .ensures
+
+pub first-stage-spec : {M : Type 1} → statement M
+first-stage-spec =
+    tie.close
+    (tie.spec
+    first-rows-requires
+    parted-by-norms-requires
+    stage-of-requires
+    same-length
+    returns)
