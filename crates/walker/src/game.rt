@@ -49,7 +49,7 @@ fn challenge(
     }
     let next = line + 1;
     let middle = next + (to - next) / 2;
-    match reply(
+    let answered = reply(
         card,
         s,
         rounds - 1,
@@ -60,22 +60,16 @@ fn challenge(
         a,
         b,
         allowance,
-    ) {
-        Examined::Holds(left) => match challenge(
-            card,
-            s,
-            rounds,
-            second,
-            next,
-            middle,
-            a,
-            b,
-            left,
-        ) {
-            Examined::Holds(rest) => challenge(card, s, rounds, second, middle, to, a, b, rest),
-            Examined::Fails(rest) => Examined::Fails(rest),
-            Examined::Spent => Examined::Spent,
-        },
+    );
+    match answered {
+        Examined::Holds(left) => {
+            let half = challenge(card, s, rounds, second, next, middle, a, b, left);
+            match half {
+                Examined::Holds(rest) => challenge(card, s, rounds, second, middle, to, a, b, rest),
+                Examined::Fails(rest) => Examined::Fails(rest),
+                Examined::Spent => Examined::Spent,
+            }
+        }
         Examined::Fails(left) => Examined::Fails(left),
         Examined::Spent => Examined::Spent,
     }
@@ -107,24 +101,19 @@ fn reply(
     }
     let next = answer + 1;
     let middle = next + (to - next) / 2;
-    match examine_left(card, s, rounds, second, line, answer, a, b, allowance) {
+    let examined = examine_left(card, s, rounds, second, line, answer, a, b, allowance);
+    match examined {
         Examined::Holds(left) => Examined::Holds(left),
-        Examined::Fails(left) => match reply(
-            card,
-            s,
-            rounds,
-            second,
-            line,
-            next,
-            middle,
-            a,
-            b,
-            left,
-        ) {
-            Examined::Holds(rest) => Examined::Holds(rest),
-            Examined::Fails(rest) => reply(card, s, rounds, second, line, middle, to, a, b, rest),
-            Examined::Spent => Examined::Spent,
-        },
+        Examined::Fails(left) => {
+            let half = reply(card, s, rounds, second, line, next, middle, a, b, left);
+            match half {
+                Examined::Holds(rest) => Examined::Holds(rest),
+                Examined::Fails(rest) => {
+                    reply(card, s, rounds, second, line, middle, to, a, b, rest)
+                }
+                Examined::Spent => Examined::Spent,
+            }
+        }
         Examined::Spent => Examined::Spent,
     }
 }

@@ -140,8 +140,8 @@ challenge-reply-requires t c κs =
     let m = lines-most (p .1 .0) in
     (omega (arith, p .0, p .1 .1 .0, m), (p .1 .0, (omega (arith, p .1 .1 .0, w), (rw z (p .1 .1 .1 .0), rw z (p .1 .1 .1 .1)))))
 
-challenge-enum-known-left : (t : ℕ) → challenge-lts.Need-enum-known-left (challenge-calls t) (challenge-at t) challenge.Post
-challenge-enum-known-left t c = search needs
+challenge-enum-known-answered : (t : ℕ) → challenge-lts.Need-enum-known-answered (challenge-calls t) (challenge-at t) challenge.Post
+challenge-enum-known-answered t c = search needs
 
 challenge-challenge-requires : (t : ℕ) → challenge-lts.Need-challenge-requires (challenge-calls t) (challenge-at t) challenge.Post
 challenge-challenge-requires t c κs =
@@ -149,8 +149,8 @@ challenge-challenge-requires t c κs =
     let w = challenge-line t (c .before .before .before .before) in
     (omega (arith, p .0, p .1 .1 .0, w), (p .1 .0, (omega (arith, p .1 .1 .0, w), p .1 .1 .1)))
 
-challenge-enum-known-rest : (t : ℕ) → challenge-lts.Need-enum-known-rest (challenge-calls t) (challenge-at t) challenge.Post
-challenge-enum-known-rest t c = search needs
+challenge-enum-known-half : (t : ℕ) → challenge-lts.Need-enum-known-half (challenge-calls t) (challenge-at t) challenge.Post
+challenge-enum-known-half t c = search needs
 
 challenge-challenge-requires-2 : (t : ℕ) → challenge-lts.Need-challenge-requires-2 (challenge-calls t) (challenge-at t) challenge.Post
 challenge-challenge-requires-2 t c κs =
@@ -158,14 +158,14 @@ challenge-challenge-requires-2 t c κs =
     let w = challenge-line t (c .before .before .before .before .before .before .before .before) in
     (omega (arith, p .0, p .1 .1 .0, w), (p .1 .0, (omega (arith, p .1 .1 .0, w), p .1 .1 .1)))
 
-challenge-enum-known-rest-2 : (t : ℕ) → challenge-lts.Need-enum-known-rest-2 (challenge-calls t) (challenge-at t) challenge.Post
-challenge-enum-known-rest-2 t c = search needs
+challenge-enum-known-half-2 : (t : ℕ) → challenge-lts.Need-enum-known-half-2 (challenge-calls t) (challenge-at t) challenge.Post
+challenge-enum-known-half-2 t c = search needs
 
 challenge-enum-told : (t : ℕ) → challenge-lts.Need-enum-told (challenge-calls t) (challenge-at t) challenge.Post
 challenge-enum-told t c = search needs
 
-challenge-enum-known-left-2 : (t : ℕ) → challenge-lts.Need-enum-known-left-2 (challenge-calls t) (challenge-at t) challenge.Post
-challenge-enum-known-left-2 t c = search needs
+challenge-enum-known-answered-2 : (t : ℕ) → challenge-lts.Need-enum-known-answered-2 (challenge-calls t) (challenge-at t) challenge.Post
+challenge-enum-known-answered-2 t c = search needs
 
 challenge-enum-told-2 : (t : ℕ) → challenge-lts.Need-enum-told-2 (challenge-calls t) (challenge-at t) challenge.Post
 challenge-enum-told-2 t c = search needs
@@ -189,21 +189,21 @@ challenge-middle t c known m =
     let p = c .before .before .before .before .before .before .before .before .pre .1 in
     let next = c .before .before .before .before .before .before .next-challenge .result + 1 in
     let w = challenge-line t (c .before .before .before .before .before) in
-    challenge-half (p .0) (a .rounds - 1) (a .second) (at (a .a .now)) (at (a .b .now)) next (a .to) (c .before .before .left .given .0 .0) (omega (arith, w)) (next + (a .to - next) / 2) (omega (arith, w)) (omega (arith, w))
+    challenge-half (p .0) (a .rounds - 1) (a .second) (at (a .a .now)) (at (a .b .now)) next (a .to) (c .before .before .answered .given .0 .0) (omega (arith, w)) (next + (a .to - next) / 2) (omega (arith, w)) (omega (arith, w))
     (c .challenge .result) known (c .challenge .ensures) m
-    ∙ challenge-after t (c .before .before .before .before) (Holds (c .before .before .left .given .0 .0)) (c .before .before .left .given .1)
+    ∙ challenge-after t (c .before .before .before .before) (Holds (c .before .before .answered .given .0 .0)) (c .before .before .answered .given .1)
 
 challenge-returns-2 : (t : ℕ) → challenge-lts.Need-returns-2 (challenge-calls t) (challenge-at t) challenge.Post
-challenge-returns-2 t c = c .challenge2 .ensures ∙ challenge-middle t (c .before .before .before .before) (Holds (c .before .before .rest .given .0 .0)) (c .before .before .rest .given .1)
+challenge-returns-2 t c = c .challenge2 .ensures ∙ challenge-middle t (c .before .before .before .before) (Holds (c .before .before .half .given .0 .0)) (c .before .before .half .given .1)
 
 challenge-returns-3 : (t : ℕ) → challenge-lts.Need-returns-3 (challenge-calls t) (challenge-at t) challenge.Post
-challenge-returns-3 t c = challenge-middle t (c .before .before .before) (Fails (c .before .rest2 .given .0 .0)) (c .before .rest2 .given .1)
+challenge-returns-3 t c = challenge-middle t (c .before .before .before) (Fails (c .before .half2 .given .0 .0)) (c .before .half2 .given .1)
 
 challenge-returns-4 : (t : ℕ) → challenge-lts.Need-returns-4 (challenge-calls t) (challenge-at t) challenge.Post
 challenge-returns-4 t c = challenge-middle t (c .before .before) Spent (c .enum-told .given .1)
 
 challenge-returns-5 : (t : ℕ) → challenge-lts.Need-returns-5 (challenge-calls t) (challenge-at t) challenge.Post
-challenge-returns-5 t c = challenge-after t (c .before .before .before) (Fails (c .before .left2 .given .0 .0)) (c .before .left2 .given .1)
+challenge-returns-5 t c = challenge-after t (c .before .before .before) (Fails (c .before .answered2 .given .0 .0)) (c .before .answered2 .given .1)
 
 challenge-returns-6 : (t : ℕ) → challenge-lts.Need-returns-6 (challenge-calls t) (challenge-at t) challenge.Post
 challenge-returns-6 t c = challenge-after t (c .before .before) Spent (c .enum-told2 .given .1)
@@ -351,11 +351,11 @@ reply-examine-left-requires t c κs =
     let w = reply-line t c in
     (omega (arith, p .0, p .1 .1 .0), (p .1 .0, (omega (arith, p .1 .1 .0, w), p .1 .1 .1)))
 
-reply-enum-known-left : (t : ℕ) → reply-lts.Need-enum-known-left (reply-calls t) (reply-at t) reply.Post
-reply-enum-known-left t c = search needs
+reply-enum-known-examined : (t : ℕ) → reply-lts.Need-enum-known-examined (reply-calls t) (reply-at t) reply.Post
+reply-enum-known-examined t c = search needs
 
-reply-enum-known-left-2 : (t : ℕ) → reply-lts.Need-enum-known-left-2 (reply-calls t) (reply-at t) reply.Post
-reply-enum-known-left-2 t c = search needs
+reply-enum-known-examined-2 : (t : ℕ) → reply-lts.Need-enum-known-examined-2 (reply-calls t) (reply-at t) reply.Post
+reply-enum-known-examined-2 t c = search needs
 
 reply-reply-requires : (t : ℕ) → reply-lts.Need-reply-requires (reply-calls t) (reply-at t) reply.Post
 reply-reply-requires t c κs =
@@ -363,11 +363,11 @@ reply-reply-requires t c κs =
     let w = reply-line t (c .before .before .before .before) in
     (omega (arith, p .0, p .1 .1 .0, w), (p .1 .0, (omega (arith, p .1 .1 .0, w), p .1 .1 .1)))
 
-reply-enum-known-rest : (t : ℕ) → reply-lts.Need-enum-known-rest (reply-calls t) (reply-at t) reply.Post
-reply-enum-known-rest t c = search needs
+reply-enum-known-half : (t : ℕ) → reply-lts.Need-enum-known-half (reply-calls t) (reply-at t) reply.Post
+reply-enum-known-half t c = search needs
 
-reply-enum-known-rest-2 : (t : ℕ) → reply-lts.Need-enum-known-rest-2 (reply-calls t) (reply-at t) reply.Post
-reply-enum-known-rest-2 t c = search needs
+reply-enum-known-half-2 : (t : ℕ) → reply-lts.Need-enum-known-half-2 (reply-calls t) (reply-at t) reply.Post
+reply-enum-known-half-2 t c = search needs
 
 reply-reply-requires-2 : (t : ℕ) → reply-lts.Need-reply-requires-2 (reply-calls t) (reply-at t) reply.Post
 reply-reply-requires-2 t c κs =
@@ -400,18 +400,18 @@ reply-middle t c known m =
     let p = c .before .before .before .before .before .before .before .before .pre .1 in
     let next = c .before .before .before .before .before .before .next-reply .result + 1 in
     let w = reply-line t (c .before .before .before .before .before) in
-    reply-half (p .0) (a .rounds) (a .second) (at (a .a .now)) (at (a .b .now)) next (a .to) (c .before .before .left2 .given .0 .0) (omega (arith, w)) (a .line) (next + (a .to - next) / 2) (omega (arith, w)) (omega (arith, w))
+    reply-half (p .0) (a .rounds) (a .second) (at (a .a .now)) (at (a .b .now)) next (a .to) (c .before .before .examined2 .given .0 .0) (omega (arith, w)) (a .line) (next + (a .to - next) / 2) (omega (arith, w)) (omega (arith, w))
     (c .reply .result) known (c .reply .ensures) m
-    ∙ reply-after t (c .before .before .before .before) (Fails (c .before .before .left2 .given .0 .0)) (c .before .before .left2 .given .1)
+    ∙ reply-after t (c .before .before .before .before) (Fails (c .before .before .examined2 .given .0 .0)) (c .before .before .examined2 .given .1)
 
 reply-returns-2 : (t : ℕ) → reply-lts.Need-returns-2 (reply-calls t) (reply-at t) reply.Post
-reply-returns-2 t c = reply-after t (c .before .before .before) (Holds (c .before .left .given .0 .0)) (c .before .left .given .1)
+reply-returns-2 t c = reply-after t (c .before .before .before) (Holds (c .before .examined .given .0 .0)) (c .before .examined .given .1)
 
 reply-returns-3 : (t : ℕ) → reply-lts.Need-returns-3 (reply-calls t) (reply-at t) reply.Post
-reply-returns-3 t c = reply-middle t (c .before .before .before) (Holds (c .before .rest .given .0 .0)) (c .before .rest .given .1)
+reply-returns-3 t c = reply-middle t (c .before .before .before) (Holds (c .before .half .given .0 .0)) (c .before .half .given .1)
 
 reply-returns-4 : (t : ℕ) → reply-lts.Need-returns-4 (reply-calls t) (reply-at t) reply.Post
-reply-returns-4 t c = c .reply2 .ensures ∙ reply-middle t (c .before .before .before .before) (Fails (c .before .before .rest2 .given .0 .0)) (c .before .before .rest2 .given .1)
+reply-returns-4 t c = c .reply2 .ensures ∙ reply-middle t (c .before .before .before .before) (Fails (c .before .before .half2 .given .0 .0)) (c .before .before .half2 .given .1)
 
 reply-returns-5 : (t : ℕ) → reply-lts.Need-returns-5 (reply-calls t) (reply-at t) reply.Post
 reply-returns-5 t c = reply-middle t (c .before .before) Spent (c .enum-told .given .1)
@@ -431,13 +431,13 @@ pub +challenge+examine-left+examine-pair+reply-spec : {M : Type 1} → statement
     (challenge-add-middle t)
     (challenge-sub-reply t)
     (challenge-reply-requires t)
-    (challenge-enum-known-left t)
+    (challenge-enum-known-answered t)
     (challenge-challenge-requires t)
-    (challenge-enum-known-rest t)
+    (challenge-enum-known-half t)
     (challenge-challenge-requires-2 t)
-    (challenge-enum-known-rest-2 t)
+    (challenge-enum-known-half-2 t)
     (challenge-enum-told t)
-    (challenge-enum-known-left-2 t)
+    (challenge-enum-known-answered-2 t)
     (challenge-enum-told-2 t)
     (challenge-returns-2 t)
     (challenge-returns-3 t)
@@ -479,11 +479,11 @@ pub +challenge+examine-left+examine-pair+reply-spec : {M : Type 1} → statement
     (reply-sub-middle t)
     (reply-add-middle t)
     (reply-examine-left-requires t)
-    (reply-enum-known-left t)
-    (reply-enum-known-left-2 t)
+    (reply-enum-known-examined t)
+    (reply-enum-known-examined-2 t)
     (reply-reply-requires t)
-    (reply-enum-known-rest t)
-    (reply-enum-known-rest-2 t)
+    (reply-enum-known-half t)
+    (reply-enum-known-half-2 t)
     (reply-reply-requires-2 t)
     (reply-enum-told t)
     (reply-enum-told-2 t)
