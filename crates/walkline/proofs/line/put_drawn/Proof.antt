@@ -1,0 +1,40 @@
+use native.Mathlib.Omega.{arith}
+use Rattle.model.specs.Page.{bytes}
+use Rattle.page.proofs.Append.{then, reads-as}
+use Rattle.walkline.specs.Line.{drawnText}
+use Rattle.walkline.proofs.Texts.{drawn-is}
+use borrow.Author.Needs.{needs}
+use Rattle.walkline.proofs.line.put_drawn.Statement.{statement}
+use Rattle.walkline.proofs.line.put_drawn.Tie as tie
+
+slice-aggregate-put-labelled : tie.Need-slice-aggregate-put-labelled
+slice-aggregate-put-labelled c = search needs
+
+put-labelled-requires : tie.Need-put-labelled-requires
+put-labelled-requires c κs = search needs
+
+slice-aggregate-put-bytes : tie.Need-slice-aggregate-put-bytes
+slice-aggregate-put-bytes c = search needs
+
+put-bytes-requires : tie.Need-put-bytes-requires
+put-bytes-requires c κs = search needs
+
+same-length : tie.Need-same-length
+same-length c = search needs
+
+returns : tie.Need-returns
+unfolding bytes
+returns c =
+    let drawn = c .before .before .before .before .before .before .before .before .before .before .before .args .drawn in
+    reads-as 28 (drawnText drawn) (then (c .before .before .before .before .before .before .before .put-labelled .ensures) (c .before .before .put-bytes .ensures)) (omega arith) (drawn-is drawn)
+
+pub put-drawn-spec : {M : Type 1} → statement M
+put-drawn-spec =
+    tie.close
+    (tie.spec
+    slice-aggregate-put-labelled
+    put-labelled-requires
+    slice-aggregate-put-bytes
+    put-bytes-requires
+    same-length
+    returns)
