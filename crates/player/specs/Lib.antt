@@ -1,0 +1,3 @@
+pub mod Says
+pub mod Shapes
+pub mod Judged

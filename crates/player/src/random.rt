@@ -1,0 +1,42 @@
+// Numbers that a seed gives. A number is asked for by its place, so that nothing is carried from one to the next.
+ghost use Prim.Native.Nat.{_<_};
+
+// The middle of a product, in which every bit of a number of 32 bits has its part.
+fn mix(x: u64) -> u64
+    ensures { λ r. ⌜ r < 4294967296 ⌝ }
+{
+    (x % 4294967296 * 2654435761 + 974711) / 65536 % 4294967296
+}
+
+// A number brought below n.
+pub fn reduce(x: usize, n: usize) -> usize
+    requires { ⌜ 0 < n ⌝ }
+    ensures { λ r. ⌜ r < n ⌝ }
+{
+    x % n
+}
+
+// The number below n that the seed has at a place.
+pub fn pick(seed: u64, place: usize, n: usize) -> usize
+    requires { ⌜ 0 < n ⌝ }
+    ensures { λ r. ⌜ r < n ⌝ }
+{
+    let p = (place % 65536) as u64;
+    let x = mix(mix(mix(seed) + mix(seed / 4294967296 + 1)) + p);
+    reduce((mix(mix(x)) / 256) as usize, n)
+}
+
+// The greater of two such numbers: one that is rarely small.
+pub fn pick_high(seed: u64, place: usize, n: usize) -> usize
+    requires { ⌜ (place < 1000) × (0 < n) ⌝ }
+    ensures { λ r. ⌜ r < n ⌝ }
+{
+    let x = pick(seed, place, n);
+    let y = pick(seed, place + 1000, n);
+    if x < y { y } else { x }
+}
+
+// The seed after this one.
+pub fn next(seed: u64) -> u64 {
+    std::num::wrapping_add_u64(seed, 1)
+}
