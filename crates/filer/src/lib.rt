@@ -3,8 +3,20 @@
 // What the calls answer.
 pub mod answers;
 
+// The core that serves every call but Row: a sheet is checked and settled once.
+pub mod settlement;
+
+// Settle.
+pub mod settle;
+
 // Row, and the check of its inputs.
 pub mod row;
+
+// Compare.
+pub mod compare;
+
+// Prime form.
+pub mod form;
 
 pub use answers::Forming;
 pub use answers::RowCheck;

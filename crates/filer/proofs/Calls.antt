@@ -1,0 +1,115 @@
+-- What the calls answer: where the sheet's checks refuse, where the call's own do, and what a settled sheet gives.
+use mathlib.Core.List.{List, []}
+use mathlib.Core.Path.{_≡_, sym, _∙_, ap}
+use Prim.Native.Nat.{ℕ, suc, _+_, _*_, _/_, _%_, _^_, _≤_, _<_, min}
+use native.Mathlib.Nat.{div-add-mod'}
+use native.Mathlib.Omega.{arith}
+use lib.ListN.{length, getD, take}
+use lib.Seq.{ext-getD, length-take-le, getD-take}
+use Rattle.model.specs.Finite.{listFrom}
+use Rattle.model.specs.Field.{Field, at}
+use Rattle.model.specs.Norm.{kindNorm, norm}
+use Rattle.model.specs.Base.{roundsFor, roundsAt, gain, settledStage}
+use Rattle.model.specs.Sheet.{kindCount, fieldCount, cardOf, fieldOf}
+use Rattle.model.specs.Limits.{Limits, mostKinds}
+use Rattle.model.specs.Refusal.{clear, refusal, firstOf, acceptChecks, Accepted, settleChecks, compareChecks, formChecks}
+use Rattle.model.specs.Widths.{Bytes}
+use Rattle.model.specs.Answer.{refused, given, Lent, different, settleOf, compareOf, formOf, tableOf, primeForm, written}
+use Rattle.model.proofs.Lists.{length-from, getD-from}
+use Rattle.model.proofs.Checks.{first-left, first-right}
+use Rattle.model.proofs.Answers.{demand1, table-length}
+use Rattle.model.proofs.Meanings.{meanings}
+use Rattle.sheet.proofs.Checking.{past-stops, past-passes, less-stops}
+use Rattle.base.specs.Stage.{BaseAt}
+use Rattle.filer.specs.Settlement.{tableIn}
+use Rattle.filer.proofs.Writing.{table-long, row-under, count-under, table-at}
+
+-- What a call's contract asks, from what the call comes to.
+pub gives : {A : Type 0} {x y : Lent A} → x ≡ y → (y .answer ≡ x .answer) × (y .lent ≡ x .lent)
+gives e = (ap (λ z. z .answer) (sym e), ap (λ z. z .lent) (sym e))
+
+module _ (s : List ℕ) where
+  -- The sheet's own checks refuse.
+  module _ (k p : ℕ) (e : firstOf (acceptChecks s) ≡ refusal k p) where
+    pub settle-refused : (table : List ℕ) → settleOf s table ≡ record { answer = refused k p; lent = table }
+    unfolding settleChecks
+    settle-refused table = demand1 s .settle-refused table k p (first-left (acceptChecks s) _ k p e)
+
+    pub compare-refused : (i j : ℕ) → compareOf s i j ≡ refused k p
+    unfolding compareChecks
+    compare-refused i j = demand1 s .compare-refused i j k p (first-left (acceptChecks s) _ k p e)
+
+    pub form-refused : (i : ℕ) (buffer : List ℕ) → formOf s i buffer ≡ record { answer = refused k p; lent = buffer }
+    unfolding formChecks
+    form-refused i buffer = demand1 s .form-refused i buffer k p (first-left (acceptChecks s) _ k p e)
+
+  module _ (ok : Accepted s) where
+    -- The call's own checks refuse: 11 and 12.
+    pub table-short : (table : List ℕ) → length table < kindCount s * kindCount s → settleOf s table ≡ record { answer = refused 12 0; lent = table }
+    unfolding Accepted settleChecks
+    table-short table h = demand1 s .settle-refused table 12 0 (first-right (acceptChecks s) _ ok ∙ less-stops 12 0 [] (length table) (kindCount s * kindCount s) h)
+
+    pub no-first : (i j : ℕ) → fieldCount s ≤ i → compareOf s i j ≡ refused 11 0
+    unfolding Accepted compareChecks
+    no-first i j h = demand1 s .compare-refused i j 11 0 (first-right (acceptChecks s) _ ok ∙ past-stops 11 0 _ i (fieldCount s) h)
+
+    pub no-second : (i j : ℕ) → i < fieldCount s → fieldCount s ≤ j → compareOf s i j ≡ refused 11 1
+    unfolding Accepted compareChecks
+    no-second i j l h =
+        demand1 s .compare-refused i j 11 1
+        (first-right (acceptChecks s) _ ok ∙ past-passes 11 0 _ i (fieldCount s) l ∙ past-stops 11 1 [] j (fieldCount s) h)
+
+    pub no-field : (i : ℕ) (buffer : List ℕ) → fieldCount s ≤ i → formOf s i buffer ≡ record { answer = refused 11 0; lent = buffer }
+    unfolding Accepted formChecks
+    no-field i buffer h = demand1 s .form-refused i buffer 11 0 (first-right (acceptChecks s) _ ok ∙ past-stops 11 0 _ i (fieldCount s) h)
+
+    pub buffer-short : (i : ℕ) (buffer : List ℕ) → i < fieldCount s → length buffer < kindCount s → formOf s i buffer ≡ record { answer = refused 12 0; lent = buffer }
+    unfolding Accepted formChecks
+    buffer-short i buffer l h =
+        demand1 s .form-refused i buffer 12 0
+        (first-right (acceptChecks s) _ ok ∙ past-passes 11 0 _ i (fieldCount s) l ∙ less-stops 12 0 [] (length buffer) (kindCount s) h)
+
+    -- A sheet that is accepted lies within the limits.
+    pub limits : Limits s
+    limits = demand1 s .accepted .0 ok
+
+    -- The table of the settled stage's rows.
+    pub table-is : (rows : List ℕ) → BaseAt s (settledStage (cardOf s)) rows → tableIn (kindCount s) rows ≡ tableOf s
+    table-is rows B = ext-getD 0 (tableIn (kindCount s) rows) (tableOf s) (table-long (kindCount s) rows ∙ sym (table-length s)) each
+      where
+        each : (i : ℕ) → i < length (tableIn (kindCount s) rows) → getD (tableIn (kindCount s) rows) i 0 ≡ getD (tableOf s) i 0
+        each i l =
+            let h : i < kindCount s * kindCount s = omega (arith, table-long (kindCount s) rows) in
+            let r = row-under (kindCount s) rows i h in
+            table-at (kindCount s) rows i h ∙ ap (λ (f : Field). f (i % kindCount s)) (B (i / kindCount s) r)
+            ∙ sym (demand1 s .table-row (i / kindCount s) (i % kindCount s) r (count-under (kindCount s) rows i h))
+            ∙ ap (at (tableOf s)) (div-add-mod' i (kindCount s))
+
+    -- Settle: the stage, and the table written.
+    pub settle-given : (rows table : List ℕ) → BaseAt s (settledStage (cardOf s)) rows → kindCount s * kindCount s ≤ length table
+        → settleOf s table ≡ record { answer = given (settledStage (cardOf s)); lent = written (tableIn (kindCount s) rows) table }
+    settle-given rows table B h = demand1 s .settled limits table h ∙ ap (λ (xs : List ℕ). record { answer = given (settledStage (cardOf s)); lent = written xs table }) (sym (table-is rows B))
+
+    -- Prime form: the counts written, where the first n of them are the prime form.
+    pub form-given : (i : ℕ) (counts buffer : List ℕ) → i < fieldCount s → kindCount s ≤ length buffer → counts ≡ primeForm s i
+        → formOf s i buffer ≡ record { answer = given tt; lent = written counts buffer }
+    form-given i counts buffer h l e = demand1 s .formed limits i buffer h l ∙ ap (λ (xs : List ℕ). record { answer = given tt; lent = written xs buffer }) (sym e)
+
+    -- The rounds that Compare reports fit 64 bits.
+    pub rounds-fit : Bytes s → (i j t r : ℕ) → i < fieldCount s → j < fieldCount s → compareOf s i j ≡ given (different t r) → r < 2 ^ 64
+    rounds-fit bytes i j t r h l e =
+        let W = meanings {0} .widths s bytes ok in
+        omega (arith, W .verdict-most i j t r h l e .1, W .narrow .1)
+
+    pub gain-fits : Bytes s → gain (cardOf s) + 1 < 2 ^ 64
+    gain-fits bytes = let W = meanings {0} .widths s bytes ok in omega (arith, W .gain-most)
+
+-- The first n counts of an array are a part of it.
+pub first-counts : (xs : List ℕ) (n : ℕ) → n ≤ length xs → take n xs ≡ listFrom (at xs) 0 n
+first-counts xs n h = ext-getD 0 (take n xs) (listFrom (at xs) 0 n) (length-take-le n xs h ∙ sym (length-from (at xs) 0 n)) each
+  where
+    each : (k : ℕ) → k < length (take n xs) → getD (take n xs) k 0 ≡ getD (listFrom (at xs) 0 n) k 0
+    each k l =
+        let q : k < n = omega (arith, length-take-le n xs h) in
+        let z : 0 + k ≡ k = omega arith in
+        getD-take n xs k 0 q ∙ sym (getD-from (at xs) 0 n k 0 q ∙ ap (at xs) z)

@@ -1,0 +1,29 @@
+-- "N + 1 + (s - 1)(g + 1), or N + 1 if s is 0"
+use mathlib.Core.Path.{_≡_, refl, sym, _∙_, ap}
+use Prim.Native.Nat.{ℕ, zero, suc, _+_, _-_, _*_, _≤_, _<_, min}
+use native.Mathlib.Omega.{arith}
+use Rattle.model.specs.Norm.{kindNorm, norm}
+use Rattle.model.specs.Card.{Card}
+use Rattle.model.specs.Field.{Field}
+use Rattle.model.specs.Base.{roundsFor, roundsAt, gain}
+
+pub rounds-none : (N g s : ℕ) → s ≡ 0 → N + 1 ≡ roundsFor N g s
+unfolding roundsFor
+rounds-none N g s e = rw e refl
+
+pub rounds-some : (N g s : ℕ) → (s ≡ 0 → ⊥) → N + 1 + (s - 1) * (g + 1) ≡ roundsFor N g s
+unfolding roundsFor
+rounds-some N g zero n = absurd (n refl)
+rounds-some N g (suc s) n = let z : suc s - 1 ≡ s = omega arith in rw z refl
+
+-- The rounds that a stage reports for two fields, by the smaller of their norms and g.
+pub rounds-by : (c : Card) (t : ℕ) (a b : Field) (x y g : ℕ) → x ≡ norm c a → y ≡ norm c b → g ≡ gain c
+    → roundsFor (min x y) g t ≡ roundsAt c (kindNorm c) t a b
+unfolding roundsAt
+rounds-by c t a b x y g p q r = rw (p, q, r) refl
+
+pub smaller : (x y : ℕ) → x < y → min x y ≡ x
+smaller x y h = omega arith
+
+pub other-smaller : (x y : ℕ) → y ≤ x → min x y ≡ y
+other-smaller x y h = omega arith

@@ -1,0 +1,141 @@
+-- What a sheet that was checked and settled once tells of each call.
+use mathlib.Core.List.{List}
+use mathlib.Core.Path.{_≡_, sym, _∙_, ap}
+use Prim.Native.Nat.{ℕ, _*_, _^_, _≤_, _<_}
+use native.Mathlib.Omega.{arith}
+use lib.ListN.{length, getD, take}
+use Rattle.model.specs.Finite.{listFrom}
+use Rattle.model.specs.Field.{at}
+use Rattle.model.specs.Norm.{kindNorm}
+use Rattle.model.specs.Base.{roundsAt}
+use Rattle.model.specs.Sheet.{kindCount, fieldCount, cardOf, fieldOf}
+use Rattle.model.specs.Refusal.{Finding, clear, refusal, firstOf, acceptChecks, Accepted}
+use Rattle.model.specs.Widths.{Bytes}
+use Rattle.model.specs.Answer.{refused, given, same, different, settleOf, compareOf, formOf, written}
+use Rattle.sheet.specs.declared.reader.Card.{Card}
+use Rattle.sheet.specs.declared.checks.Checked.the-variants.{Passed, Refused}
+use Rattle.sheet.proofs.Laws.{kinds-are, fields-are}
+use Rattle.norms.specs.Norms.{Accepts, acceptanceOf}
+use Rattle.norms.specs.declared.accept.Acceptance.{Acceptance}
+use Rattle.norms.proofs.Acceptances.{accepts, refused as found-refused}
+use Rattle.base.specs.declared.settle.Settled.{Settled}
+use Rattle.base.specs.Table.{formIn}
+use Rattle.base.specs.Settle.{FieldsFit, IsSettled}
+use Rattle.base.proofs.Outcomes.{settled-fit, prime-form, compare-different, compare-same}
+use Rattle.filer.specs.declared.settlement.Settlement.{Settlement}
+use Rattle.filer.specs.Settlement.{IsSettlement, tableIn}
+use Rattle.filer.proofs.Calls.{gives, settle-refused, compare-refused, form-refused, table-short, no-first, no-second, no-field, buffer-short, settle-given, form-given, rounds-fit, first-counts}
+
+-- An acceptance that passed tells of the sheet.
+pub acceptance-accepts : (s : List ℕ) (a : Acceptance) → a ≡ acceptanceOf s → (c : Card) → a .checked ≡ Passed c → Accepts s c (a .norms)
+acceptance-accepts s a e c d = rw (ap (λ (x : Acceptance). x .norms) e) (accepts s c (sym (ap (λ (x : Acceptance). x .checked) e) ∙ d))
+
+-- The core function's answer, from the check of the sheet.
+module _ (s : List ℕ) (a : Acceptance) (e : a ≡ acceptanceOf s) (first : ℕ) (settled : Settled) where
+  checked-is : a .checked ≡ acceptanceOf s .checked
+  checked-is = ap (λ (x : Acceptance). x .checked) e
+
+  norms-are : a .norms ≡ acceptanceOf s .norms
+  norms-are = ap (λ (x : Acceptance). x .norms) e
+
+  pub settlement-refused : (k p : ℕ) → a .checked ≡ Refused k p → IsSettlement s (record { checked = Refused k p; norms = a .norms; first = first; settled = settled })
+  unfolding Accepted
+  settlement-refused k p d = record {
+    checked-is = sym d ∙ checked-is;
+    norms-are = norms-are;
+    settled-is = λ ok. never (sym ok ∙ found-refused s k p (sym checked-is ∙ d));
+  }
+    where
+      never : {A : Type 0} → _≡_ {A = Finding} clear (refusal k p) → A
+      never z = let q : _≡_ {A = ℕ} 0 1 = cc in absurd (omega arith)
+
+  pub settlement-passed : (c : Card) → a .checked ≡ Passed c → IsSettled s first settled
+      → IsSettlement s (record { checked = Passed c; norms = a .norms; first = first; settled = settled })
+  settlement-passed c d S = record { checked-is = sym d ∙ checked-is; norms-are = norms-are; settled-is = λ ok. S }
+
+module _ {s : List ℕ} {x : Settlement} (X : IsSettlement s x) where
+  -- The sheet was refused: so is every call.
+  module _ (k p : ℕ) (e : x .checked ≡ Refused k p) where
+    found : firstOf (acceptChecks s) ≡ refusal k p
+    found = found-refused s k p (sym (X .checked-is) ∙ e)
+
+    pub settle-refuses : (table : List ℕ) → (refused k p ≡ settleOf s table .answer) × (table ≡ settleOf s table .lent)
+    settle-refuses table = gives (settle-refused s k p found table)
+
+    pub compare-refuses : (i j : ℕ) → refused k p ≡ compareOf s i j
+    compare-refuses i j = sym (compare-refused s k p found i j)
+
+    pub form-refuses : (i : ℕ) (buffer : List ℕ) → (refused k p ≡ formOf s i buffer .answer) × (buffer ≡ formOf s i buffer .lent)
+    form-refuses i buffer = gives (form-refused s k p found i buffer)
+
+  -- The sheet was accepted.
+  module _ (c : Card) (e : x .checked ≡ Passed c) where
+    pub was-accepted : Accepts s c (x .norms)
+    was-accepted = rw (X .norms-are) (accepts s c (sym (X .checked-is) ∙ e))
+
+    ok : Accepted s
+    ok = was-accepted .accepted
+
+    pub was-settled : IsSettled s (x .first) (x .settled)
+    was-settled = X .settled-is ok
+
+    kinds : c .kinds ≡ kindCount s
+    kinds = kinds-are (was-accepted .reads)
+
+    fields : c .fields ≡ fieldCount s
+    fields = fields-are (was-accepted .reads)
+
+    -- Settle.
+    module _ (table : List ℕ) where
+      pub settle-short : length table < c .kinds * c .kinds → (refused 12 0 ≡ settleOf s table .answer) × (table ≡ settleOf s table .lent)
+      settle-short h = gives (table-short s ok table (rw kinds at h))
+
+      pub settle-writes : (after : List ℕ) → c .kinds * c .kinds ≤ length table → after ≡ written (tableIn (c .kinds) (x .settled .base .rows)) table
+          → (given (x .settled .stage) ≡ settleOf s table .answer) × (after ≡ settleOf s table .lent)
+      settle-writes after h w =
+          let g = gives (settle-given s ok (x .settled .base .rows) table (was-settled .base-is) (rw kinds at h)) in
+          (ap given (was-settled .stage-is) ∙ g .0, w ∙ ap (λ (n : ℕ). written (tableIn n (x .settled .base .rows)) table) kinds ∙ g .1)
+
+    -- Compare, of the settlement's first field and field j.
+    module _ (j : ℕ) where
+      pub compare-no-first : c .fields ≤ x .first → refused 11 0 ≡ compareOf s (x .first) j
+      compare-no-first h = sym (no-first s ok (x .first) j (rw fields at h))
+
+      module _ (h : x .first < c .fields) where
+        pub compare-no-second : c .fields ≤ j → refused 11 1 ≡ compareOf s (x .first) j
+        compare-no-second l = sym (no-second s ok (x .first) j (rw fields at h) (rw fields at l))
+
+        module _ (l : j < c .fields) where
+          pub compare-same-called : x .settled .stage < getD (x .settled .parted) j 0 → given same ≡ compareOf s (x .first) j
+          compare-same-called d =
+              sym (compare-same s ok (x .first) j (rw fields at h) (rw fields at l) (x .settled .parted) (was-settled .parted-is) (rw (was-settled .stage-is) at d))
+
+          module _ (d : getD (x .settled .parted) j 0 ≤ x .settled .stage) where
+            parted : compareOf s (x .first) j ≡ given (different (getD (x .settled .parted) j 0) (roundsAt (cardOf s) (kindNorm (cardOf s)) (getD (x .settled .parted) j 0) (fieldOf s (x .first)) (fieldOf s j)))
+            parted = compare-different s ok (x .first) j (rw fields at h) (rw fields at l) (x .settled .parted) (was-settled .parted-is) (rw (was-settled .stage-is) at d)
+
+            pub compare-rounds-fit : Bytes s → roundsAt (cardOf s) (kindNorm (cardOf s)) (getD (x .settled .parted) j 0) (fieldOf s (x .first)) (fieldOf s j) < 2 ^ 64
+            compare-rounds-fit bytes = rounds-fit s ok bytes (x .first) j _ _ (rw fields at h) (rw fields at l) parted
+
+            pub compare-different-called : (r : ℕ) → r ≡ roundsAt (cardOf s) (kindNorm (cardOf s)) (getD (x .settled .parted) j 0) (fieldOf s (x .first)) (fieldOf s j)
+                → given (different (getD (x .settled .parted) j 0) r) ≡ compareOf s (x .first) j
+            compare-different-called r q = ap (λ (n : ℕ). given (different (getD (x .settled .parted) j 0) n)) q ∙ sym parted
+
+    -- Prime form.
+    pub forms-fit : Bytes s → FieldsFit s (x .settled .base .rows)
+    forms-fit bytes = settled-fit s ok (x .settled .base .rows) (was-settled .base-is) bytes
+
+    module _ (i : ℕ) (buffer : List ℕ) where
+      pub form-no-field : c .fields ≤ i → (refused 11 0 ≡ formOf s i buffer .answer) × (buffer ≡ formOf s i buffer .lent)
+      form-no-field h = gives (no-field s ok i buffer (rw fields at h))
+
+      module _ (h : i < c .fields) where
+        pub form-short : length buffer < c .kinds → (refused 12 0 ≡ formOf s i buffer .answer) × (buffer ≡ formOf s i buffer .lent)
+        form-short l = gives (buffer-short s ok i buffer (rw fields at h) (rw kinds at l))
+
+        pub form-writes : (form after : List ℕ) → c .kinds ≤ length buffer → c .kinds ≤ length form → at form ≡ formIn (kindCount s) (x .settled .base .rows) (fieldOf s i)
+            → after ≡ written (take (c .kinds) form) buffer → (given tt ≡ formOf s i buffer .answer) × (after ≡ formOf s i buffer .lent)
+        form-writes form after l m f w =
+            let first = first-counts form (c .kinds) m ∙ ap (λ (n : ℕ). listFrom (at form) 0 n) kinds in
+            let g = gives (form-given s ok i (take (c .kinds) form) buffer (rw fields at h) (rw kinds at l) (first ∙ prime-form s ok (x .settled .base .rows) (was-settled .base-is) i form f)) in
+            (g .0, w ∙ g .1)

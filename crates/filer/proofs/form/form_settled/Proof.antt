@@ -1,0 +1,85 @@
+-- The settlement tells what each return answers, and what is written.
+use borrow.Author.Needs.{needs}
+use native.Mathlib.Omega.{arith}
+use mathlib.Core.Path.{_≡_, sym}
+use Prim.Native.Nat.{_≤_}
+use lib.ListN.{length, take}
+use lib.Seq.{length-take-le}
+use Rattle.model.specs.Widths.{Bytes}
+use Rattle.sheet.specs.Reader.{Reads}
+use Rattle.sheet.specs.declared.reader.Card.{Card}
+use Rattle.sheet.specs.declared.checks.Checked.the-variants.{Passed}
+use Rattle.sheet.proofs.Laws.{kinds-most}
+use Rattle.filer.proofs.Settlements.{was-accepted, form-refuses, form-no-field, form-short, forms-fit, form-writes}
+use Rattle.filer.proofs.form.form_settled.Statement.{statement}
+use Rattle.filer.proofs.form.form_settled.Tie as tie
+
+abbrev start : tie.After-known-told2 → tie.Start
+start c = c .before .before .before .before .before
+
+abbrev card : tie.After-known-told2 → Card
+card c = c .before .checked2 .given .0 .0
+
+passed : (c : tie.After-known-told2) → start c .args .settlement .checked ≡ Passed (card c)
+passed c = c .before .checked2 .given .1
+
+read : (c : tie.After-known-told2) → Reads (start c .args .s .now) (card c)
+read c = was-accepted (start c .pre) (card c) (passed c) .reads
+
+bytes : (c : tie.After-known-told2) → Bytes (start c .args .s .now)
+bytes c = λ k. omega (arith, c .before .before .before .before .shared-slice-known .given k)
+
+-- The form has a count for each kind of the card.
+long : (c : tie.After-form-by) → card (c .before .before .before .before .before) .kinds ≤ length (c .form-by .result)
+long c = let e : length (c .form-by .result) ≡ 32 = search needs in omega (arith, kinds-most (read (c .before .before .before .before .before)))
+
+enum-known-checked : tie.Need-enum-known-checked
+enum-known-checked c = search needs
+
+enum-known-checked-2 : tie.Need-enum-known-checked-2
+enum-known-checked-2 c = search needs
+
+returns : tie.Need-returns
+returns c = form-no-field (start (c .before) .pre) _ (passed (c .before)) _ _ (c .if1 .taken)
+
+returns-2 : tie.Need-returns-2
+returns-2 c = form-short (start (c .before .before) .pre) _ (passed (c .before .before)) _ _ (c .before .if1 .left) (c .if2 .taken)
+
+form-by-requires : tie.Need-form-by-requires
+form-by-requires c κs = let k = c .before .before .before .before in (read k, (c .before .before .before .if1 .left, forms-fit (start k .pre) _ (passed k) (bytes k)))
+
+array-share-prefix-form : tie.Need-array-share-prefix-form
+array-share-prefix-form c = long c
+
+slice-aggregate-write-counts : tie.Need-slice-aggregate-write-counts
+slice-aggregate-write-counts c = sym (length-take-le _ _ (long (c .before)))
+
+write-counts-requires : tie.Need-write-counts-requires
+write-counts-requires c κs = omega (arith, length-take-le (card (c .before .before .before .before .before .before .before) .kinds) (c .before .before .form-by .result) (long (c .before .before)), c .before .before .before .before .before .if2 .left)
+
+returns-3 : tie.Need-returns-3
+returns-3 c = form-refuses (c .before .before .before .before .before .pre) _ _ (c .before .checked .given .1) _ _
+
+same-length : tie.Need-same-length
+same-length c = search needs
+
+returns-4 : tie.Need-returns-4
+returns-4 c =
+    let k = c .before .before .before .before .before .before .before .before .before .before in
+    form-writes (start k .pre) _ (passed k) _ _ (c .before .before .before .before .before .before .before .before .before .if1 .left) _ _ (c .before .before .before .before .before .before .before .before .if2 .left) (long (c .before .before .before .before .before)) (c .before .before .before .before .before .form-by .ensures) (c .before .before .write-counts .ensures)
+
+pub form-settled-spec : {M : Type 1} → statement M
+form-settled-spec =
+    tie.close
+    (tie.spec
+    enum-known-checked
+    enum-known-checked-2
+    returns
+    returns-2
+    form-by-requires
+    array-share-prefix-form
+    slice-aggregate-write-counts
+    write-counts-requires
+    returns-3
+    same-length
+    returns-4)

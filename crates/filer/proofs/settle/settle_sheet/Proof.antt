@@ -1,0 +1,70 @@
+-- The settlement tells what each return answers, and what is written.
+use borrow.Author.Needs.{needs}
+use native.Mathlib.Omega.{arith}
+use mathlib.Core.Path.{_≡_}
+use Rattle.sheet.specs.Reader.{Reads}
+use Rattle.sheet.specs.declared.reader.Card.{Card}
+use Rattle.sheet.specs.declared.checks.Checked.the-variants.{Passed}
+use Rattle.sheet.proofs.Laws.{kinds-most}
+use Rattle.filer.specs.Settlement.{IsSettlement}
+use Rattle.filer.proofs.Rows.{square-most}
+use Rattle.filer.proofs.Settlements.{was-accepted, settle-refuses, settle-short, settle-writes}
+use Rattle.filer.proofs.settle.settle_sheet.Statement.{statement}
+use Rattle.filer.proofs.settle.settle_sheet.Tie as tie
+
+abbrev card : tie.After-known-told2 → Card
+card c = c .before .checked2 .given .0 .0
+
+settled : (c : tie.After-known-told2) → IsSettlement (c .before .before .before .before .before .before .args .s .now) (c .before .before .before .settle-once .result)
+settled c = c .before .before .before .settle-once .ensures .0
+
+passed : (c : tie.After-known-told2) → c .before .before .before .settle-once .result .checked ≡ Passed (card c)
+passed c = c .before .checked2 .given .1
+
+read : (c : tie.After-known-told2) → Reads (c .before .before .before .before .before .before .args .s .now) (card c)
+read c = was-accepted (settled c) (card c) (passed c) .reads
+
+settle-once-requires : tie.Need-settle-once-requires
+settle-once-requires c κs = search needs
+
+enum-known-checked : tie.Need-enum-known-checked
+enum-known-checked c = search needs
+
+enum-known-checked-2 : tie.Need-enum-known-checked-2
+enum-known-checked-2 c = search needs
+
+mul-if1 : tie.Need-mul-if1
+mul-if1 c = omega (arith, square-most (card c .kinds) (kinds-most (read c)))
+
+returns : tie.Need-returns
+returns c = settle-short (settled (c .before)) _ (passed (c .before)) _ (c .if1 .taken)
+
+slice-aggregate-write-table : tie.Need-slice-aggregate-write-table
+slice-aggregate-write-table c = search needs
+
+write-table-requires : tie.Need-write-table-requires
+write-table-requires c κs = ((search needs, kinds-most (read (c .before .before .before .before .before .before))), c .before .before .before .before .before .if1 .left)
+
+returns-2 : tie.Need-returns-2
+returns-2 c = settle-refuses (c .before .before .before .settle-once .ensures .0) _ _ (c .before .checked .given .1) _
+
+same-length : tie.Need-same-length
+same-length c = search needs
+
+returns-3 : tie.Need-returns-3
+returns-3 c = let k = c .before .before .before .before .before .before .before .before .before in settle-writes (settled k) _ (passed k) _ _ (c .before .before .before .before .before .before .before .before .if1 .left) (c .before .before .write-table .ensures)
+
+pub settle-sheet-spec : {M : Type 1} → statement M
+settle-sheet-spec =
+    tie.close
+    (tie.spec
+    settle-once-requires
+    enum-known-checked
+    enum-known-checked-2
+    mul-if1
+    returns
+    slice-aggregate-write-table
+    write-table-requires
+    returns-2
+    same-length
+    returns-3)

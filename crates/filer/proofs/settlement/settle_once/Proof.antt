@@ -1,0 +1,39 @@
+-- What the checks come to, and what the settle loop gives where they pass.
+use borrow.Author.Needs.{needs}
+use mathlib.Core.Path.{refl}
+use Rattle.filer.proofs.Settlements.{settlement-refused, settlement-passed, acceptance-accepts}
+use Rattle.filer.proofs.settlement.settle_once.Statement.{statement}
+use Rattle.filer.proofs.settlement.settle_once.Tie as tie
+
+accept-requires : tie.Need-accept-requires
+accept-requires c κs = search needs
+
+enum-known-checked : tie.Need-enum-known-checked
+enum-known-checked c = search needs
+
+new-requires : tie.Need-new-requires
+new-requires c κs = search needs
+
+enum-known-checked-2 : tie.Need-enum-known-checked-2
+enum-known-checked-2 c = search needs
+
+settle-requires : tie.Need-settle-requires
+settle-requires c κs = acceptance-accepts _ _ (c .before .before .before .before .accept .ensures) _ (c .before .checked2 .given .1)
+
+returns : tie.Need-returns
+returns c = (settlement-refused _ _ (c .before .before .before .before .before .accept .ensures) _ _ _ _ (c .before .before .checked .given .1), refl)
+
+returns-2 : tie.Need-returns-2
+returns-2 c = (settlement-passed _ _ (c .before .before .before .before .before .accept .ensures) _ _ _ (c .before .before .checked2 .given .1) (c .settle .ensures), refl)
+
+pub settle-once-spec : {M : Type 1} → statement M
+settle-once-spec =
+    tie.close
+    (tie.spec
+    accept-requires
+    enum-known-checked
+    new-requires
+    enum-known-checked-2
+    settle-requires
+    returns
+    returns-2)

@@ -1,0 +1,96 @@
+// Compare: "a verdict is same, or different with its stage and its rounds".
+ghost use mathlib.Core.Path.{_≡_};
+ghost use Prim.Native.Nat.{_+_, _<_, _^_};
+ghost use Rattle.model.specs.Norm.{kindNorm};
+ghost use Rattle.model.specs.Base.{roundsFor, roundsAt};
+ghost use Rattle.model.specs.Sheet.{cardOf, fieldOf};
+ghost use Rattle.model.specs.Answer.{compareOf};
+ghost use Rattle.norms.specs.Norms.{Accepts};
+ghost use Rattle.filer.specs.Answers.{verdictOf};
+ghost use Rattle.filer.specs.Settlement.{IsSettlement};
+use crate::answers::Verdict;
+use crate::settlement::Settlement;
+use crate::settlement::settle_once;
+use norms::fields::field_norm;
+use norms::lines::gain;
+use sheet::Card;
+use sheet::checks::Checked;
+
+// Any bytes, and any two field numbers.
+pub fn compare(s: &[u8], first: usize, second: usize) -> Verdict
+    ensures { λ r. ⌜ verdictOf r ≡ compareOf (now (s .entry)) first second ⌝ }
+{
+    compare_settled(s, settle_once(s, first), second)
+}
+
+// The same of a sheet that was settled: its first field against another.
+pub fn compare_settled(s: &[u8], settlement: Settlement, second: usize) -> Verdict
+    requires { ⌜ IsSettlement (now s) settlement ⌝ }
+    ensures { λ r. ⌜ verdictOf r ≡ compareOf (now (s .entry)) (settlement .first) second ⌝ }
+{
+    let first = settlement.first;
+    let checked = settlement.checked;
+    match checked {
+        Checked::Refused { number, place } => Verdict::Refused { number, place },
+        Checked::Passed(card) => {
+            let fields = card.fields;
+            if fields <= first {
+                return Verdict::Refused {
+                    number: 11,
+                    place: 0,
+                };
+            }
+            if fields <= second {
+                return Verdict::Refused {
+                    number: 11,
+                    place: 1,
+                };
+            }
+            let norms = settlement.norms;
+            let settled = settlement.settled;
+            let last = settled.stage;
+            let parted = settled.parted;
+            let stage = parted[second];
+            if last < stage {
+                return Verdict::Same;
+            }
+            let rounds = rounds_at(s, card, norms, stage, first, second);
+            Verdict::Different { stage, rounds }
+        }
+    }
+}
+
+// "rounds is demand 3's number", for two fields that this stage parts.
+fn rounds_at(
+    s: &[u8],
+    card: Card,
+    norms: [u32; 32],
+    stage: usize,
+    first: usize,
+    second: usize,
+) -> u64
+    requires { ⌜ Accepts (now s) card norms ⌝ }
+    requires { ⌜ (first < card .fields) × (second < card .fields) ⌝ }
+    requires { ⌜ roundsAt (cardOf (now s)) (kindNorm (cardOf (now s))) stage (fieldOf (now s) first) (fieldOf (now s) second) < 2 ^ 64 ⌝ }
+    ensures { λ r. ⌜ r ≡ roundsAt (cardOf (now (s .entry))) (kindNorm (cardOf (now (s .entry)))) stage (fieldOf (now (s .entry)) first) (fieldOf (now (s .entry)) second) ⌝ }
+{
+    let kinds = card.kinds;
+    let one = field_norm(kinds, norms, card.field(s, first));
+    let other = field_norm(kinds, norms, card.field(s, second));
+    let most = gain(s, card, norms);
+    if one < other {
+        return rounds_for(one, most, stage);
+    }
+    rounds_for(other, most, stage)
+}
+
+// "N + 1 + (s - 1)(g + 1), or N + 1 if s is 0"
+fn rounds_for(norm: u64, gain: u64, stage: usize) -> u64
+    requires { ⌜ (gain + 1 < 2 ^ 64) × (roundsFor norm gain stage < 2 ^ 64) ⌝ }
+    ensures { λ r. ⌜ r ≡ roundsFor norm gain stage ⌝ }
+{
+    if stage == 0 {
+        return norm + 1;
+    }
+    norm + 1 + (stage - 1) as u64 * (gain + 1)
+}

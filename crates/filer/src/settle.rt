@@ -1,0 +1,52 @@
+// Settle: "writes the final base to a lent table of 32-bit counts, row by row in kind number, n × n of them, and reports the settled stage".
+ghost use mathlib.Core.Path.{_≡_};
+ghost use Prim.Native.Nat.{_*_, _≤_};
+ghost use lib.ListN.{length};
+ghost use Rattle.model.specs.Limits.{mostKinds};
+ghost use Rattle.model.specs.Answer.{written, settleOf};
+ghost use Rattle.filer.specs.Answers.{settlingOf};
+ghost use Rattle.filer.specs.Settlement.{tableIn};
+use crate::answers::Settling;
+use crate::settlement::settle_once;
+use sheet::checks::Checked;
+
+// Any bytes, and a table of any length; a refusal leaves the table as it was.
+pub fn settle_sheet(s: &[u8], table: &mut [u32]) -> Settling
+    ensures { λ r. ⌜ settlingOf r ≡ settleOf (now (s .entry)) (now (table .entry)) .answer ⌝ }
+    ensures { λ r. ⌜ now (table .exit) ≡ settleOf (now (s .entry)) (now (table .entry)) .lent ⌝ }
+{
+    let settlement = settle_once(s, 0);
+    let checked = settlement.checked;
+    match checked {
+        Checked::Refused { number, place } => Settling::Refused { number, place },
+        Checked::Passed(card) => {
+            let n = card.kinds;
+            if table.len() < n * n {
+                return Settling::Refused {
+                    number: 12,
+                    place: 0,
+                };
+            }
+            let settled = settlement.settled;
+            let stage = settled.stage;
+            let base = settled.base;
+            let rows = base.rows;
+            write_table(&rows, n, table);
+            Settling::Settled { stage }
+        }
+    }
+}
+
+// The first n rows of a base, which has 32 counts to a row, to the front of a table that has n.
+pub fn write_table(rows: &[u32], n: usize, table: &mut [u32])
+    requires { ⌜ (length (now rows) ≡ 1024) × (n ≤ mostKinds) ⌝ }
+    requires { ⌜ n * n ≤ length (now table) ⌝ }
+    ensures { λ _. ⌜ now (table .exit) ≡ written (tableIn n (now (rows .entry))) (now (table .entry)) ⌝ }
+{
+    let size = n * n;
+    let mut i = 0;
+    while i < size {
+        table[i] = rows[i / n * 32 + i % n];
+        i += 1;
+    }
+}
