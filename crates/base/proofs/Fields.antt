@@ -22,7 +22,7 @@ use Rattle.base.specs.Stage.{BaseAt}
 use Rattle.base.specs.Settle.{FieldsFit}
 use Rattle.base.proofs.Tables.{at-kind, first-below, first-past}
 use Rattle.base.proofs.Sizes.{narrow, field-form-limit}
-use Rattle.base.proofs.Parted.{form-by-rows}
+use Rattle.base.proofs.StageRows.{base-form}
 
 -- A field as it was read: 32 counts, of which the card's kinds are a part.
 module _ {s : List ℕ} {c : Card} (R : Reads s c) (i : ℕ) (xs : List ℕ) (read : xs ≡ fieldCounts s i) where
@@ -59,4 +59,4 @@ module _ {s : List ℕ} {c : Card} (R : Reads s c) (i : ℕ) (xs : List ℕ) (re
 pub fields-fit : (s : List ℕ) → Accepted s → Bytes s → (t : ℕ) (rows : List ℕ) → 1 ≤ t → BaseAt s t rows → FieldsFit s rows
 fields-fit s ok bytes zero rows h B = λ i j. absurd (omega arith)
 fields-fit s ok bytes (suc q) rows h B = λ i j.
-    omega (arith, at-kind (form-by-rows s ok q rows B (fieldOf s i)) j, field-form-limit s ok q bytes i j, narrow .0)
+    omega (arith, at-kind (base-form s ok q rows B (fieldOf s i)) j, field-form-limit s ok q bytes i j, narrow .0)

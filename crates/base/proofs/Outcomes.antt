@@ -16,7 +16,8 @@ use Rattle.model.proofs.Settling.{sheet-settles}
 use Rattle.base.specs.Table.{rowIn, formIn}
 use Rattle.base.specs.Stage.{BaseAt}
 use Rattle.base.specs.Settle.{PartedAt, FieldsFit}
-use Rattle.base.proofs.Parted.{form-by-rows, parted-related, parted-not}
+use Rattle.base.proofs.StageRows.{base-form}
+use Rattle.base.proofs.Parted.{parted-related, parted-not}
 use Rattle.base.proofs.Fields.{fields-fit}
 use Rattle.base.proofs.Verdict.{verdict-same, verdict-different}
 
@@ -40,7 +41,7 @@ module _ (s : List ℕ) (ok : Accepted s) where
     pub settled-form : (i : ℕ) → formIn (kindCount s) rows (fieldOf s i) ≡ settledForm (cardOf s) (fieldOf s i)
     settled-form i =
         let l = later (settledStage (cardOf s)) (sheet-settles s ok .from) in
-        rw (l .1) (form-by-rows s ok (l .0) rows (rw (l .1) at B) (fieldOf s i))
+        rw (l .1) (base-form s ok (l .0) rows (rw (l .1) at B) (fieldOf s i))
 
     pub prime-form : (i : ℕ) (xs : List ℕ) → at xs ≡ formIn (kindCount s) rows (fieldOf s i) → listFrom (at xs) 0 (kindCount s) ≡ primeForm s i
     unfolding primeForm

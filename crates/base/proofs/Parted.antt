@@ -2,7 +2,7 @@
 use mathlib.Core.Bool.{Bool, true, false, not}
 use mathlib.Core.List.{List}
 use mathlib.Core.Logic.{_↔_, _⊎_, inl, inr}
-use mathlib.Core.Path.{_≡_, sym, _∙_, fun-ext}
+use mathlib.Core.Path.{_≡_, sym, _∙_}
 use Prim.Native.Nat.{ℕ, zero, suc, _+_, _≤_, _<_}
 use native.Mathlib.Decide.{decLt}
 use native.Mathlib.Numerals.{add-one}
@@ -18,11 +18,10 @@ use Rattle.model.specs.Sheet.{kindCount, cardOf, fieldOf}
 use Rattle.model.specs.Refusal.{Accepted}
 use Rattle.model.proofs.Lists.{least-cases}
 use Rattle.model.proofs.Sheets.{certified, field-kinds}
-use Rattle.base.specs.Table.{rowIn, formIn}
+use Rattle.base.specs.Table.{formIn}
 use Rattle.base.specs.Stage.{BaseAt}
 use Rattle.base.specs.Settle.{partedBy}
-use Rattle.base.proofs.Forms.{form-table}
-use Rattle.base.proofs.Lines.{kind-in}
+use Rattle.base.proofs.StageRows.{base-form}
 use Rattle.base.proofs.Verdict.{stage-norm, stage-form}
 
 -- The first of m numbers that pass a test, and the same with one number more.
@@ -81,11 +80,6 @@ related : (b : Bool) → ¬ T (not b) → T b
 related true n = tt
 related false n = absurd (n tt)
 
--- The decomposition of any field by the rows of a stage is its form there.
-pub form-by-rows : (s : List ℕ) → Accepted s → (q : ℕ) (rows : List ℕ) → BaseAt s (suc q) rows → (a : Field) → formIn (kindCount s) rows a ≡ stageForm (cardOf s) (suc q) a
-unfolding formIn cardOf
-form-by-rows s ok q rows B a = fun-ext (λ j. form-table (cardOf s) (certified s ok) q (rowIn rows) a (λ k h _. B k (kind-in s k h)) j)
-
 module _ (s : List ℕ) (ok : Accepted s) (i j : ℕ) where
   abbrev a : Field
   a = fieldOf s i
@@ -139,8 +133,8 @@ module _ (s : List ℕ) (ok : Accepted s) (i j : ℕ) where
     module _ (rows : List ℕ) (B : BaseAt s t rows) where
       equal : (formIn (kindCount s) rows a ≡ formIn (kindCount s) rows b) ↔ Stage (cardOf s) (suc q) a b
       equal =
-          let fa = form-by-rows s ok q rows (rw at-stage at B) a in
-          let fb = form-by-rows s ok q rows (rw at-stage at B) b in
+          let fa = base-form s ok q rows (rw at-stage at B) a in
+          let fb = base-form s ok q rows (rw at-stage at B) b in
           (λ e. forms q .1 (sym fa ∙ e ∙ fb), λ x. fa ∙ forms q .0 x ∙ sym fb)
 
       pub parted-later : d ≡ t → formIn (kindCount s) rows a ≡ formIn (kindCount s) rows b → t + 1 ≡ partedBy s t i j

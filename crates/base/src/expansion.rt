@@ -1,6 +1,5 @@
 // Whether the rows of a stage satisfy expansion, by the classes of the lines.
-use crate::class::marks;
-use crate::class::same_marks;
+use crate::product::uses_kept;
 use crate::table::row_of;
 ghost use mathlib.Core.Path.{_≡_};
 ghost use mathlib.Core.Bool.{true};
@@ -18,11 +17,7 @@ fn row_expands(kinds: &[usize], classes: &[usize], rows: &[u32], k: usize) -> bo
     requires { ⌜ (length (now rows) ≡ 1024) × (k < mostKinds) ⌝ }
     ensures { λ r. ⌜ (r ≡ true) ↔ MayUseAlike (now (kinds .entry)) (now (classes .entry)) (unit k) (rowIn (now (rows .entry)) k) ⌝ }
 {
-    let mut token = [0u32; 32];
-    token[k] = 1;
-    let own = marks(kinds, classes, &token);
-    let row = marks(kinds, classes, row_of(rows, k));
-    same_marks(&own, &row)
+    uses_kept(kinds, classes, k, row_of(rows, k))
 }
 
 // Whether each of n kinds and its row do: "every row must".

@@ -55,7 +55,7 @@ fn form_kept(n: usize, previous: &[u32], k: usize, b: &[u32]) -> bool
 }
 
 // Whether the kind and the product may use lines of the same classes.
-fn uses_kept(kinds: &[usize], classes: &[usize], k: usize, b: &[u32]) -> bool
+pub fn uses_kept(kinds: &[usize], classes: &[usize], k: usize, b: &[u32]) -> bool
     requires { ⌜ k < 32 ⌝ }
     requires { ⌜ (length (now classes) ≡ length (now kinds)) × Under 256 (now classes) ⌝ }
     ensures { λ r. ⌜ (r ≡ true) ↔ ((x : ℕ) → MayUse (now (kinds .entry)) (now (classes .entry)) (unit k) (length (now (kinds .entry))) x ↔ MayUse (now (kinds .entry)) (now (classes .entry)) (at (now (b .entry))) (length (now (kinds .entry))) x) ⌝ }
