@@ -3,20 +3,16 @@
 use mathlib.Core.Bool.{Bool, true, false}
 use mathlib.Core.List.{List}
 use mathlib.Core.Logic.{_↔_}
-use mathlib.Core.Path.{_≡_, refl, sym, _∙_}
-use Prim.Native.Nat.{ℕ, _+_, _*_, _≤_, _<_}
-use native.Mathlib.Decide.{ℕ-discrete}
+use mathlib.Core.Path.{_≡_}
+use Prim.Native.Nat.{ℕ, _+_, _≤_, _<_}
 use native.Mathlib.Omega.{arith}
 use lib.ListN.{length}
 use Rattle.model.specs.Field.{Field, _⊕_, unit, at}
-use Rattle.base.specs.Table.{rowIn}
-use Rattle.base.specs.Answer.{FormTables, Alike}
-use Rattle.base.proofs.Tables.{partOf, part-row, tells-same, tells-other}
+use Rattle.base.specs.Table.{rowPart}
+use Rattle.base.specs.Answer.{Alike}
+use Rattle.base.proofs.Tables.{lent-row, tells-same, tells-other}
 
--- A test that says no.
-pub not-told : {r : Bool} {A : Type 0} → (r ≡ true) ↔ A → r ≡ false → A → ⊥
-not-told t e a = let h = t .1 a in let z : _≡_ {A = ℕ} 0 1 = cc in omega arith
-
+-- A test does not say both.
 pub not-both : {r : Bool} → r ≡ false → r ≡ true → ⊥
 not-both e h = let z : _≡_ {A = ℕ} 0 1 = cc in omega arith
 
@@ -30,33 +26,21 @@ tells-third a b t = (λ e. (a, b, t .0 e), λ w. t .1 (w .2))
 pub tells-after : {r : Bool} {A B C : Type 0} → A → B → (r ≡ true) ↔ C → (r ≡ true) ↔ (A → B → C)
 tells-after a b t = (λ e _ _. t .0 e, λ f. t .1 (f a b))
 
--- A search up to i that found nothing.
-pub none-more : {P : ℕ → Type 0} {i : ℕ} → ((j : ℕ) → j < i → P j → ⊥) → (P i → ⊥) → (j : ℕ) → j < i + 1 → P j → ⊥
-none-more {P} {i} f g j h = go (ℕ-discrete j i)
-  where
-    go : Dec (j ≡ i) → P j → ⊥
-    go (yes e) = rw e g
-    go (no d) = f j (omega arith)
-
+-- A search for one index below n: it is found, or all are tried.
 pub some-found : {P : ℕ → Type 0} {n : ℕ} (i : ℕ) → i < n → P i → (true ≡ true) ↔ ((j : ℕ) × (j < n) × P j)
 some-found i h p = tells-same (i, h, p)
 
 pub some-none : {P : ℕ → Type 0} {n i : ℕ} → n ≤ i → ((j : ℕ) → j < i → P j → ⊥) → (false ≡ true) ↔ ((j : ℕ) × (j < n) × P j)
 some-none h f = tells-other (λ w. f (w .0) (omega (arith, w .1)) (w .2))
 
--- A test of every index that has held up to i.
-pub all-more : {P : ℕ → Type 0} {i : ℕ} → ((j : ℕ) → j < i → P j) → P i → (j : ℕ) → j < i + 1 → P j
-all-more {P} {i} f p j h = go (ℕ-discrete j i)
-  where
-    go : Dec (j ≡ i) → P j
-    go (yes e) = rw e p
-    go (no d) = f j (omega arith)
-
+-- A test of every index, once it has held up to i.
 pub all-below : {P : ℕ → Type 0} {n i : ℕ} → n ≤ i → ((j : ℕ) → j < i → P j) → (j : ℕ) → j < n → P j
 all-below h f j l = f j (omega arith)
 
--- The comparison of the parts that hold two lines' forms is that of the forms.
-pub alike-tells : {r : Bool} (kinds codes forms : List ℕ) (b : Field) (i j : ℕ) → at codes j ≡ at codes i
-    → (r ≡ true) ↔ (at (partOf forms i) ⊕ unit (at kinds j) ≡ b ⊕ at (partOf forms j)) → (r ≡ true) ↔ Alike kinds codes forms b i j
-alike-tells kinds codes forms b i j e t =
-    (λ h. (e, rw (← part-row forms i, ← part-row forms j) (t .0 h)), λ w. t .1 (rw (part-row forms i, part-row forms j) (w .1)))
+-- The comparison of the rows that hold two lines' forms is that of the forms.
+pub alike-tells : {r : Bool} {l m : List ℕ} (kinds codes forms : List ℕ) (b : Field) (i j : ℕ) → l ≡ rowPart forms i → m ≡ rowPart forms j → at codes j ≡ at codes i
+    → (r ≡ true) ↔ (at l ⊕ unit (at kinds j) ≡ b ⊕ at m) → (r ≡ true) ↔ Alike kinds codes forms b i j
+alike-tells kinds codes forms b i j p q e t =
+    let u = lent-row forms i p in
+    let v = lent-row forms j q in
+    (λ h. (e, rw (← u, ← v) (t .0 h)), λ w. t .1 (rw (u, v) (w .1)))

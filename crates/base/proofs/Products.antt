@@ -3,25 +3,25 @@
 use mathlib.Core.Bool.{Bool, true, false}
 use mathlib.Core.List.{List}
 use mathlib.Core.Logic.{_↔_}
-use mathlib.Core.Path.{_≡_, refl, sym, ap, _∙_, fun-ext}
+use mathlib.Core.Path.{_≡_, sym, _∙_, subst, fun-ext}
 use Prim.Native.Nat.{ℕ, _+_, _*_, _-_, _^_, _≤_, _<_}
 use native.Mathlib.Decide.{ℕ-discrete}
 use native.Mathlib.Omega.{arith}
 use borrow.Author.Tests.{eqb-true, eq-eqb}
 use lib.Dec.{eqb}
 use lib.ListN.{length, getD, set, take, replicate, length-replicate}
-use lib.Seq.{getD-set-same, getD-set-other, getD-take, ext-getD, length-take-le}
+use lib.Seq.{getD-set-same, getD-set-other, getD-take, length-take-le}
 use Rattle.model.specs.Field.{Field, _⊕_, unit, at, weigh}
 use Rattle.model.specs.Limits.{mostKinds}
 use Rattle.model.specs.Base.{earlier}
 use Rattle.model.proofs.Field.{unit-same, unit-other, weigh-same}
-use Rattle.base.specs.Table.{rowIn, formIn, IsCandidate}
-use Rattle.base.specs.Class.{MayUse}
+use Rattle.base.specs.Table.{rowPart, rowIn, formIn, IsCandidate}
+use Rattle.base.specs.Class.{MayUse, MayUseAlike}
 use Rattle.base.specs.Answer.{AllAnswered}
 use Rattle.base.specs.Row.{Suits, ToldBy, IsTold, Kept, Passes}
-use Rattle.base.proofs.Tables.{zero-counts, partOf, part-row, tells-same, tells-other}
-use Rattle.base.proofs.TableRows.{row-at}
-use Rattle.base.proofs.Answers.{not-told, not-both}
+use Rattle.base.proofs.Tables.{zero-counts, row-at, lent-row}
+use Rattle.base.proofs.Marks.{marks-tell}
+use Rattle.base.proofs.Answers.{not-both}
 
 -- One count set in a list of none.
 pub token-counts : (n k : ℕ) → k < n → at (set (replicate n 0) k 1) ≡ unit k
@@ -31,26 +31,14 @@ token-counts n k h = fun-ext (λ j. go j (ℕ-discrete j k))
     go j (yes e) = rw (e, getD-set-same {A = ℕ} (replicate n 0) k 1 0 (omega (arith, length-replicate {A = ℕ} n 0)), unit-same k)
     go j (no d) = rw (getD-set-other {A = ℕ} (replicate n 0) k j 1 0 d, zero-counts n j, unit-other k j d)
 
--- Two tests that hold alike are one.
-same-bool : (a b : Bool) → (a ≡ true → b ≡ true) → (b ≡ true → a ≡ true) → a ≡ b
-same-bool true b f g = sym (f refl)
-same-bool false true f g = g refl
-same-bool false false f g = refl
-
 -- Marks of classes are the same just when the two fields may use lines of the same classes.
-module _ {r : Bool} {mine theirs : List Bool} (kinds classes : List ℕ) (own f g : Field) where
-  pub uses-tell : own ≡ f → length mine ≡ length theirs → ((x : ℕ) → (getD mine x false ≡ true) ↔ MayUse kinds classes own (length kinds) x)
-      → ((x : ℕ) → (getD theirs x false ≡ true) ↔ MayUse kinds classes g (length kinds) x) → (r ≡ true) ↔ (mine ≡ theirs)
-      → (r ≡ true) ↔ ((x : ℕ) → MayUse kinds classes f (length kinds) x ↔ MayUse kinds classes g (length kinds) x)
-  uses-tell o long p q t = rw (← o) (λ e. there (t .0 e), λ h. t .1 (back h))
+module _ {r : Bool} {own other : List Bool} (kinds classes : List ℕ) (token f g : Field) where
+  pub uses-tell : token ≡ f → length own ≡ length other → ((x : ℕ) → (getD own x false ≡ true) ↔ MayUse kinds classes token (length kinds) x)
+      → ((x : ℕ) → (getD other x false ≡ true) ↔ MayUse kinds classes g (length kinds) x) → (r ≡ true) ↔ (own ≡ other) → (r ≡ true) ↔ MayUseAlike kinds classes f g
+  uses-tell e long p q t = subst (λ (x : Field). (r ≡ true) ↔ MayUseAlike kinds classes x g) e (λ h. m .0 (t .0 h), λ h. t .1 (m .1 h))
     where
-      there : mine ≡ theirs → (x : ℕ) → MayUse kinds classes own (length kinds) x ↔ MayUse kinds classes g (length kinds) x
-      there e x = (λ a. q x .0 (rw e at (p x .1 a)), λ b. p x .0 (rw (sym e) at (q x .1 b)))
-
-      back : ((x : ℕ) → MayUse kinds classes own (length kinds) x ↔ MayUse kinds classes g (length kinds) x) → mine ≡ theirs
-      back h =
-          ext-getD false mine theirs long
-          (λ x _. same-bool (getD mine x false) (getD theirs x false) (λ e. q x .1 (h x .0 (p x .0 e))) (λ e. p x .1 (h x .1 (q x .0 e))))
+      m : (own ≡ other) ↔ MayUseAlike kinds classes token g
+      m = marks-tell long p q
 
 -- The form of the first n counts.
 pub form-first : (n : ℕ) (rows b : List ℕ) → formIn n rows (at (take n b)) ≡ formIn n rows (at b)
@@ -62,10 +50,11 @@ module _ (n : ℕ) (rows b : List ℕ) (few : n ≤ length b) where
   pub form-part : formIn (length (take (n - 0) b)) rows (at (take (n - 0) b)) ≡ formIn n rows (at b)
   form-part = let z : n - 0 ≡ n = omega arith in rw (z, length-take-le n b few) (form-first n rows b)
 
-  pub kept-form : {r : Bool} (k : ℕ) (out : List ℕ) → at out ≡ formIn (length (take (n - 0) b)) rows (at (take (n - 0) b))
-      → (r ≡ true) ↔ (at (partOf rows k) ≡ at out) → (r ≡ true) ↔ (rowIn rows k ≡ formIn n rows (at b))
-  kept-form k out e t =
-      (λ h. sym (part-row rows k) ∙ t .0 h ∙ e ∙ form-part, λ h. t .1 (part-row rows k ∙ h ∙ sym form-part ∙ sym e))
+  pub kept-form : {r : Bool} {row : List ℕ} (k : ℕ) (out : List ℕ) → row ≡ rowPart rows k → at out ≡ formIn (length (take (n - 0) b)) rows (at (take (n - 0) b))
+      → (r ≡ true) ↔ (at row ≡ at out) → (r ≡ true) ↔ (rowIn rows k ≡ formIn n rows (at b))
+  kept-form k out p e t =
+      let u = lent-row rows k p in
+      (λ h. sym u ∙ t .0 h ∙ e ∙ form-part, λ h. t .1 (u ∙ h ∙ sym form-part ∙ sym e))
 
 -- The test of a kind's own count in its row.
 pub own-one : (rows : List ℕ) (k : ℕ) → k < mostKinds → (eqb (at rows (k * mostKinds + k)) 1 ≡ true) ↔ (rowIn rows k k ≡ 1)
@@ -80,16 +69,14 @@ suits-last {norms} {kinds} {codes} {lowers} {rows} {k} {l} {m} u a e o =
     let one = own-one rows (at kinds m) u in
     (λ t. record { lowering = a; code = e; before = o; own = one .0 t }, λ w. one .1 (w .own))
 
--- The candidate of the parts that hold two lines' forms.
+-- The candidate of the rows that hold two lines' forms.
 module _ {norms kinds codes forms : List ℕ} {lowers : List Bool} {rows : List ℕ} {k l m : ℕ} {found : Bool} {counts : List ℕ} where
-  pub told-candidate : Suits norms kinds codes lowers rows k l m → IsCandidate (at (partOf forms l)) (at (partOf forms m)) (at kinds m) found counts
-      → IsTold norms kinds codes forms lowers rows k l m found counts
-  told-candidate w t =
-      record {
-        suits = λ _. w;
-        gives = λ e. rw (← part-row forms l, ← part-row forms m) (t .gives e);
-        only = λ _ b f e. t .only b f (rw (part-row forms l, part-row forms m) e);
-      }
+  pub told-candidate : {own other : List ℕ} → Suits norms kinds codes lowers rows k l m → own ≡ rowPart forms l → other ≡ rowPart forms m
+      → IsCandidate (at own) (at other) (at kinds m) found counts → IsTold norms kinds codes forms lowers rows k l m found counts
+  told-candidate w p q t =
+      let u = lent-row forms l p in
+      let v = lent-row forms m q in
+      record { suits = λ _. w; gives = λ e. rw (← u, ← v) (t .gives e); only = λ _ b f e. t .only b f (rw (u, v) e) }
 
   pub told-none : (Suits norms kinds codes lowers rows k l m → ⊥) → found ≡ false → IsTold norms kinds codes forms lowers rows k l m found counts
   told-none n e =
@@ -97,7 +84,7 @@ module _ {norms kinds codes forms : List ℕ} {lowers : List Bool} {rows : List 
 
 -- The tests by the stage before, and all tests.
 pub kept-tells : {r : Bool} {n : ℕ} {previous kinds classes : List ℕ} {k : ℕ} {b : Field} → rowIn previous k ≡ formIn n previous b
-    → (r ≡ true) ↔ ((x : ℕ) → MayUse kinds classes (unit k) (length kinds) x ↔ MayUse kinds classes b (length kinds) x) → (r ≡ true) ↔ Kept n previous kinds classes k b
+    → (r ≡ true) ↔ MayUseAlike kinds classes (unit k) b → (r ≡ true) ↔ Kept n previous kinds classes k b
 kept-tells e t = (λ h. record { form = e; uses = t .0 h }, λ w. t .1 (w .uses))
 
 module _ {r : Bool} {kinds codes forms : List ℕ} {lowers : List Bool} {n t : ℕ} {previous classes : List ℕ} {k : ℕ} {b : Field} (a : (r ≡ true) ↔ AllAnswered kinds codes forms lowers k b) where

@@ -25,15 +25,14 @@ use Rattle.sheet.proofs.Laws.{kinds-are, kinds-most, lines-are, lines-most, kin
 use Rattle.norms.specs.Norms.{Accepts, lowersNorm}
 use Rattle.norms.proofs.Laws.{norms-at}
 use Rattle.base.specs.Table.{Under, rowIn, formIn, withRow}
-use Rattle.base.specs.Class.{MayUse}
+use Rattle.base.specs.Class.{MayUse, MayUseAlike}
 use Rattle.base.specs.Stage.{Told, Leave, LowersAt, ProductReplies, KindReplies, LowersAlike, Classes, Uses, SameUses, BaseAt, FormsAt, LinesAre}
 use Rattle.base.specs.Answer.{FormTables, LoweringTables, AllAnswered}
 use Rattle.base.specs.Forms.{AllForms, KindForms}
 use Rattle.base.specs.Row.{LowersKind, Suits, ToldBy, IsTold, Kept, Passes}
 use Rattle.base.specs.StageRows.{Follows, StageGiven, EarlierSet, OwnForms, RowSought, KindSet}
-use Rattle.base.proofs.Answers.{not-both, not-told}
-use Rattle.base.proofs.Tables.{first-below, first-past, zero-counts}
-use Rattle.base.proofs.TableRows.{with-row}
+use Rattle.base.proofs.Answers.{not-both}
+use Rattle.base.proofs.Tables.{first-below, first-past, zero-counts, with-row, with-others}
 use Rattle.base.proofs.Lines.{line-lowers, some-line, kind-of}
 use Rattle.base.proofs.Forms.{earlier-iff, earlier-not, row-own, form-table, form-count, form-earlier, atom-stays}
 use Rattle.base.proofs.Candidates.{Product, lines-product, no-line-tells}
@@ -69,8 +68,7 @@ module _ {s kinds codes : List ℕ} {lowers : List Bool} (L : LinesAre s kinds c
     (λ w. (w .0, omega (arith, w .1, L .kinds-long), rw (L .kind-is (w .0) (w .1)) (w .2), w .3)),
   )
 
-  pub same-uses : (classes : List ℕ) (f g : Field)
-      → ((x : ℕ) → MayUse kinds classes f (length kinds) x ↔ MayUse kinds classes g (length kinds) x) ↔ SameUses s classes f g
+  pub same-uses : (classes : List ℕ) (f g : Field) → MayUseAlike kinds classes f g ↔ SameUses s classes f g
   same-uses classes f g = (
     (λ h x. ((λ u. uses-are classes g x .0 (h x .0 (uses-are classes f x .1 u))), (λ u. uses-are classes f x .0 (h x .1 (uses-are classes g x .1 u))))),
     (λ h x. ((λ u. uses-are classes g x .1 (h x .0 (uses-are classes f x .0 u))), (λ u. uses-are classes f x .1 (h x .1 (uses-are classes g x .0 u))))),
@@ -109,7 +107,7 @@ module _ (s : List ℕ) (ok : Accepted s) (p : ℕ) (previous : List ℕ) (B : B
 pub forms-at : (s : List ℕ) → Accepted s → (p : ℕ) (rows forms : List ℕ) → BaseAt s (suc p) rows → AllForms s rows forms → FormsAt s (suc p) forms
 forms-at s ok p rows forms B all j h = all .forms-are j h ∙ base-form s ok p rows B (lineOf s j .left)
 
--- They fit 64 bits, of a product of kind k's norm.
+-- The form of a product of kind k's norm, by the rows of the stage before, fits 64 bits.
 pub previous-fits : (s : List ℕ) → Accepted s → (k : ℕ) → k < kindCount s → (t : ℕ) (previous classes : List ℕ) → Follows s t previous classes
     → (b : Field) → OfKinds (cardOf s) b → norm (cardOf s) b ≡ kindNorm (cardOf s) k → 0 < t → (x : ℕ) → formIn (kindCount s) previous b x < 2 ^ 64
 previous-fits s ok k h zero previous classes f b u e z x = absurd (omega arith)
@@ -311,8 +309,7 @@ module _ {s : List ℕ} {c : Card} {norms kinds codes : List ℕ} {lowers : List
   pub kind-set : {newRows : List ℕ} (row : List ℕ) → length row ≡ mostKinds → k * mostKinds + mostKinds ≤ length rows → at row ≡ stageRow (cardOf s) (suc t) k
       → newRows ≡ withRow rows k row → KindSet s t k rows newRows forms newForms
   kind-set row long room e w =
-      let r = with-row rows k row long room (stageRow (cardOf s) (suc t) k) e in
-      record { row = rw w (r .here); other-rows = λ j n. rw w (r .others j n); own-forms = own-form; other-forms = kept-form; small = M .small }
+      record { row = rw w (with-row rows row k long room ∙ e); other-rows = λ j n. rw w (with-others rows row k long room j n); own-forms = own-form; other-forms = kept-form; small = M .small }
 
 -- The stage before a stage t + 1.
 pub follows-next : (s : List ℕ) (t : ℕ) (previous classes : List ℕ) → BaseAt s t previous → Classes s (t - 1) classes → Follows s t previous classes
@@ -322,6 +319,12 @@ follows-next s t previous classes base tells p e =
 
 pub base-next : (s : List ℕ) (t : ℕ) (rows : List ℕ) → BaseAt s (suc t) rows → BaseAt s (t + 1) rows
 base-next s t rows base = subst (λ (x : ℕ). BaseAt s x rows) (sym (add-one t)) base
+
+-- At stage 1 the rows and the classes that are lent may be any.
+pub given-one : {s : List ℕ} {c : Card} {norms kinds codes : List ℕ} {lowers : List Bool} {previous classes : List ℕ} → Accepts s c norms
+    → LinesAre s kinds codes lowers → length previous ≡ 1024 → length classes ≡ length kinds → Under 256 classes → StageGiven s c norms kinds codes lowers 0 previous classes
+given-one A L long same under =
+    record { accepts = A; lines = L; previous-long = long; classes-long = same; classes-under = under; follows = λ p e. absurd (omega arith) }
 
 -- Classes that stand where there is no stage before.
 pub no-classes : (n m : ℕ) → n ≤ m → 0 < m → (length {A = ℕ} (take (n - 0) (replicate m 0)) ≡ n) × Under m (take (n - 0) (replicate m 0))

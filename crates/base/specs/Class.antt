@@ -12,6 +12,10 @@ use Rattle.base.specs.Table.{Under, rowIn}
 abbrev pub MayUse : List ℕ → List ℕ → Field → ℕ → ℕ → Type 0
 MayUse kinds classes f m x = (i : ℕ) × (i < m) × (0 < f (at kinds i)) × (at classes i ≡ x)
 
+-- The two fields may use lines of the same classes.
+abbrev pub MayUseAlike : List ℕ → List ℕ → Field → Field → Type 0
+MayUseAlike kinds classes a b = (x : ℕ) → MayUse kinds classes a (length kinds) x ↔ MayUse kinds classes b (length kinds) x
+
 module _ (codes kinds rows forms : List ℕ) where
   -- The tables are whole: at most 256 lines, each with a code, a kind that has a row, and the form of what it leaves.
   pub record LineTables : Type 0 where

@@ -1,14 +1,13 @@
 -- The row of a kind k, over plain tables: which lines tell candidates, and which candidates pass.
 use mathlib.Core.Bool.{Bool, true, false}
 use mathlib.Core.List.{List}
-use mathlib.Core.Logic.{_↔_}
 use mathlib.Core.Path.{_≡_}
 use Prim.Native.Nat.{ℕ, _^_, _<_}
 use lib.ListN.{length, getD}
 use Rattle.model.specs.Field.{Field, _⊕_, unit, at}
 use Rattle.model.specs.Base.{earlier}
 use Rattle.base.specs.Table.{rowIn, formIn}
-use Rattle.base.specs.Class.{MayUse}
+use Rattle.base.specs.Class.{MayUseAlike}
 use Rattle.base.specs.Answer.{AllAnswered}
 
 -- Line l is one of kind k that lowers the norm.
@@ -35,7 +34,7 @@ pub record IsTold (norms kinds codes forms : List ℕ) (lowers : List Bool) (row
 -- At the stage before, of n kinds, b had kind k's row for its form, and the two may use lines of the same classes.
 pub record Kept (n : ℕ) (previous kinds classes : List ℕ) (k : ℕ) (b : Field) : Type 0 where
   pub form : rowIn previous k ≡ formIn n previous b
-  pub uses : (x : ℕ) → MayUse kinds classes (unit k) (length kinds) x ↔ MayUse kinds classes b (length kinds) x
+  pub uses : MayUseAlike kinds classes (unit k) b
 
 -- The candidate b passes the tests of a stage that comes after stage t.
 pub record Passes (kinds codes forms : List ℕ) (lowers : List Bool) (n t : ℕ) (previous classes : List ℕ) (k : ℕ) (b : Field) : Type 0 where

@@ -1,7 +1,6 @@
 -- What the settle loop reads, holds at a stage, and answers.
 use mathlib.Core.Bool.{not}
 use mathlib.Core.List.{List}
-use mathlib.Core.Logic.{_↔_}
 use mathlib.Core.Path.{_≡_}
 use Prim.Native.Nat.{ℕ, suc, _-_, _^_, _<_}
 use lib.ListN.{length, getD}
@@ -13,7 +12,7 @@ use Rattle.model.specs.Base.{settledStage}
 use Rattle.model.specs.Sheet.{kindCount, fieldCount, cardOf, fieldOf}
 use Rattle.model.specs.Limits.{mostLines}
 use Rattle.base.specs.Table.{Under, rowIn, formIn}
-use Rattle.base.specs.Class.{MayUse}
+use Rattle.base.specs.Class.{MayUseAlike}
 use Rattle.base.specs.Stage.{BaseAt, Classes}
 use Rattle.base.specs.declared.settle.Stage.{Stage}
 use Rattle.base.specs.declared.settle.Settled.{Settled}
@@ -34,10 +33,6 @@ PartedAt s t first parted = first < fieldCount s → (j : ℕ) → j < fieldCoun
 -- The decompositions of the sheet's fields, by the rows, fit 64 bits.
 abbrev pub FieldsFit : List ℕ → List ℕ → Type 0
 FieldsFit s rows = (i j : ℕ) → formIn (kindCount s) rows (fieldOf s i) j < 2 ^ 64
-
--- The two fields may use lines of the same classes.
-abbrev pub MayUseAlike : List ℕ → List ℕ → Field → Field → Type 0
-MayUseAlike kinds classes a b = (x : ℕ) → MayUse kinds classes a (length kinds) x ↔ MayUse kinds classes b (length kinds) x
 
 -- Each of n kinds and its row may use lines of the same classes, and so satisfy expansion: "every row must".
 abbrev pub RowsExpand : List ℕ → List ℕ → List ℕ → ℕ → Type 0

@@ -1,6 +1,7 @@
 // Norm-reducing expansion of a kind k against a product b of atoms, over plain tables of the lines: "Norm-reducing expansion considers only reads
 // that lower the norm, for challenge and reply alike."
 use crate::effect::leaves_equal;
+use crate::table::form_of;
 ghost use mathlib.Core.Path.{_≡_};
 ghost use mathlib.Core.Bool.{true, false};
 ghost use mathlib.Core.Logic.{_↔_};
@@ -28,14 +29,8 @@ fn lines_alike(
     if other != own {
         return false;
     }
-    let first = i * 32;
-    let second = j * 32;
-    leaves_equal(
-        &forms[first..first + 32],
-        &forms[second..second + 32],
-        kinds[j],
-        b,
-    )
+    let kind = kinds[j];
+    leaves_equal(form_of(forms, i), form_of(forms, j), kind, b)
 }
 
 // Whether line j of the product is a reply to line i of the kind.

@@ -1,15 +1,39 @@
 // Whether the rows of a stage satisfy expansion, by the classes of the lines.
-use crate::product::uses_kept;
+use crate::class::marks;
+use crate::class::same_marks;
 use crate::table::row_of;
 ghost use mathlib.Core.Path.{_≡_};
 ghost use mathlib.Core.Bool.{true};
 ghost use mathlib.Core.Logic.{_↔_};
 ghost use Prim.Native.Nat.{_≤_, _<_};
 ghost use lib.ListN.{length};
-ghost use Rattle.model.specs.Field.{unit};
+ghost use Rattle.model.specs.Field.{unit, at};
 ghost use Rattle.model.specs.Limits.{mostKinds};
 ghost use Rattle.base.specs.Table.{Under, rowIn};
-ghost use Rattle.base.specs.Settle.{MayUseAlike, RowsExpand};
+ghost use Rattle.base.specs.Class.{MayUseAlike};
+ghost use Rattle.base.specs.Settle.{RowsExpand};
+
+// One token of a kind, as counts.
+pub fn one_token(k: usize) -> [u32; 32]
+    requires { ⌜ k < mostKinds ⌝ }
+    ensures { λ r. ⌜ at r ≡ unit k ⌝ }
+{
+    let mut counts = [0u32; 32];
+    counts[k] = 1;
+    counts
+}
+
+// Whether kind k and a field may use lines of the same classes.
+pub fn uses_alike(kinds: &[usize], classes: &[usize], k: usize, field: &[u32]) -> bool
+    requires { ⌜ (length (now classes) ≡ length (now kinds)) × Under 256 (now classes) ⌝ }
+    requires { ⌜ k < mostKinds ⌝ }
+    ensures { λ r. ⌜ (r ≡ true) ↔ MayUseAlike (now (kinds .entry)) (now (classes .entry)) (unit k) (at (now (field .entry))) ⌝ }
+{
+    let token = one_token(k);
+    let own = marks(kinds, classes, &token);
+    let other = marks(kinds, classes, field);
+    same_marks(&own, &other)
+}
 
 // Whether kind k and its row may use lines of the same classes.
 fn row_expands(kinds: &[usize], classes: &[usize], rows: &[u32], k: usize) -> bool
@@ -17,7 +41,7 @@ fn row_expands(kinds: &[usize], classes: &[usize], rows: &[u32], k: usize) -> bo
     requires { ⌜ (length (now rows) ≡ 1024) × (k < mostKinds) ⌝ }
     ensures { λ r. ⌜ (r ≡ true) ↔ MayUseAlike (now (kinds .entry)) (now (classes .entry)) (unit k) (rowIn (now (rows .entry)) k) ⌝ }
 {
-    uses_kept(kinds, classes, k, row_of(rows, k))
+    uses_alike(kinds, classes, k, row_of(rows, k))
 }
 
 // Whether each of n kinds and its row do: "every row must".

@@ -1,29 +1,18 @@
 // The tests that tell whether a product b of atoms is the row of kind k at a stage.
 use crate::answer::all_answered;
-use crate::class::marks;
-use crate::class::same_marks;
+use crate::expansion::uses_alike;
 use crate::table::form_of_field;
+use crate::table::row_of;
 use crate::table::wide;
 ghost use mathlib.Core.Path.{_≡_};
 ghost use mathlib.Core.Bool.{true};
 ghost use mathlib.Core.Logic.{_↔_};
 ghost use Prim.Native.Nat.{ℕ, _^_, _≤_, _<_};
 ghost use lib.ListN.{length};
-ghost use Rattle.model.specs.Field.{unit, at};
+ghost use Rattle.model.specs.Field.{at};
 ghost use Rattle.base.specs.Table.{Under, rowIn, formIn};
-ghost use Rattle.base.specs.Class.{MayUse};
 ghost use Rattle.base.specs.Answer.{LoweringTables};
 ghost use Rattle.base.specs.Row.{Kept, Passes};
-
-// One token of a kind, as counts.
-pub fn one_token(k: usize) -> [u32; 32]
-    requires { ⌜ k < 32 ⌝ }
-    ensures { λ r. ⌜ at r ≡ unit k ⌝ }
-{
-    let mut counts = [0u32; 32];
-    counts[k] = 1;
-    counts
-}
 
 // Whether a form has the counts of a row.
 fn is_row(form: &[u64], row: &[u32]) -> bool
@@ -50,20 +39,7 @@ fn form_kept(n: usize, previous: &[u32], k: usize, b: &[u32]) -> bool
 {
     let mut form = [0u64; 32];
     form_of_field(&b[0..n], previous, &mut form);
-    let start = k * 32;
-    is_row(&form, &previous[start..start + 32])
-}
-
-// Whether the kind and the product may use lines of the same classes.
-pub fn uses_kept(kinds: &[usize], classes: &[usize], k: usize, b: &[u32]) -> bool
-    requires { ⌜ k < 32 ⌝ }
-    requires { ⌜ (length (now classes) ≡ length (now kinds)) × Under 256 (now classes) ⌝ }
-    ensures { λ r. ⌜ (r ≡ true) ↔ ((x : ℕ) → MayUse (now (kinds .entry)) (now (classes .entry)) (unit k) (length (now (kinds .entry))) x ↔ MayUse (now (kinds .entry)) (now (classes .entry)) (at (now (b .entry))) (length (now (kinds .entry))) x) ⌝ }
-{
-    let own = one_token(k);
-    let mine = marks(kinds, classes, &own);
-    let theirs = marks(kinds, classes, b);
-    same_marks(&mine, &theirs)
+    is_row(&form, row_of(previous, k))
 }
 
 // Whether the stage before relates the two and they satisfy expansion in it.
@@ -74,7 +50,7 @@ fn kept(n: usize, previous: &[u32], kinds: &[usize], classes: &[usize], k: usize
     ensures { λ r. ⌜ (r ≡ true) ↔ Kept n (now (previous .entry)) (now (kinds .entry)) (now (classes .entry)) k (at (now (b .entry))) ⌝ }
 {
     if form_kept(n, previous, k, b) {
-        return uses_kept(kinds, classes, k, b);
+        return uses_alike(kinds, classes, k, b);
     }
     false
 }

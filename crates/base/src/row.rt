@@ -1,8 +1,9 @@
 // The row of a kind at stage t + 1: the first candidate that passes, or the kind itself.
 use crate::effect::RowCandidate;
 use crate::effect::candidate;
-use crate::product::one_token;
+use crate::expansion::one_token;
 use crate::product::passes;
+use crate::table::form_of;
 use norms::order::earlier;
 use sheet::Card;
 ghost use mathlib.Core.Path.{_≡_};
@@ -86,13 +87,8 @@ fn told(
     ensures { λ r. ⌜ IsTold norms (now (kinds .entry)) (now (codes .entry)) (now (forms .entry)) (now (lowers .entry)) (now (rows .entry)) k l m (r .found) (r .counts) ⌝ }
 {
     if suits(norms, kinds, codes, lowers, rows, k, l, m) {
-        let first = l * 32;
-        let second = m * 32;
-        return candidate(
-            &forms[first..first + 32],
-            &forms[second..second + 32],
-            kinds[m],
-        );
+        let kind = kinds[m];
+        return candidate(form_of(forms, l), form_of(forms, m), kind);
     }
     RowCandidate {
         found: false,

@@ -1,37 +1,28 @@
+-- The last of three tests decides.
 use Rattle.base.proofs.Tables.{tells-other}
 use Rattle.base.proofs.Answers.{not-both, tells-third}
 use borrow.Author.Needs.{needs}
 use Rattle.base.proofs.answer.is_kind_reply.Statement.{statement}
 use Rattle.base.proofs.answer.is_kind_reply.Tie as tie
-use Rattle.base.proofs.answer.is_kind_reply.Reads as reads
-use Rattle.base.proofs.answer.is_kind_reply.Lts as lts
-use Rattle.base.proofs.answer.lines_alike.Reads as lines-alike-reads
 
--- src/answer.rt:53:8
 shared-slice-read-if1 : tie.Need-shared-slice-read-if1
 shared-slice-read-if1 c = search needs
 
--- src/answer.rt:54:20
 mul-kind : tie.Need-mul-kind
 mul-kind c = search needs
 
--- src/answer.rt:54:20
 shared-slice-read-kind : tie.Need-shared-slice-read-kind
 shared-slice-read-kind c = search needs
 
--- src/answer.rt:56:13
 lines-alike-requires : tie.Need-lines-alike-requires
 lines-alike-requires c κs = search needs
 
--- src/answer.rt:56:13
 returns : tie.Need-returns
 returns c = tells-third (c .before .before .before .if1 .taken) (c .before .if2 .taken) (c .lines-alike .ensures)
 
--- src/answer.rt:47:1
 returns-2 : tie.Need-returns-2
 returns-2 c = tells-other (λ w. c .if2 .left (w .1))
 
--- src/answer.rt:47:1
 returns-3 : tie.Need-returns-3
 returns-3 c = tells-other (λ w. not-both (c .if1 .left) (w .0))
 

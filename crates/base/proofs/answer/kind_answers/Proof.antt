@@ -1,46 +1,35 @@
+-- A line that is no challenge by the product needs no reply.
 use native.Mathlib.Omega.{arith}
 use Rattle.base.proofs.Tables.{tells-same}
 use Rattle.base.proofs.Answers.{not-both, tells-after}
 use borrow.Author.Needs.{needs}
 use Rattle.base.proofs.answer.kind_answers.Statement.{statement}
 use Rattle.base.proofs.answer.kind_answers.Tie as tie
-use Rattle.base.proofs.answer.kind_answers.Reads as reads
-use Rattle.base.proofs.answer.kind_answers.Lts as lts
-use Rattle.base.proofs.answer.kind_replies.Reads as kind-replies-reads
 
--- src/answer.rt:119:8
 shared-slice-read-if1 : tie.Need-shared-slice-read-if1
 shared-slice-read-if1 c = search needs
 
--- src/answer.rt:120:20
 mul-kind : tie.Need-mul-kind
 mul-kind c = search needs
 
--- src/answer.rt:120:20
 shared-slice-read-kind : tie.Need-shared-slice-read-kind
 shared-slice-read-kind c = search needs
 
--- src/answer.rt:121:21
 mul-count : tie.Need-mul-count
 mul-count c = let b = c .before .before .before .before .before .before .before .before in omega (arith, b .pre .0 .tables .kinds-under (b .args .j) (b .pre .1 .1))
 
--- src/answer.rt:121:21
 shared-slice-read-count : tie.Need-shared-slice-read-count
 shared-slice-read-count c = let b = c .before .before .before .before .before .before .before .before .before in omega (arith, b .pre .0 .tables .kinds-under (b .args .j) (b .pre .1 .1))
 
--- src/answer.rt:123:13
 kind-replies-requires : tie.Need-kind-replies-requires
 kind-replies-requires c κs = search needs
 
--- src/answer.rt:123:13
 returns : tie.Need-returns
 returns c = tells-after (c .before .before .before .before .if1 .taken) (c .before .if2 .taken) (c .kind-replies .ensures)
 
--- src/answer.rt:113:1
 returns-2 : tie.Need-returns-2
 returns-2 c = tells-same (λ _ p. absurd (omega (arith, c .if2 .left)))
 
--- src/answer.rt:113:1
 returns-3 : tie.Need-returns-3
 returns-3 c = tells-same (λ e. absurd (not-both (c .if1 .left) e))
 

@@ -1,37 +1,28 @@
+-- A line that is no challenge by the kind needs no reply.
 use Rattle.base.proofs.Tables.{tells-same}
 use Rattle.base.proofs.Answers.{not-both, tells-after}
 use borrow.Author.Needs.{needs}
 use Rattle.base.proofs.answer.product_answers.Statement.{statement}
 use Rattle.base.proofs.answer.product_answers.Tie as tie
-use Rattle.base.proofs.answer.product_answers.Reads as reads
-use Rattle.base.proofs.answer.product_answers.Lts as lts
-use Rattle.base.proofs.answer.product_replies.Reads as product-replies-reads
 
--- src/answer.rt:103:8
 shared-slice-read-if1 : tie.Need-shared-slice-read-if1
 shared-slice-read-if1 c = search needs
 
--- src/answer.rt:104:20
 mul-kind : tie.Need-mul-kind
 mul-kind c = search needs
 
--- src/answer.rt:104:20
 shared-slice-read-kind : tie.Need-shared-slice-read-kind
 shared-slice-read-kind c = search needs
 
--- src/answer.rt:106:13
 product-replies-requires : tie.Need-product-replies-requires
 product-replies-requires c κs = search needs
 
--- src/answer.rt:106:13
 returns : tie.Need-returns
 returns c = tells-after (c .before .before .before .if1 .taken) (c .before .if2 .taken) (c .product-replies .ensures)
 
--- src/answer.rt:97:1
 returns-2 : tie.Need-returns-2
 returns-2 c = tells-same (λ _ e. absurd (c .if2 .left e))
 
--- src/answer.rt:97:1
 returns-3 : tie.Need-returns-3
 returns-3 c = tells-same (λ e. absurd (not-both (c .if1 .left) e))
 

@@ -8,9 +8,6 @@ use Rattle.base.proofs.Answers.{not-both}
 use Rattle.base.proofs.LineForms.{KindFilled, kind-filled-skip, kind-filled-more, all-kind-filled}
 use Rattle.base.proofs.line_forms.kind_forms.Statement.{statement}
 use Rattle.base.proofs.line_forms.kind_forms.Tie as tie
-use Rattle.base.proofs.line_forms.kind_forms.Reads as reads
-use Rattle.base.proofs.line_forms.kind_forms.Lts as lts
-use Rattle.base.proofs.line_forms.line_form.Reads as line-form-reads
 
 abbrev Inv-loop : tie.InvT-loop
 Inv-loop s card kinds lowers rows forms₀ k lines j₀ forms j = KindFilled s rows kinds lowers k forms₀ forms j
@@ -18,38 +15,30 @@ Inv-loop s card kinds lowers rows forms₀ k lines j₀ forms j = KindFilled s r
 abbrev μ-loop : tie.MeasureT-loop
 μ-loop s card kinds lowers rows forms₀ k lines j₀ forms j = lines - j
 
--- src/line_forms.rt:52:5
 loop-holds : tie.Need-loop-holds Inv-loop μ-loop
 loop-holds c = record { kept = refl; small = c .before .before .before .before .before .pre .1 .1 .1; done = λ i l. absurd (omega arith); others = λ i n. refl }
 
--- src/line_forms.rt:53:20
 mul-kind : tie.Need-mul-kind Inv-loop μ-loop
 mul-kind c = search needs
 
--- src/line_forms.rt:53:20
 shared-slice-read-kind : tie.Need-shared-slice-read-kind Inv-loop μ-loop
 shared-slice-read-kind c = search needs
 
--- src/line_forms.rt:55:16
 shared-slice-read-if2 : tie.Need-shared-slice-read-if2 Inv-loop μ-loop
 shared-slice-read-if2 c = search needs
 
--- src/line_forms.rt:56:17
 line-form-requires : tie.Need-line-form-requires Inv-loop μ-loop
 line-form-requires c κs =
     let b = c .before .before .before .before .before .before .before .before .before .before .before .before in
     let h = c .before .before .before .before .before .before .loop .inv in
     (b .pre .0, ((b .pre .1 .1 .0 .0, h .kept ∙ b .pre .1 .1 .0 .1), (c .before .before .before .before .before .loop-test .taken, h .small)))
 
--- src/line_forms.rt:59:9
 add-j : tie.Need-add-j Inv-loop μ-loop
 add-j c = omega arith
 
--- src/line_forms.rt:52:5
 loop-less : tie.Need-loop-less Inv-loop μ-loop
 loop-less c = search needs
 
--- src/line_forms.rt:52:5
 loop-again : tie.Need-loop-again Inv-loop μ-loop
 loop-again c =
     let h = c .before .before .before .loop .inv in
@@ -58,11 +47,9 @@ loop-again c =
     (⊎-elim (λ w. rw (w .3) (kind-filled-skip h (λ a _. not-both (w .2 .left) a))) (λ w. rw (w .1) (kind-filled-skip h (λ _ e. w .0 .left e))))
     (c .if1 .came)
 
--- src/line_forms.rt:43:1
 same-length : tie.Need-same-length Inv-loop μ-loop
 same-length c = c .before .loop .inv .kept
 
--- src/line_forms.rt:43:1
 returns : tie.Need-returns Inv-loop μ-loop
 returns c = all-kind-filled (c .before .before .before .before .before .before .before .pre .0) (c .loop-test .left) (c .before .loop .inv)
 

@@ -5,46 +5,34 @@ use native.Mathlib.Omega.{arith}
 use lib.ListN.{length}
 use Rattle.sheet.proofs.Laws.{kinds-most, lines-most}
 use Rattle.norms.proofs.Laws.{part-long}
-use Rattle.base.proofs.Tables.{at-kind}
-use Rattle.base.proofs.TableRows as rows
+use Rattle.base.proofs.Tables.{at-kind, part-is, lent-length}
+use Rattle.base.proofs.TableRows.{row-set, row-set-under}
 use Rattle.base.proofs.LineForms.{left-form-small, part-form}
 use borrow.Author.Needs.{needs}
 use Rattle.base.proofs.line_forms.line_form.Statement.{statement}
 use Rattle.base.proofs.line_forms.line_form.Tie as tie
-use Rattle.base.proofs.line_forms.line_form.Reads as reads
-use Rattle.base.proofs.line_forms.line_form.Lts as lts
-use Rattle.base.proofs.table.form_of_counts.Reads as form-of-counts-reads
-use Rattle.sheet.proofs.reader.Card.line_counts.Reads as line-counts-reads
 
--- src/line_forms.rt:22:13
 mul-a : tie.Need-mul-a
 mul-a c = omega (arith, lines-most (c .before .before .before .pre .0))
 
--- src/line_forms.rt:23:13
 add-e : tie.Need-add-e
 add-e c = omega (arith, lines-most (c .before .before .before .pre .0))
 
--- src/line_forms.rt:24:20
 line-counts-requires : tie.Need-line-counts-requires
 line-counts-requires c κs = search needs
 
--- src/line_forms.rt:24:50
 mul-form-of-counts : tie.Need-mul-form-of-counts
 mul-form-of-counts c = omega (arith, lines-most (c .before .before .before .before .pre .0))
 
--- src/line_forms.rt:24:50
 sub-form-of-counts : tie.Need-sub-form-of-counts
 sub-form-of-counts c = search needs
 
--- src/line_forms.rt:24:50
 part-form-of-counts-start : tie.Need-part-form-of-counts-start
 part-form-of-counts-start c = search needs
 
--- src/line_forms.rt:24:50
 part-form-of-counts-end : tie.Need-part-form-of-counts-end
 part-form-of-counts-end c = omega (arith, lines-most (c .before .before .before .before .pre .0))
 
--- src/line_forms.rt:24:5
 form-of-counts-requires : tie.Need-form-of-counts-requires
 form-of-counts-requires c κs =
     let b = c .before .before .before .before .before in
@@ -53,13 +41,11 @@ form-of-counts-requires c κs =
     let p = c .before .line-counts .ensures in
     let e = part-form R j _ p (b .args .rows .now) in
     let small = left-form-small R (λ y. c .before .before .before .before .shared-slice-known .given y .fits) (b .args .rows .now) (λ y. c .before .before .before .shared-slice-known2 .given y .fits) j in
-    ((omega (arith, part-long R j _ p, kinds-most R), omega (arith, rows.part-long (b .args .forms .now) j (omega (arith, lines-most R)))), λ x. omega (arith, at-kind e x, small x))
+    ((omega (arith, part-long R j _ p, kinds-most R), omega (arith, lent-length (b .args .forms .now) j (omega (arith, lines-most R)) (part-is (b .args .forms .now) j))), λ x. omega (arith, at-kind e x, small x))
 
--- src/line_forms.rt:14:1
 same-length : tie.Need-same-length
 same-length c = search needs
 
--- src/line_forms.rt:14:1
 returns : tie.Need-returns
 returns c =
     let b = c .before .before .before .before .before .before .before .before in
@@ -68,9 +54,9 @@ returns c =
     let j = b .args .j in
     let e = c .before .before .form-of-counts .ensures ∙ part-form R j _ (c .before .before .before .before .line-counts .ensures) (b .args .rows .now) in
     let room : j * 32 + 32 ≤ length forms = omega (arith, lines-most R) in
-    let long = c .before .before .form-of-counts .kept .1 .1 .0 ∙ rows.part-long forms j room in
+    let long = c .before .before .form-of-counts .kept .1 .1 .0 ∙ lent-length forms j room (part-is forms j) in
     let small = left-form-small R (λ y. c .before .before .before .before .before .before .before .shared-slice-known .given y .fits) (b .args .rows .now) (λ y. c .before .before .before .before .before .before .shared-slice-known2 .given y .fits) j in
-    (rows.row-set forms j (c .before .before .form-of-counts .last .1 .1 .0) long room _ e, rows.row-set-under forms j (c .before .before .form-of-counts .last .1 .1 .0) long room (b .pre .1 .1 .1) (λ x. omega (arith, at-kind e x, small x)))
+    (row-set forms (c .before .before .form-of-counts .last .1 .1 .0) j long room _ e, row-set-under forms (c .before .before .form-of-counts .last .1 .1 .0) j long room (b .pre .1 .1 .1) (λ x. omega (arith, at-kind e x, small x)))
 
 pub line-form-spec : {M : Type 1} → statement M
 line-form-spec =

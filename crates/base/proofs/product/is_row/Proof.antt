@@ -7,9 +7,6 @@ use Rattle.model.specs.Field.{at}
 use Rattle.base.proofs.Tables.{Agree, agree-none, agree-more, agree-all, tells-same, differ, past}
 use Rattle.base.proofs.product.is_row.Statement.{statement}
 use Rattle.base.proofs.product.is_row.Tie as tie
-use Rattle.base.proofs.product.is_row.Reads as reads
-use Rattle.base.proofs.product.is_row.Lts as lts
-use Rattle.base.proofs.table.wide.Reads as wide-reads
 
 abbrev Inv-loop : tie.InvT-loop
 Inv-loop form row i₀ i = (i ≤ length form) × Agree (at row) (at form) i
@@ -17,47 +14,36 @@ Inv-loop form row i₀ i = (i ≤ length form) × Agree (at row) (at form) i
 abbrev μ-loop : tie.MeasureT-loop
 μ-loop form row i₀ i = length form - i
 
--- src/product.rt:34:5
 loop-holds : tie.Need-loop-holds Inv-loop μ-loop
 loop-holds c = (omega arith, agree-none)
 
--- src/product.rt:35:21
 mul-count : tie.Need-mul-count Inv-loop μ-loop
 mul-count c = search needs
 
--- src/product.rt:35:21
 shared-slice-read-count : tie.Need-shared-slice-read-count Inv-loop μ-loop
 shared-slice-read-count c = search needs
 
--- src/product.rt:36:26
 mul-wide : tie.Need-mul-wide Inv-loop μ-loop
 mul-wide c = search needs
 
--- src/product.rt:36:26
 shared-slice-read-wide : tie.Need-shared-slice-read-wide Inv-loop μ-loop
 shared-slice-read-wide c = search needs
 
--- src/product.rt:36:13
 wide-requires : tie.Need-wide-requires Inv-loop μ-loop
 wide-requires c κs = search needs
 
--- src/product.rt:38:13
 returns : tie.Need-returns Inv-loop μ-loop
 returns c = differ (c .before .before .before .before .before .loop .i) (λ e. c .if1 .taken (omega arith))
 
--- src/product.rt:40:9
 add-i : tie.Need-add-i Inv-loop μ-loop
 add-i c = search needs
 
--- src/product.rt:34:5
 loop-less : tie.Need-loop-less Inv-loop μ-loop
 loop-less c = search needs
 
--- src/product.rt:34:5
 loop-again : tie.Need-loop-again Inv-loop μ-loop
 loop-again c = (omega arith, agree-more (c .before .before .before .before .before .loop .inv .1) (omega arith))
 
--- src/product.rt:29:1
 returns-2 : tie.Need-returns-2 Inv-loop μ-loop
 returns-2 c =
     let a = c .before .before .before .before .args in

@@ -1,3 +1,4 @@
+-- An atom of the stage before stays one.
 use mathlib.Core.Path.{_∙_}
 use native.Mathlib.Omega.{arith}
 use Rattle.sheet.proofs.Laws.{kinds-are, kinds-most}
@@ -5,13 +6,7 @@ use Rattle.base.proofs.StageRows.{atom-kept}
 use borrow.Author.Needs.{needs}
 use Rattle.base.proofs.row.row_of_kind.Statement.{statement}
 use Rattle.base.proofs.row.row_of_kind.Tie as tie
-use Rattle.base.proofs.row.row_of_kind.Reads as reads
-use Rattle.base.proofs.row.row_of_kind.Lts as lts
-use Rattle.base.proofs.product.one_token.Reads as one-token-reads
-use Rattle.base.proofs.row.told_row.Reads as told-row-reads
-use Rattle.base.proofs.row.was_atom.Reads as was-atom-reads
 
--- src/row.rt:146:8
 was-atom-requires : tie.Need-was-atom-requires
 was-atom-requires c κs =
     let b = c .before .before .before .before .before .before .before .before in
@@ -19,7 +14,6 @@ was-atom-requires c κs =
     let h = b .pre .1 .0 .0 in
     (omega (arith, h, kinds-most (G .accepts .reads)), G .previous-long)
 
--- src/row.rt:147:9
 one-token-requires : tie.Need-one-token-requires
 one-token-requires c κs =
     let b = c .before .before .before .before .before .before .before .before .before .before in
@@ -27,7 +21,6 @@ one-token-requires c κs =
     let h = b .pre .1 .0 .0 in
     omega (arith, h, kinds-most (G .accepts .reads))
 
--- src/row.rt:147:9
 returns : tie.Need-returns
 returns c =
     let b = c .before .before .before .before .before .before .before .before .before .before .before in
@@ -36,11 +29,9 @@ returns c =
     let a = c .before .before .was-atom .ensures .0 (c .before .if1 .taken) in
     c .one-token .ensures ∙ atom-kept (b .args .s .now) (G .accepts .accepted) (b .args .k) (omega (arith, h, kinds-are (G .accepts .reads))) (b .args .t) (b .args .previous .now) (b .args .classes .now) (G .follows) (a .0) (a .1)
 
--- src/row.rt:149:5
 told-row-requires : tie.Need-told-row-requires
 told-row-requires c κs = search needs
 
--- src/row.rt:140:1
 returns-2 : tie.Need-returns-2
 returns-2 c = search needs
 

@@ -1,3 +1,4 @@
+-- The last of four tests decides.
 use mathlib.Core.Path.{_∙_, sym}
 use native.Mathlib.Omega.{arith}
 use Rattle.base.proofs.Tables.{tells-other}
@@ -6,71 +7,52 @@ use Rattle.base.proofs.Products.{suits-last}
 use borrow.Author.Needs.{needs}
 use Rattle.base.proofs.row.suits.Statement.{statement}
 use Rattle.base.proofs.row.suits.Tie as tie
-use Rattle.base.proofs.row.suits.Reads as reads
-use Rattle.base.proofs.row.suits.Lts as lts
-use Rattle.norms.proofs.order.earlier.Reads as earlier-reads
 
--- src/row.rt:40:8
 shared-slice-read-if1 : tie.Need-shared-slice-read-if1
 shared-slice-read-if1 c = search needs
 
--- src/row.rt:41:20
 mul-code : tie.Need-mul-code
 mul-code c = search needs
 
--- src/row.rt:41:20
 shared-slice-read-code : tie.Need-shared-slice-read-code
 shared-slice-read-code c = search needs
 
--- src/row.rt:42:21
 mul-other : tie.Need-mul-other
 mul-other c = search needs
 
--- src/row.rt:42:21
 shared-slice-read-other : tie.Need-shared-slice-read-other
 shared-slice-read-other c = search needs
 
--- src/row.rt:44:24
 mul-kind : tie.Need-mul-kind
 mul-kind c = search needs
 
--- src/row.rt:44:24
 shared-slice-read-kind : tie.Need-shared-slice-read-kind
 shared-slice-read-kind c = search needs
 
--- src/row.rt:45:16
 earlier-requires : tie.Need-earlier-requires
 earlier-requires c κs = let b = c .before .before .before .before .before .before .before .before .before .before in (b .pre .1 .1 .0, b .pre .1 .0 (b .args .m) (b .pre .1 .1 .2))
 
--- src/row.rt:46:27
 mul-own : tie.Need-mul-own
 mul-own c = let b = c .before .before .before .before .before .before .before .before .before .before .before .before in omega (arith, b .pre .1 .0 (b .args .m) (b .pre .1 .1 .2))
 
--- src/row.rt:46:27
 add-own : tie.Need-add-own
 add-own c = let b = c .before .before .before .before .before .before .before .before .before .before .before .before in omega (arith, b .pre .1 .0 (b .args .m) (b .pre .1 .1 .2))
 
--- src/row.rt:47:29
 mul-count : tie.Need-mul-count
 mul-count c = let b = c .before .before .before .before .before .before .before .before .before .before .before .before in omega (arith, b .pre .1 .0 (b .args .m) (b .pre .1 .1 .2))
 
--- src/row.rt:47:29
 shared-slice-read-count : tie.Need-shared-slice-read-count
 shared-slice-read-count c = let b = c .before .before .before .before .before .before .before .before .before .before .before .before .before in omega (arith, b .pre .1 .0 (b .args .m) (b .pre .1 .1 .2), b .pre .0 .2)
 
--- src/row.rt:48:17
 returns : tie.Need-returns
 returns c = let b = c .before .before .before .before .before .before .before .before .before .before .before .before .before in suits-last (b .pre .1 .0 (b .args .m) (b .pre .1 .1 .2)) (c .before .before .before .before .before .before .before .if1 .taken) (c .before .before .before .before .if2 .taken) (sym (c .before .before .earlier .ensures) ∙ c .before .if3 .taken)
 
--- src/row.rt:34:1
 returns-2 : tie.Need-returns-2
 returns-2 c = tells-other (λ w. not-both (sym (c .before .earlier .ensures) ∙ c .if3 .left) (w .before))
 
--- src/row.rt:34:1
 returns-3 : tie.Need-returns-3
 returns-3 c = tells-other (λ w. c .if2 .left (w .code))
 
--- src/row.rt:34:1
 returns-4 : tie.Need-returns-4
 returns-4 c = tells-other (λ w. not-both (c .if1 .left) (w .lowering))
 

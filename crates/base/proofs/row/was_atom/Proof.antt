@@ -1,3 +1,4 @@
+-- The own count in the row of the stage before.
 use native.Mathlib.Omega.{arith}
 use Rattle.base.proofs.Tables.{tells-other}
 use Rattle.base.proofs.Answers.{tells-second}
@@ -5,30 +6,22 @@ use Rattle.base.proofs.Products.{own-one}
 use borrow.Author.Needs.{needs}
 use Rattle.base.proofs.row.was_atom.Statement.{statement}
 use Rattle.base.proofs.row.was_atom.Tie as tie
-use Rattle.base.proofs.row.was_atom.Reads as reads
-use Rattle.base.proofs.row.was_atom.Lts as lts
 
--- src/row.rt:132:19
 mul-own : tie.Need-mul-own
 mul-own c = search needs
 
--- src/row.rt:132:19
 add-own : tie.Need-add-own
 add-own c = search needs
 
--- src/row.rt:133:21
 mul-count : tie.Need-mul-count
 mul-count c = search needs
 
--- src/row.rt:133:21
 shared-slice-read-count : tie.Need-shared-slice-read-count
 shared-slice-read-count c = search needs
 
--- src/row.rt:134:9
 returns : tie.Need-returns
 returns c = let b = c .before .before in tells-second (c .before .if1 .taken) (own-one (b .args .previous .now) (b .args .k) (b .pre .0))
 
--- src/row.rt:127:1
 returns-2 : tie.Need-returns-2
 returns-2 c = tells-other (λ w. omega (arith, w .0, c .if1 .left))
 

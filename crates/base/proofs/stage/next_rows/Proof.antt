@@ -1,12 +1,9 @@
+-- The stage before is stage t.
 use Rattle.base.proofs.StageRows.{follows-next, base-next}
 use borrow.Author.Needs.{needs}
 use Rattle.base.proofs.stage.next_rows.Statement.{statement}
 use Rattle.base.proofs.stage.next_rows.Tie as tie
-use Rattle.base.proofs.stage.next_rows.Reads as reads
-use Rattle.base.proofs.stage.next_rows.Lts as lts
-use Rattle.base.proofs.stage.stage_rows.Reads as stage-rows-reads
 
--- src/stage.rt:70:5
 stage-rows-requires : tie.Need-stage-rows-requires
 stage-rows-requires c κs =
     let b = c .before .before .before .before .before .before .before .before in
@@ -22,11 +19,9 @@ stage-rows-requires c κs =
       b .pre .1 .1 .0,
     )
 
--- src/stage.rt:62:1
 same-length : tie.Need-same-length
 same-length c = search needs
 
--- src/stage.rt:62:1
 returns : tie.Need-returns
 returns c = base-next (c .before .before .before .before .before .before .before .before .before .before .before .args .s .now) (c .before .before .before .before .before .before .before .before .before .before .before .args .t) (c .before .before .stage-rows .result .rows) (c .before .before .stage-rows .ensures)
 

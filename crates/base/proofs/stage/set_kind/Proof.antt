@@ -1,3 +1,4 @@
+-- The forms of the own lines, then the row, then the store.
 use Prim.Native.Nat.{_*_, _+_, _≤_}
 use mathlib.Core.Path.{_≡_, _∙_, sym}
 use native.Mathlib.Omega.{arith}
@@ -7,20 +8,13 @@ use Rattle.base.proofs.StageRows.{sought, kind-set}
 use borrow.Author.Needs.{needs}
 use Rattle.base.proofs.stage.set_kind.Statement.{statement}
 use Rattle.base.proofs.stage.set_kind.Tie as tie
-use Rattle.base.proofs.stage.set_kind.Reads as reads
-use Rattle.base.proofs.stage.set_kind.Lts as lts
-use Rattle.base.proofs.line_forms.kind_forms.Reads as kind-forms-reads
-use Rattle.base.proofs.row.row_of_kind.Reads as row-of-kind-reads
-use Rattle.base.proofs.table.Base.set_row.Reads as set-row-reads
 
 rows-long : (c : tie.Start) → length (c .args .base .rows) ≡ 1024
 rows-long c = search needs
 
--- src/stage.rt:24:40
 slice-aggregate-kind-forms : tie.Need-slice-aggregate-kind-forms
 slice-aggregate-kind-forms c = search needs
 
--- src/stage.rt:24:5
 kind-forms-requires : tie.Need-kind-forms-requires
 kind-forms-requires c κs =
     let b = c .before .before .before .before .before .before .before .before .before .before in
@@ -28,11 +22,9 @@ kind-forms-requires c κs =
     let e = sym (lines-are (G .accepts .reads)) in
     (G .accepts .reads, ((G .lines .kinds-long ∙ e, G .lines .lowers-long ∙ e), ((rows-long b, b .pre .1 .0 .1), b .pre .1 .0 .2)))
 
--- src/stage.rt:25:87
 slice-aggregate-row-of-kind : tie.Need-slice-aggregate-row-of-kind
 slice-aggregate-row-of-kind c = search (needs, rows-long (c .before .before .before .before .before .before .before .before .before .before .before .before .before .before))
 
--- src/stage.rt:25:15
 row-of-kind-requires : tie.Need-row-of-kind-requires
 row-of-kind-requires c κs =
     let b = c .before .before .before .before .before .before .before .before .before .before .before .before .before .before .before in
@@ -40,11 +32,9 @@ row-of-kind-requires c κs =
     let M = c .before .before .before .before .kind-forms in
     (G, ((b .pre .1 .0 .0, rows-long b, M .kept .1 .1 .1 .1 .1 .0 ∙ b .pre .1 .0 .1, M .ensures .small), sought G (b .pre .1 .1) (M .ensures)))
 
--- src/stage.rt:26:21
 slice-aggregate-set-row : tie.Need-slice-aggregate-set-row
 slice-aggregate-set-row c = search needs
 
--- src/stage.rt:26:5
 set-row-requires : tie.Need-set-row-requires
 set-row-requires c κs =
     let b = c .before .before .before .before .before .before .before .before .before .before .before .before .before .before .before .before .before in
@@ -52,11 +42,9 @@ set-row-requires c κs =
     let long : length (c .before .row-of-kind .result) ≡ 32 = search (needs, c .before .row-of-kind .ok) in
     (omega (arith, b .pre .1 .0 .0, kinds-most (G .accepts .reads)), long)
 
--- src/stage.rt:17:1
 same-length : tie.Need-same-length
 same-length c = search needs
 
--- src/stage.rt:17:1
 returns : tie.Need-returns
 returns c =
     let b = c .before .before .before .before .before .before .before .before .before .before .before .before .before .before .before .before .before .before in

@@ -9,12 +9,6 @@ use Rattle.base.proofs.LineForms.{clear-under}
 use Rattle.base.proofs.KindByKind.{SoFar, leftOver, fewer-left, so-far-none, so-far-more, earlier-set, all-set}
 use Rattle.base.proofs.stage.stage_rows.Statement.{statement}
 use Rattle.base.proofs.stage.stage_rows.Tie as tie
-use Rattle.base.proofs.stage.stage_rows.Reads as reads
-use Rattle.base.proofs.stage.stage_rows.Lts as lts
-use Rattle.base.proofs.order.earliest.Reads as earliest-reads
-use Rattle.base.proofs.stage.set_kind.Reads as set-kind-reads
-use Rattle.base.proofs.table.Base.new.Reads as new-reads
-use Rattle.base.proofs.table.clear.Reads as clear-reads
 
 abbrev Inv-loop : tie.InvT-loop
 Inv-loop s card kinds codes lowers t previous classes forms₀ norms n base₀ done₀ k₀ forms base done k = SoFar s t (card .kinds) norms forms₀ (base .rows) forms done k
@@ -25,31 +19,24 @@ abbrev μ-loop : tie.MeasureT-loop
 norms-long : (c : tie.Start Inv-loop μ-loop) → length (c .args .t3) ≡ 32
 norms-long c = search needs
 
--- src/stage.rt:35:5
 clear-requires : tie.Need-clear-requires Inv-loop μ-loop
 clear-requires c κs = search needs
 
--- src/stage.rt:37:9
 new-requires : tie.Need-new-requires Inv-loop μ-loop
 new-requires c κs = search needs
 
--- src/stage.rt:39:26
 slice-aggregate-earliest : tie.Need-slice-aggregate-earliest Inv-loop μ-loop
 slice-aggregate-earliest c = search (needs, norms-long (c .before .before .before .before .before .before .before .before .before .before .before .before .before))
 
--- src/stage.rt:39:37
 slice-aggregate-earliest-2 : tie.Need-slice-aggregate-earliest-2 Inv-loop μ-loop
 slice-aggregate-earliest-2 c = search needs
 
--- src/stage.rt:39:9
 earliest-requires : tie.Need-earliest-requires Inv-loop μ-loop
 earliest-requires c κs = (omega (arith, norms-long (c .before .before .before .before .before .before .before .before .before .before .before .before .before .before), kinds-most (c .before .before .before .before .before .before .before .before .before .before .before .before .before .before .pre .0 .accepts .reads)), omega (arith, kinds-most (c .before .before .before .before .before .before .before .before .before .before .before .before .before .before .pre .0 .accepts .reads)))
 
--- src/stage.rt:40:5
 loop-holds : tie.Need-loop-holds Inv-loop μ-loop
 loop-holds c = so-far-none (clear-under (c .before .before .before .before .before .before .clear .last .0) (omega arith) (c .before .before .before .before .before .before .clear .ensures)) (c .earliest .ensures)
 
--- src/stage.rt:41:9
 set-kind-requires : tie.Need-set-kind-requires Inv-loop μ-loop
 set-kind-requires c κs =
     let b = c .before .before .before .before .before .before .before .before .before .before .before .before .before .before .before .before .before .before in
@@ -57,41 +44,33 @@ set-kind-requires c κs =
     let l = c .before .loop-test .taken in
     (b .pre .0, ((l, h .kept ∙ c .before .before .before .before .before .before .before .before .before .clear .kept .0 ∙ b .pre .1, h .small), earlier-set (b .pre .0 .accepts) h l))
 
--- src/stage.rt:42:9
 array-write-done : tie.Need-array-write-done Inv-loop μ-loop
 array-write-done c = omega (arith, c .before .before .before .before .loop-test .taken, kinds-most (c .before .before .before .before .before .before .before .before .before .before .before .before .before .before .before .before .before .before .before .before .before .pre .0 .accepts .reads))
 
--- src/stage.rt:43:22
 slice-aggregate-earliest-3 : tie.Need-slice-aggregate-earliest-3 Inv-loop μ-loop
 slice-aggregate-earliest-3 c = search (needs, norms-long (c .before .before .before .before .before .before .before .before .before .before .before .before .before .before .before .before .before .before .before .before .before .before))
 
--- src/stage.rt:43:33
 slice-aggregate-earliest-4 : tie.Need-slice-aggregate-earliest-4 Inv-loop μ-loop
 slice-aggregate-earliest-4 c = let p = c .before .before .before .before .before .before .before .loop in sym (length-set (p .done) (p .k) true ∙ p .inv .flags)
 
--- src/stage.rt:43:9
 earliest-requires-2 : tie.Need-earliest-requires-2 Inv-loop μ-loop
 earliest-requires-2 c κs =
     let p = c .before .before .before .before .before .before .before .loop in
     let n = kinds-most (c .before .before .before .before .before .before .before .before .before .before .before .before .before .before .before .before .before .before .before .before .before .before .before .pre .0 .accepts .reads) in
     (omega (arith, norms-long (c .before .before .before .before .before .before .before .before .before .before .before .before .before .before .before .before .before .before .before .before .before .before .before), n), omega (arith, n, length-set (p .done) (p .k) true, p .inv .flags))
 
--- src/stage.rt:40:5
 loop-less : tie.Need-loop-less Inv-loop μ-loop
 loop-less c =
     let p = c .before .before .before .before .before .before .before .before .loop in
     let l = c .before .before .before .before .before .before .before .loop-test .taken in
     fewer-left (c .before .before .before .before .before .before .before .before .before .before .before .before .before .before .before .before .before .before .before .before .before .before .before .before .args .card .kinds) (p .done) (p .k) l (omega (arith, l, p .inv .flags, kinds-most (c .before .before .before .before .before .before .before .before .before .before .before .before .before .before .before .before .before .before .before .before .before .before .before .before .pre .0 .accepts .reads))) (p .inv .next .here l .1)
 
--- src/stage.rt:40:5
 loop-again : tie.Need-loop-again Inv-loop μ-loop
 loop-again c = so-far-more (c .before .before .before .before .before .before .before .before .loop .inv) (c .before .before .before .before .before .set-kind .ensures) (c .before .before .before .before .before .set-kind .kept .1 .1 .1 .1 .1 .1 .1 .1 .1 .1 .0) (c .earliest2 .ensures)
 
--- src/stage.rt:30:1
 same-length : tie.Need-same-length Inv-loop μ-loop
 same-length c = c .before .loop .inv .kept ∙ c .before .before .before .before .before .before .before .before .clear .kept .0
 
--- src/stage.rt:30:1
 returns : tie.Need-returns Inv-loop μ-loop
 returns c = all-set (c .before .before .before .before .before .before .before .before .before .before .before .before .before .before .before .before .before .pre .0 .accepts) (c .before .loop .inv) (c .loop-test .left)
 
