@@ -7,15 +7,18 @@ use lib.ListN.{length}
 use Rattle.model.specs.Refusal.{clear}
 use Rattle.model.specs.Answer.{rowCheckOf}
 use Rattle.filer.specs.Answers.{findingOf}
-use Rattle.filer.proofs.Rows.{row-inside, whole, part-is, row-none}
+use Rattle.filer.proofs.Rows.{Whole, row-inside, whole, part-is, row-none}
 use Rattle.filer.proofs.row.row.Statement.{statement}
 use Rattle.filer.proofs.row.row.Tie as tie
 
 found-clear : (c : tie.After-enum-told) → rowCheckOf (c .before .before .before .before .args .n) (c .before .before .before .before .args .kind) (c .before .before .before .before .args .table .now) ≡ clear
 found-clear c = sym (c .before .before .row-check .ensures) ∙ ap findingOf (c .enum-told .given .1)
 
+told : (c : tie.After-enum-told) → Whole (c .before .before .before .before .args .n) (c .before .before .before .before .args .kind) (length (c .before .before .before .before .args .table .now))
+told c = whole _ _ _ (found-clear c)
+
 inside : (c : tie.After-enum-told) → c .before .before .before .before .args .kind * c .before .before .before .before .args .n + c .before .before .before .before .args .n ≤ length (c .before .before .before .before .args .table .now)
-inside c = let a = c .before .before .before .before .args in row-inside (a .n) (a .kind) (a .table .now) (whole _ _ _ (found-clear c))
+inside c = let a = c .before .before .before .before .args in row-inside (a .n) (a .kind) (a .table .now) (told c)
 
 row-check-requires : tie.Need-row-check-requires
 row-check-requires c κs = search needs
@@ -24,13 +27,13 @@ enum-told : tie.Need-enum-told
 enum-told c = search needs
 
 mul-start : tie.Need-mul-start
-mul-start c = let h : _ = inside c in omega arith
+mul-start c = omega (arith, inside c, told c .kind, told c .few)
 
 add-end : tie.Need-add-end
-add-end c = let h : _ = inside c in omega arith
+add-end c = omega (arith, inside c, told c .kind, told c .few)
 
 mul-result : tie.Need-mul-result
-mul-result c = let h : _ = inside c in omega arith
+mul-result c = omega (arith, inside c, told c .kind, told c .few)
 
 sub-result : tie.Need-sub-result
 sub-result c = search needs
@@ -39,7 +42,7 @@ part-result-start : tie.Need-part-result-start
 part-result-start c = search needs
 
 part-result-end : tie.Need-part-result-end
-part-result-end c = let h : _ = inside c in omega arith
+part-result-end c = omega (arith, inside c)
 
 enum-told-2 : tie.Need-enum-told-2
 enum-told-2 c = search needs

@@ -20,7 +20,7 @@ returns : tie.Need-returns
 returns c = sym (kinds-stop _ _ _ (sym (c .before .outside .ensures) ∙ c .if1 .taken))
 
 returns-2 : tie.Need-returns-2
-returns-2 c = sym (kind-stops _ _ _ (kinds-pass (c .before)) (c .if2 .taken))
+returns-2 c = let a = c .before .before .before .before .args in sym (kind-stops (a .n) (a .kind) (a .table .now) (kinds-pass (c .before)) (omega (arith, c .if2 .taken)))
 
 mul-if3 : tie.Need-mul-if3
 mul-if3 c = omega (arith, square-most (c .before .before .before .before .args .n) (in-range _ (kinds-pass (c .before)) .1))

@@ -36,7 +36,7 @@ div-table : tie.Need-div-table Inv-loop μ-loop
 div-table c = omega (arith, row-is c)
 
 mul-table : tie.Need-mul-table Inv-loop μ-loop
-mul-table c = omega (arith, row-is c, c .before .before .pre .0 .1)
+mul-table c = omega (arith, row-is c, count-is c, c .before .before .pre .0 .1)
 
 rem-table : tie.Need-rem-table Inv-loop μ-loop
 rem-table c = omega (arith, row-is c)
