@@ -15,7 +15,8 @@ use Rattle.player.specs.declared.tally.Called.{Called}
 use Rattle.player.specs.declared.tally.Called.the-variants.{Same, Different}
 use Rattle.player.specs.declared.tally.Judgement.{Judgement}
 use Rattle.player.specs.declared.tally.Judgement.the-variants.{Agrees, Open, Wrong}
-use Rattle.player.specs.Judged.{Tests, choose, judgementOf}
+use Rattle.player.specs.declared.tally.Tally.{Tally}
+use Rattle.player.specs.Judged.{Tests, choose, judgementOf, chooseNumber, partOf, countedOf}
 
 module _ {x : Called} {t : Tried} {stage rounds r : ℕ} (e : x ≡ Different stage rounds) where
   parted-judged : t ≡ Parted r → judgementOf x t ≡ choose (leb r rounds) Agrees Wrong
@@ -35,6 +36,28 @@ module _ {x : Called} {t : Tried} {stage rounds r : ℕ} (e : x ≡ Different st
 
   pub held-wrong : t ≡ Held r → rounds ≤ r → Wrong ≡ judgementOf x t
   held-wrong d h = sym (held-judged d ∙ ap (λ (b : Bool). choose b Open Wrong) (le-ltb r rounds h))
+
+-- The part of a pair called different.
+module _ {x : Called} {stage rounds : ℕ} (e : x ≡ Different stage rounds) where
+  pub part-small : stage < 1000 → stage + 1 ≡ partOf x
+  part-small h = sym (ap partOf e ∙ ap (λ (b : Bool). chooseNumber b (stage + 1) 1001) (lt-ltb stage 1000 h))
+
+  pub part-large : 1000 ≤ stage → 1001 ≡ partOf x
+  part-large h = sym (ap partOf e ∙ ap (λ (b : Bool). chooseNumber b (stage + 1) 1001) (le-ltb stage 1000 h))
+
+-- A number that is counted on, or is the greatest.
+pub counted-more : (t : Bool) (x : ℕ) → t ≡ true → x < 18446744073709551615 → x + 1 ≡ countedOf t x
+counted-more t x e h = sym (ap (λ (b : Bool). countedOf b x) e ∙ ap (λ (b : Bool). chooseNumber b (x + 1) x) (lt-ltb x 18446744073709551615 h))
+
+pub counted-most : (t : Bool) (x : ℕ) → t ≡ true → 18446744073709551615 ≤ x → x ≡ countedOf t x
+counted-most t x e h = sym (ap (λ (b : Bool). countedOf b x) e ∙ ap (λ (b : Bool). chooseNumber b (x + 1) x) (le-ltb x 18446744073709551615 h))
+
+-- Tallies are equal where their numbers are.
+pub equal-tallies : {same same′ different different′ zero zero′ one one′ two two′ three three′ later later′ early early′ undecided undecided′ wrong wrong′ misfiled misfiled′ : ℕ} → same ≡ same′ → different ≡ different′ → zero ≡ zero′ → one ≡ one′ → two ≡ two′ → three ≡ three′ → later ≡ later′ → early ≡ early′ → undecided ≡ undecided′ → wrong ≡ wrong′ → misfiled ≡ misfiled′
+    → _≡_ {A = Tally}
+    (record { same = same; different = different; zero = zero; one = one; two = two; three = three; later = later; early = early; undecided = undecided; wrong = wrong; misfiled = misfiled })
+    (record { same = same′; different = different′; zero = zero′; one = one′; two = two′; three = three′; later = later′; early = early′; undecided = undecided′; wrong = wrong′; misfiled = misfiled′ })
+equal-tallies e-same e-different e-zero e-one e-two e-three e-later e-early e-undecided e-wrong e-misfiled = rw (e-same, e-different, e-zero, e-one, e-two, e-three, e-later, e-early, e-undecided, e-wrong, e-misfiled)
 
 -- Two lists are as long, and have the same numbers below i.
 pub record SameBelow (a b : List ℕ) (i : ℕ) : Type 0 where

@@ -27,8 +27,8 @@ pub enum Play {
 
 // The first number of rounds that parts a pair, or a number of rounds at which it holds.
 pub enum Tried {
-    Parted(usize),
-    Held(usize),
+    Parted(u64),
+    Held(u64),
 }
 
 // "A field with a token of kind X may use a line of X": whether the field may use line j.
@@ -88,7 +88,7 @@ fn field_after(s: &[u8], j: usize, a: &[usize; 32]) -> [usize; 32]
 // Whether line j is a reply of b, of that code, which leaves beside x a pair that holds at `rounds` rounds.
 fn reply_holds(
     s: &[u8],
-    rounds: usize,
+    rounds: u64,
     code: usize,
     j: usize,
     x: &[usize; 32],
@@ -110,7 +110,7 @@ fn reply_holds(
 // Whether b has such a reply.
 fn some_reply(
     s: &[u8],
-    rounds: usize,
+    rounds: u64,
     code: usize,
     x: &[usize; 32],
     b: &[usize; 32],
@@ -144,7 +144,7 @@ fn some_reply(
 // Whether line j, if a may use it, is a challenge to which b has a reply that leaves a pair which holds at `rounds` rounds.
 fn challenge_holds(
     s: &[u8],
-    rounds: usize,
+    rounds: u64,
     j: usize,
     a: &[usize; 32],
     b: &[usize; 32],
@@ -163,7 +163,7 @@ fn challenge_holds(
 }
 
 // Whether every challenge of a has such a reply.
-fn every_challenge(s: &[u8], rounds: usize, a: &[usize; 32], b: &[usize; 32], budget: usize) -> Play
+fn every_challenge(s: &[u8], rounds: u64, a: &[usize; 32], b: &[usize; 32], budget: usize) -> Play
     requires { ⌜ kindCount (now s) ≤ 32 ⌝ }
     requires { ⌜ Fits (now s) (rounds + 1) (now a) × Fits (now s) (rounds + 1) (now b) ⌝ }
     ensures { λ r. ⌜
@@ -191,7 +191,7 @@ fn every_challenge(s: &[u8], rounds: usize, a: &[usize; 32], b: &[usize; 32], bu
 
 // "A pair holds at 0 rounds. It holds at r + 1 rounds just when every challenge has a reply that leaves a pair which holds at r." The
 // challenges of the second side are played with the sides exchanged, which does not alter what holds.
-fn pair_holds(s: &[u8], rounds: usize, a: &[usize; 32], b: &[usize; 32], budget: usize) -> Play
+fn pair_holds(s: &[u8], rounds: u64, a: &[usize; 32], b: &[usize; 32], budget: usize) -> Play
     requires { ⌜ kindCount (now s) ≤ 32 ⌝ }
     requires { ⌜ Fits (now s) rounds (now a) × Fits (now s) rounds (now b) ⌝ }
     ensures { λ r. ⌜ Says r (model.Holds (cardOf (now (s .entry))) rounds (at (now (a .entry))) (at (now (b .entry)))) ⌝ }
@@ -210,7 +210,7 @@ fn pair_holds(s: &[u8], rounds: usize, a: &[usize; 32], b: &[usize; 32], budget:
 }
 
 // Whether two fields of the sheet hold at so many rounds, at most 200, played with so many pairs at most.
-pub fn holds(s: &[u8], rounds: usize, first: usize, second: usize, budget: usize) -> Play
+pub fn holds(s: &[u8], rounds: u64, first: usize, second: usize, budget: usize) -> Play
     ensures { λ r. ⌜ Says r (model.Holds (cardOf (now (s .entry))) rounds (fieldOf (now (s .entry)) first) (fieldOf (now (s .entry)) second)) ⌝ }
 {
     if 32 < kinds(s) {
@@ -232,11 +232,11 @@ pub fn holds(s: &[u8], rounds: usize, first: usize, second: usize, budget: usize
 }
 
 // Two fields of the sheet tried at 1, 2, .. rounds, up to a limit, with so many pairs at most in all.
-pub fn parting(s: &[u8], limit: usize, first: usize, second: usize, budget: usize) -> Tried
+pub fn parting(s: &[u8], limit: u64, first: usize, second: usize, budget: usize) -> Tried
     ensures { λ r. ⌜ Finds r (λ q. model.Holds (cardOf (now (s .entry))) q (fieldOf (now (s .entry)) first) (fieldOf (now (s .entry)) second)) limit ⌝ }
 {
     let mut left = budget;
-    let mut rounds = 0;
+    let mut rounds: u64 = 0;
     while rounds < limit {
         match holds(s, rounds + 1, first, second, left) {
             Play::Holds(rest) => {
