@@ -1,18 +1,17 @@
 -- What the calls answer: where the sheet's checks refuse, where the call's own do, and what a settled sheet gives.
 use mathlib.Core.List.{List, []}
 use mathlib.Core.Path.{_≡_, sym, _∙_, ap}
-use Prim.Native.Nat.{ℕ, suc, _+_, _*_, _/_, _%_, _^_, _≤_, _<_, min}
+use Prim.Native.Nat.{ℕ, _+_, _*_, _/_, _%_, _^_, _≤_, _<_}
 use native.Mathlib.Nat.{div-add-mod'}
 use native.Mathlib.Omega.{arith}
 use lib.ListN.{length, getD, take}
 use lib.Seq.{ext-getD, length-take-le, getD-take}
 use Rattle.model.specs.Finite.{listFrom}
 use Rattle.model.specs.Field.{Field, at}
-use Rattle.model.specs.Norm.{kindNorm, norm}
-use Rattle.model.specs.Base.{roundsFor, roundsAt, gain, settledStage}
-use Rattle.model.specs.Sheet.{kindCount, fieldCount, cardOf, fieldOf}
-use Rattle.model.specs.Limits.{Limits, mostKinds}
-use Rattle.model.specs.Refusal.{clear, refusal, firstOf, acceptChecks, Accepted, settleChecks, compareChecks, formChecks}
+use Rattle.model.specs.Base.{gain, settledStage}
+use Rattle.model.specs.Sheet.{kindCount, fieldCount, cardOf}
+use Rattle.model.specs.Limits.{Limits}
+use Rattle.model.specs.Refusal.{refusal, firstOf, acceptChecks, Accepted, settleChecks, compareChecks, formChecks}
 use Rattle.model.specs.Widths.{Bytes}
 use Rattle.model.specs.Answer.{refused, given, Lent, different, settleOf, compareOf, formOf, tableOf, primeForm, written}
 use Rattle.model.proofs.Lists.{length-from, getD-from}

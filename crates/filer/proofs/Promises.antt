@@ -1,5 +1,5 @@
 -- What the answers mean, proved as the specification states it.
-use mathlib.Core.List.{List}
+use mathlib.Core.List.{List, []}
 use mathlib.Core.Logic.{_↔_, Iff·symm, Iff·trans, _⊎_, inl, inr}
 use mathlib.Core.Path.{_≡_, refl, sym, _∙_, ap, fun-ext}
 use Prim.Native.Nat.{ℕ, _+_, _*_, _≤_, _<_}
@@ -9,9 +9,10 @@ use native.Mathlib.Omega.{arith}
 use lib.ListN.{length, take, List·getD-append}
 use lib.Seq.{take-at}
 use Rattle.model.specs.Field.{Field, unit, at}
-use Rattle.model.specs.Card.{Card, Live}
+use Rattle.model.specs.Card.{Live}
 use Rattle.model.specs.Base.{settledStage, settledRow}
-use Rattle.model.specs.Sheet.{kindCount, fieldCount, cardOf}
+use Rattle.model.specs.Game.{Always, Answered}
+use Rattle.model.specs.Sheet.{kindCount, fieldCount, cardOf, fieldOf}
 use Rattle.model.specs.Limits.{Limits}
 use Rattle.model.specs.Refusal.{Accepted, Finding, clear, refusal, firstOf, settleChecks, compareChecks, formChecks}
 use Rattle.model.specs.Terms.{Before, BaseOf, Stage, Settled as IsSettled}
@@ -20,6 +21,7 @@ use Rattle.model.specs.Demands.{Demand2, Demand3}
 use Rattle.model.specs.Answer.{Answer, refused, given, Lent, same, different, settleOf, compareOf, formOf, rowOf, rowCheckOf, tableOf, primeForm, written}
 use Rattle.model.proofs.Lists.{length-from}
 use Rattle.model.proofs.Field.{unit-other}
+use Rattle.model.proofs.Sheets.{field-kinds}
 use Rattle.model.proofs.Answers.{demand1, table-length}
 use Rattle.model.proofs.Demands.{demands}
 use Rattle.model.proofs.Meanings.{meanings}
@@ -33,7 +35,7 @@ use Rattle.filer.specs.declared.answers.Verdict.{Verdict}
 use Rattle.filer.specs.declared.answers.Verdict.the-variants.{Same, Different, Refused as NotCalled}
 use Rattle.filer.specs.declared.answers.Forming.{Forming}
 use Rattle.filer.specs.declared.answers.Forming.the-variants.{Written, Refused as NotFormed}
-use Rattle.filer.proofs.Rows.{Whole, row-clear, row-at, row-past}
+use Rattle.filer.proofs.Rows.{row-clear, row-at, row-past}
 
 -- The cases have different values.
 settling-only : (v w : Settling) → settlingOf v ≡ settlingOf w → v ≡ w
@@ -234,12 +236,18 @@ module _ (s : List ℕ) (i j : ℕ) (answer : Verdict) (e : verdictOf answer ≡
         let D : Demand2 {ℓ} s i j = demands {ℓ} .demand2 s ok i j h l in
         record { same-means = Iff·trans is-same (D .same-means); different-means = Iff·trans some-different (D .different-means) }
 
+    same-holds : answer ≡ Same → Always (cardOf s) (fieldOf s i) (fieldOf s j)
+    unfolding Answered
+    same-holds x = demands {0} .demand3 s ok i j h l .same-plays (is-same .0 x) .1 []
+
     compare-games : CompareGames s i j answer
     compare-games =
         let D : Demand3 s i j = demands {0} .demand3 s ok i j h l in
         record {
           same-plays = λ x. D .same-plays (is-same .0 x);
           plays-same = λ f x. is-same .1 (D .plays-same f x);
+          same-holds = same-holds;
+          same-again = λ x. D .always-again (fieldOf s i) (fieldOf s j) (field-kinds s i) (field-kinds s j) (same-holds x);
           parted-different = λ x. some-different .1 (D .parted-different x);
           different-parted = λ t r x. D .different-parted t r (is-different t r .0 x);
           different-stage = λ t r x. D .different-stage t r (is-different t r .0 x);

@@ -1,5 +1,5 @@
 -- "N + 1 + (s - 1)(g + 1), or N + 1 if s is 0"
-use mathlib.Core.Path.{_≡_, refl, sym, _∙_, ap}
+use mathlib.Core.Path.{_≡_, refl}
 use Prim.Native.Nat.{ℕ, zero, suc, _+_, _-_, _*_, _≤_, _<_, min}
 use native.Mathlib.Omega.{arith}
 use Rattle.model.specs.Norm.{kindNorm, norm}

@@ -7,7 +7,7 @@ use lib.ListN.{length, take, drop}
 use Rattle.model.specs.Field.{unit, at}
 use Rattle.model.specs.Card.{On}
 use Rattle.model.specs.Norm.{IsNorm}
-use Rattle.model.specs.Expansion.{Bisimilar}
+use Rattle.model.specs.Expansion.{Expands, Bisimilar}
 use Rattle.model.specs.Base.{roundsFor, settledStage}
 use Rattle.model.specs.Game.{Holds, Always, Parting, Parted, Strategy, Answered, Challenge}
 use Rattle.model.specs.Sheet.{kindCount, fieldCount, cardOf, fieldOf}
@@ -70,6 +70,9 @@ pub record CompareGames (s : List ℕ) (i j : ℕ) (answer : Verdict) : Type 0 w
       → (f : Strategy (cardOf s)) × ((hs : List (Challenge (cardOf s))) → Answered (cardOf s) f (Always (cardOf s)) [] hs (fieldOf s i) (fieldOf s j))
   pub plays-same : (f : Strategy (cardOf s))
       → ((hs : List (Challenge (cardOf s))) → Answered (cardOf s) f (λ _ _. Unit {0}) [] hs (fieldOf s i) (fieldOf s j)) → answer ≡ Same
+  -- "Fields called same hold at every r. Each challenge to them has a reply that leaves a pair which again holds at every r".
+  pub same-holds : answer ≡ Same → Always (cardOf s) (fieldOf s i) (fieldOf s j)
+  pub same-again : answer ≡ Same → Expands (On (cardOf s)) (Always (cardOf s)) (fieldOf s i) (fieldOf s j)
   -- "They are called different exactly when some choice of challenges, each made in view of the replies so far, parts them whatever the replies,
   -- and then within the number of rounds reported, which is N + 1 + (s - 1)(g + 1), or N + 1 if s is 0: N the smaller of the two norms, s the
   -- stage reported, never above the number of kinds, g the most that one read adds to a norm."

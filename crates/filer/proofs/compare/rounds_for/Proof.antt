@@ -1,7 +1,6 @@
 -- By the two cases of the definition.
 use borrow.Author.Needs.{needs}
 use native.Mathlib.Omega.{arith}
-use Rattle.model.specs.Base.{roundsFor}
 use Rattle.filer.proofs.Rounds.{rounds-none, rounds-some}
 use Rattle.filer.proofs.compare.rounds_for.Statement.{statement}
 use Rattle.filer.proofs.compare.rounds_for.Tie as tie

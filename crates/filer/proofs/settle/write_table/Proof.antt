@@ -1,9 +1,7 @@
 -- After i turns the first i entries are stored.
-use borrow.Author.Needs.{needs}
 use native.Mathlib.Omega.{arith}
 use mathlib.Core.Path.{_≡_, refl}
 use Prim.Native.Nat.{_-_, _*_, _/_, _%_, _<_}
-use lib.ListN.{length}
 use Rattle.filer.specs.Settlement.{tableIn}
 use Rattle.filer.proofs.Rows.{square-most}
 use Rattle.filer.proofs.Writing.{table-long, row-under, count-under, table-entry, Begun, begun-none, begun-more, begun-length, begun-all}
