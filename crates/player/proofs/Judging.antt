@@ -18,6 +18,7 @@ use Rattle.player.specs.declared.tally.Judgement.the-variants.{Agrees, O
 use Rattle.player.specs.declared.tally.Tally.{Tally}
 use Rattle.player.specs.Judged.{Tests, choose, judgementOf, chooseNumber, partOf, countedOf}
 
+-- The judgement of a pair called different.
 module _ {x : Called} {t : Tried} {stage rounds r : ℕ} (e : x ≡ Different stage rounds) where
   parted-judged : t ≡ Parted r → judgementOf x t ≡ choose (leb r rounds) Agrees Wrong
   parted-judged d = ap (λ (y : Called). judgementOf y t) e ∙ ap (λ (u : Tried). judgementOf (Different stage rounds) u) d

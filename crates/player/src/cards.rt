@@ -5,8 +5,7 @@ use crate::random::next;
 use crate::random::pick;
 use crate::random::pick_high;
 use crate::random::reduce;
-ghost use mathlib.Core.Path.{_≡_};
-ghost use Prim.Native.Nat.{_+_, _≤_, _<_};
+ghost use Prim.Native.Nat.{_≤_, _<_};
 ghost use Rattle.player.specs.Shapes.{Small};
 
 // The numbers of a card. Kind k has the number (k + shift) % kinds on the sheet. The lines that clear a kind leave nothing on a `flat` card. On
@@ -30,6 +29,7 @@ pub struct Made {
     pub length: usize,
 }
 
+// The numbers that a seed gives.
 fn shape_of(seed: u64) -> Shape
     ensures { λ r. ⌜ Small r ⌝ }
 {

@@ -209,7 +209,8 @@ fn pair_holds(s: &[u8], rounds: u64, a: &[usize; 32], b: &[usize; 32], budget: u
     }
 }
 
-// Whether two fields of the sheet hold at so many rounds, at most 200, played with so many pairs at most.
+// Whether two fields of the sheet hold at so many rounds, played with so many pairs at most. More than 200 rounds are not played, which bounds
+// the depth of the calls.
 pub fn holds(s: &[u8], rounds: u64, first: usize, second: usize, budget: usize) -> Play
     ensures { λ r. ⌜ Says r (model.Holds (cardOf (now (s .entry))) rounds (fieldOf (now (s .entry)) first) (fieldOf (now (s .entry)) second)) ⌝ }
 {

@@ -107,6 +107,7 @@ fn counted(test: bool, x: u64) -> u64
 }
 
 impl Tally {
+    // Nothing counted yet.
     pub fn new() -> Tally
         ensures { λ r. ⌜ r ≡ empty ⌝ }
     {
