@@ -30,7 +30,7 @@ fn past(text: &[u8], at: usize) -> usize
     if at < text.len() { at + 1 } else { at }
 }
 
-// The walk that the four words ask for, on the sheet of that name.
+// The walk that the four words ask for, on the sheet of that name; `no walk` where one is no number of its type.
 fn answer(name: &[u8], first: &[u8], second: &[u8], limit: &[u8], allowance: &[u8]) {
     let file = os::open_read(name);
     if file < 0 {
@@ -42,6 +42,10 @@ fn answer(name: &[u8], first: &[u8], second: &[u8], limit: &[u8], allowance: &[u
     libc::close(file);
     let mut line = [0u8; 64];
     let written = walkline::answer(&sheet[..bytes], first, second, limit, allowance, &mut line);
+    if written == 0 {
+        io::write_all(STDOUT_FILENO, b"no walk\n");
+        return;
+    }
     io::write_all(STDOUT_FILENO, &line[..written]);
 }
 

@@ -36,19 +36,28 @@ slice-aggregate-answer-2 c = search needs
 answer-requires : tie.Need-answer-requires
 answer-requires c κs = search needs
 
-array-share-prefix-line : tie.Need-array-share-prefix-line
-array-share-prefix-line c = search needs
-
 slice-aggregate-write-all : tie.Need-slice-aggregate-write-all
-slice-aggregate-write-all c =
-    let e = c .before .before .answer .ensures in
-    sym (length-take-le (c .before .before .answer .result) (c .before .before .answer .last .1 .1 .1 .1 .1 .0) (omega (arith, e .ends, e .within, e .size)))
+slice-aggregate-write-all c = search needs
 
 write-all-requires : tie.Need-write-all-requires
 write-all-requires c κs = search needs
 
 returns-2 : tie.Need-returns-2
 returns-2 c = search needs
+
+array-share-prefix-line : tie.Need-array-share-prefix-line
+array-share-prefix-line c = search needs
+
+slice-aggregate-write-all-2 : tie.Need-slice-aggregate-write-all-2
+slice-aggregate-write-all-2 c =
+    let e = c .before .before .before .answer .ensures in
+    sym (length-take-le (c .before .before .before .answer .result) (c .before .before .before .answer .last .1 .1 .1 .1 .1 .0) (omega (arith, e .ends, e .within, e .size)))
+
+write-all-requires-2 : tie.Need-write-all-requires-2
+write-all-requires-2 c κs = search needs
+
+returns-3 : tie.Need-returns-3
+returns-3 c = search needs
 
 pub answer-spec : {M : Type 1} → statement M
 answer-spec =
@@ -64,7 +73,10 @@ answer-spec =
     slice-aggregate-answer
     slice-aggregate-answer-2
     answer-requires
-    array-share-prefix-line
     slice-aggregate-write-all
     write-all-requires
-    returns-2)
+    returns-2
+    array-share-prefix-line
+    slice-aggregate-write-all-2
+    write-all-requires-2
+    returns-3)
