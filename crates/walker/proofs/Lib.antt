@@ -1,9 +1,9 @@
--- Laws of what the allowance cuts off, and of the lines that are passed over.
-pub mod Cuts
-pub mod Challenges
-pub mod Pairs
-pub mod Tries
-pub mod Fields
-pub mod Searches
-pub mod Steps
-pub mod Refusals
+-- What the proofs of the functions cite.
+pub mod Fields  -- fields as lists of counts: one token less, a line's use, how far the counts grow
+pub mod Searches  -- the search for the next line that passes a test
+pub mod Cuts  -- what the allowance cuts off, one part of the walk after another
+pub mod Challenges  -- challenges and replies by lines in order
+pub mod Pairs  -- a pair that is examined
+pub mod Steps  -- the steps of a pair's examination, in the words of the contracts
+pub mod Tries  -- the numbers of rounds tried one after another
+pub mod Refusals  -- the checks of the call

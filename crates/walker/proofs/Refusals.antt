@@ -1,7 +1,7 @@
 -- Laws of the call's checks: 1 to 8 are the sheet's, then 11 and 13.
 use mathlib.Core.Bool.{not}
-use mathlib.Core.List.{List, [], _∷_, _++_}
-use mathlib.Core.Path.{_≡_, refl, sym, ap, _∙_}
+use mathlib.Core.List.{List, [], _∷_}
+use mathlib.Core.Path.{_≡_, refl, _∙_}
 use Prim.Native.Nat.{ℕ, _≤_, _<_}
 use native.Mathlib.Omega.{arith}
 use lib.Dec.{T, ltb, lt→ltb, ltb→lt, not-T}
@@ -9,8 +9,8 @@ use Rattle.model.specs.Limits.{mostRounds}
 use Rattle.model.specs.Field.{Field}
 use Rattle.model.specs.Sheet.{fieldCount, cardOf, fieldOf}
 use Rattle.model.specs.Walk.{walk}
-use Rattle.model.specs.Refusal.{Check, check, Finding, clear, refusal, firstOf, sheetChecks, walkChecks}
-use Rattle.model.specs.Answer.{Session, refused, within, fullWalk, walkOf}
+use Rattle.model.specs.Refusal.{Check, check, clear, refusal, firstOf, sheetChecks, walkChecks}
+use Rattle.model.specs.Answer.{Session, within, fullWalk, walkOf}
 use Rattle.model.proofs.Sheets.{not-small, not-less, clear-nil}
 use Rattle.model.proofs.Checks.{first-left, first-right, first-here, first-later}
 use Rattle.walker.specs.Answers.{refusedOf}

@@ -2,7 +2,7 @@
 use mathlib.Core.Bool.{Bool, true, false}
 use mathlib.Core.List.{List}
 use mathlib.Core.Path.{_≡_, refl, sym, ap, _∙_}
-use Prim.Native.Nat.{ℕ, _+_, _-_, _≤_, _<_}
+use Prim.Native.Nat.{ℕ, _+_, _-_, _≤_}
 use native.Mathlib.Omega.{arith}
 use Rattle.model.specs.Finite.{listFrom}
 use Rattle.model.specs.Field.{Field}
@@ -14,7 +14,7 @@ use Rattle.sheet.specs.declared.reader.Card.{Card}
 use Rattle.sheet.proofs.Laws.{card-lines}
 use Rattle.walker.specs.Rounds.{examined, usable, answers, leaves, linesBetween, nextLine}
 use Rattle.walker.specs.declared.game.Examined.{Examined}
-use Rattle.walker.specs.declared.game.Examined.the-variants.{Spent, Holds, Fails}
+use Rattle.walker.specs.declared.game.Examined.the-variants.{Holds, Fails}
 use Rattle.walker.proofs.Cuts.{follow}
 use Rattle.walker.proofs.Challenges.{challenges, replies, run-none, run-next, run-halves}
 use Rattle.walker.proofs.Pairs.{pair-next}

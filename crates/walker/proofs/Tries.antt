@@ -2,12 +2,12 @@
 use mathlib.Core.Bool.{Bool, true, false}
 use mathlib.Core.List.{List}
 use mathlib.Core.Path.{_≡_, refl, sym, ap, _∙_}
-use Prim.Native.Nat.{ℕ, zero, suc, _+_, _-_, _≤_, _<_}
+use Prim.Native.Nat.{ℕ, suc, _+_, _-_, _≤_, _<_}
 use native.Mathlib.Omega.{arith}
 use borrow.Author.Tests.{lt-ltb, le-ltb}
 use Rattle.model.specs.Field.{Field}
 use Rattle.model.specs.Card.{Line}
-use Rattle.model.specs.Walk.{Seen, examine, WalkAnswer, apart, together, spent, Walk, walkOn, walk}
+use Rattle.model.specs.Walk.{examine, apart, together, spent, Walk, walkOn, walk}
 use Rattle.model.specs.Answer.{given, Session, Walked, within}
 use Rattle.walker.specs.Rounds.{outcome, examined}
 use Rattle.walker.specs.declared.game.Examined.the-variants.{Spent, Holds, Fails}

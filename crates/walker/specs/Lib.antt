@@ -1,2 +1,3 @@
-pub mod Rounds
-pub mod Answers
+-- What the contracts cite.
+pub mod Rounds  -- a part of the walk where the allowance may end it, and the lines in order
+pub mod Answers  -- the answer and the session as the model has them

@@ -3,7 +3,6 @@ use mathlib.Core.Bool.{Bool, true, false}
 use mathlib.Core.List.{List}
 use Prim.Native.Nat.{ℕ, _+_, _-_, _*_, _≤_}
 use lib.Dec.{ltb, eqb}
-use lib.ListN.{getD}
 use Rattle.model.specs.Finite.{both, listFrom, leastFrom}
 use Rattle.model.specs.Field.{Field, at}
 use Rattle.model.specs.Card.{Line}

@@ -1,5 +1,5 @@
 -- The texts that are appended one after another are the lines of specs/Line.
-use mathlib.Core.List.{List, _++_, append-assoc}
+use mathlib.Core.List.{_++_, append-assoc}
 use mathlib.Core.Path.{_≡_, refl}
 use Prim.Native.Nat.{ℕ}
 use Rattle.model.specs.Page.{bytes, number, newline, refusedLine}

@@ -1,8 +1,8 @@
 -- 11 at the first field's number, then at the second's, then 13; a call that passes them walks.
 use borrow.Author.Needs.{needs}
 use native.Mathlib.Omega.{arith}
-use mathlib.Core.Path.{_≡_, ap, _∙_}
-use Prim.Native.Nat.{ℕ, _≤_, _<_}
+use mathlib.Core.Path.{ap, _∙_}
+use Prim.Native.Nat.{_<_}
 use Rattle.model.specs.Field.{at}
 use Rattle.model.specs.Sheet.{fieldCount}
 use Rattle.sheet.proofs.Laws.{fields-are, field-counts-at}

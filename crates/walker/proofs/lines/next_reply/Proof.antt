@@ -1,9 +1,7 @@
 -- The invariant: none of the lines passed is a reply. The measure is the lines left.
 use borrow.Author.Needs.{needs}
-use native.Mathlib.Omega.{arith}
 use mathlib.Core.Path.{sym, _∙_}
-use mathlib.Core.Bool.{Bool}
-use Prim.Native.Nat.{ℕ, _-_}
+use Prim.Native.Nat.{_-_}
 use Rattle.model.specs.Field.{at}
 use Rattle.model.specs.Sheet.{lineOf}
 use Rattle.walker.specs.Rounds.{answers}

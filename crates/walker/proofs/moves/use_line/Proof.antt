@@ -6,7 +6,6 @@ use Prim.Native.Nat.{_≤_}
 use lib.ListN.{length}
 use Rattle.model.specs.Field.{at}
 use Rattle.model.specs.Sheet.{lineOf}
-use Rattle.sheet.specs.Sum.{Addable}
 use Rattle.sheet.proofs.Laws.{line-counts-at, line-counts-length, left-under, kinds-are, kinds-most}
 use Rattle.sheet.proofs.Plus.{plus-at}
 use Rattle.walker.proofs.Fields.{less-bounded, addable, fired}
