@@ -1,3 +1,5 @@
+-- The cycle of challenge, reply, examine_left and examine_pair. The measures: a round left counts 1024; at the same number of rounds a reply comes before
+-- the pair that it leaves, that pair before its challenges, and each of the two by its lines left. The returns hand over what the calls ensure to the laws of Steps.
 use borrow.Author.Needs.{needs}
 use native.Mathlib.Omega.{arith}
 use mathlib.Core.Bool.{true, false}

@@ -1,3 +1,4 @@
+-- The label with the number, and then the line's end.
 use native.Mathlib.Omega.{arith}
 use Rattle.model.specs.Page.{bytes}
 use Rattle.page.proofs.Append.{then, reads-as}
