@@ -7,3 +7,5 @@ pub mod Decimal
 pub mod Sequence
 -- The lines: what the writers append one after another, and the model's.
 pub mod Lines
+-- What a settled sheet gives for the lines, and what the page function answers.
+pub mod Pages

@@ -7,7 +7,7 @@ use Rattle.model.specs.Finite.{concat, listFrom}
 use Rattle.model.specs.Field.{at}
 use Rattle.model.specs.Base.{settledStage}
 use Rattle.model.specs.Sheet.{kindCount, fieldCount, cardOf}
-use Rattle.model.specs.Answer.{given, same, different, rowOf, compareOf, primeForm}
+use Rattle.model.specs.Answer.{refused, given, same, different, rowOf, compareOf, primeForm}
 use Rattle.model.specs.Page.{bytes, number, newline, countsOf, refusedLine, wordOf, itself, kindLine, fieldLine, pairLine, lines}
 use Rattle.page.specs.Line.{headText, rowText, kindText, fieldText, pairText}
 
@@ -50,6 +50,10 @@ pub different-is : (j s r : ℕ)
     → bytes "pair 0 " ++ number j ++ (bytes " different " ++ number s ++ (bytes " " ++ number r) ++ bytes "\n") ≡ pairText j (given (different s r))
 unfolding pairText wordOf newline
 different-is j s r = rw different-word (simp append-assoc)
+
+pub not-called-is : (j k p : ℕ) → bytes "pair 0 " ++ number j ++ (bytes " " ++ refusedLine k p) ≡ pairText j (refused k p)
+unfolding pairText wordOf
+not-called-is j k p = simp append-assoc
 
 -- The model's lines, and all of them.
 module _ (s table : List ℕ) (w : ℕ → ℕ) where

@@ -1,7 +1,7 @@
 -- A loop that appends one text after another: f a, f (a + 1), .., each of at most m bytes.
 use mathlib.Core.List.{List, [], _∷_, _++_, map, append-nil, append-assoc}
 use mathlib.Core.Path.{_≡_, refl, sym, _∙_, ap}
-use Prim.Native.Nat.{ℕ, zero, suc, _+_, _*_}
+use Prim.Native.Nat.{ℕ, zero, suc, _+_, _*_, _-_, _≤_}
 use native.Mathlib.Nat.{mul-suc}
 use native.Mathlib.Numerals.{add-one}
 use native.Mathlib.Omega.{arith}
@@ -33,6 +33,13 @@ module _ (f : ℕ → List ℕ) where
       let e = ap (λ (n : ℕ). m * n) (add-one i) ∙ mul-suc m i in
       reads-as (m * (i + 1)) (concat (listFrom f a (i + 1))) (then p q) (omega arith)
       (ap (λ (n : ℕ). concat (listFrom f a i) ++ f n) h ∙ texts-more a i ∙ ap (λ (n : ℕ). concat (listFrom f a n)) (sym (add-one i)))
+
+  -- The same where the loop counts from 1 up: text j comes after the j - 1 before it.
+  pub later-text : {m k start : ℕ} {b c d : List ℕ} {i : ℕ} (j : ℕ) → 1 ≤ j → Appended (m * (j - 1)) b start (concat (listFrom f 1 (j - 1))) c i → Appended m c i (f j) d k
+      → Appended (m * (j + 1 - 1)) b start (concat (listFrom f 1 (j + 1 - 1))) d k
+  later-text j h p q =
+      let e : j + 1 - 1 ≡ j - 1 + 1 = omega arith in
+      rw e (next-text 1 (j - 1) p q (omega arith))
 
 -- The texts of a list's counts, by their numbers in it.
 abbrev pub countAt : List ℕ → ℕ → List ℕ

@@ -3,3 +3,5 @@
 pub mod Appended
 -- The lines of the page over plain values.
 pub mod Line
+-- What the page function answers and leaves in the lent buffer.
+pub mod Writing

@@ -1,8 +1,10 @@
 -- The lines of the page over plain values: the model's lines are these, of the sheet's values (proofs/Lines).
 use mathlib.Core.Bool.{true, false}
 use mathlib.Core.List.{List, _++_}
-use Prim.Native.Nat.{ℕ}
-use Rattle.model.specs.Answer.{Answer, Verdict}
+use Prim.Native.Nat.{ℕ, _-_}
+use Rattle.model.specs.Finite.{concat, listFrom}
+use Rattle.model.specs.Field.{at}
+use Rattle.model.specs.Answer.{Answer, Verdict, rowOf, compareOf, primeForm}
 use Rattle.model.specs.Page.{bytes, number, newline, countsOf, wordOf, itself}
 
 -- A count of a row or a form, with the space before it.
@@ -28,3 +30,23 @@ fieldText field form = bytes "field " ++ number field ++ bytes " " ++ countsOf f
 -- `pair 0 J same` or `pair 0 J different S R`: "Field 0 is paired with each later field."
 unfoldable pub pairText : ℕ → Answer Verdict → List ℕ
 pairText later answer = bytes "pair 0 " ++ number later ++ bytes " " ++ wordOf answer
+
+-- Kind k's line, by an array of norms and a table of n × n counts; field i's line; the line of field 0 and field j.
+abbrev pub kindAt : ℕ → List ℕ → List ℕ → ℕ → List ℕ
+kindAt n norms table k = kindText k (at norms k) (rowOf n k table)
+
+abbrev pub fieldAt : List ℕ → ℕ → List ℕ
+fieldAt s i = fieldText i (primeForm s i)
+
+abbrev pub pairAt : List ℕ → ℕ → List ℕ
+pairAt s j = pairText j (compareOf s 0 j)
+
+-- The lines of n kinds, of the first fields of a sheet, as many as `fields` says, and of their pairs: "Field 0 is paired with each later field."
+unfoldable pub kindsText : ℕ → List ℕ → List ℕ → List ℕ
+kindsText n norms table = concat (listFrom (kindAt n norms table) 0 n)
+
+unfoldable pub fieldsText : List ℕ → ℕ → List ℕ
+fieldsText s fields = concat (listFrom (fieldAt s) 0 fields)
+
+unfoldable pub pairsText : List ℕ → ℕ → List ℕ
+pairsText s fields = concat (listFrom (pairAt s) 1 (fields - 1))

@@ -6,7 +6,7 @@ use crate::number::put_labelled;
 use crate::number::put_two_labelled;
 ghost use Prim.Native.Nat.{_+_, _*_, _≤_, _<_};
 ghost use lib.ListN.{length};
-ghost use Rattle.model.specs.Answer.{given, same, different};
+ghost use Rattle.model.specs.Answer.{refused, given, same, different};
 ghost use Rattle.model.specs.Page.{refusedLine};
 ghost use Rattle.page.specs.Appended.{Appended};
 ghost use Rattle.page.specs.Line.{headText, rowText, kindText, fieldText, pairText};
@@ -82,4 +82,14 @@ pub fn put_different(out: &mut [u8], at: usize, later: usize, stage: usize, roun
     let word = put_labelled(out, at, b"pair 0 ", later as u64);
     let last = put_two_labelled(out, word, b" different ", stage as u64, b" ", rounds);
     put_bytes(out, last, b"\n")
+}
+
+// `pair 0 J refused NUMBER PLACE`: no page has it, since Compare refuses no two fields of an accepted sheet.
+pub fn put_not_called(out: &mut [u8], at: usize, later: usize, number: usize, place: usize) -> usize
+    requires { ⌜ at + 80 ≤ length (now out) ⌝ }
+    ensures { λ r. ⌜ Appended 80 (now (out .entry)) at (pairText later (refused number place)) (now (out .exit)) r ⌝ }
+{
+    let space = put_labelled(out, at, b"pair 0 ", later as u64);
+    let word = put_bytes(out, space, b" ");
+    put_refused(out, word, number, place)
 }

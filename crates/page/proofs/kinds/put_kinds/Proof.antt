@@ -1,0 +1,87 @@
+-- `put_kinds`: after k turns the lines of the first k kinds are appended.
+use mathlib.Core.Path.{_≡_, _∙_, ap}
+use mathlib.Core.List.{List}
+use Prim.Native.Nat.{ℕ, _+_, _-_, _*_, _≤_}
+use native.Mathlib.Omega.{arith}
+use lib.ListN.{length}
+use Rattle.model.specs.Finite.{concat, listFrom}
+use Rattle.model.specs.Field.{at}
+use Rattle.page.specs.Appended.{Appended}
+use Rattle.page.specs.Line.{kindText, kindAt, kindsText}
+use Rattle.page.proofs.Append.{reads-as}
+use Rattle.page.proofs.Sequence.{no-text, next-text}
+use Rattle.page.proofs.Pages.{row-length}
+use Rattle.page.proofs.kinds.put_kinds.Statement.{statement}
+use Rattle.page.proofs.kinds.put_kinds.Tie as tie
+
+abbrev Inv-loop : tie.InvT-loop
+Inv-loop out₀ start n table norms next₀ k₀ out next k = (k ≤ n) × Appended (730 * k) out₀ next₀ (concat (listFrom (kindAt n norms table) 0 k)) out next
+
+abbrev μ-loop : tie.MeasureT-loop
+μ-loop out₀ start n table norms next₀ k₀ out next k = n - k
+
+loop-holds : tie.Need-loop-holds Inv-loop μ-loop
+loop-holds c = let start = c .before .before in (omega arith, no-text (kindAt (start .args .n) (start .args .t4) (start .args .table .now)) 730 0 (start .args .out .now) (start .args .at))
+
+row-requires : tie.Need-row-requires Inv-loop μ-loop
+row-requires c κs = tt
+
+mul-put-kind : tie.Need-mul-put-kind Inv-loop μ-loop
+mul-put-kind c = omega arith
+
+array-read-put-kind : tie.Need-array-read-put-kind Inv-loop μ-loop
+array-read-put-kind c = omega arith
+
+put-kind-requires : tie.Need-put-kind-requires Inv-loop μ-loop
+put-kind-requires c κs =
+    let start = c .before .before .before .before .before .before in
+    let so-far = c .before .before .before .loop .inv .1 in
+    let long = ap length (c .before .row .ensures) ∙ row-length (start .args .n) (c .before .before .before .loop .k) (start .args .table .now) (record { some = start .pre .0 .0; few = start .pre .0 .1; kind = omega arith; room = start .pre .1 .0 }) in
+    (omega arith, omega (arith, so-far .ends, so-far .size, so-far .within, start .pre .1 .1))
+
+add-k : tie.Need-add-k Inv-loop μ-loop
+add-k c = omega arith
+
+loop-less : tie.Need-loop-less Inv-loop μ-loop
+loop-less c = omega arith
+
+loop-again : tie.Need-loop-again Inv-loop μ-loop
+loop-again c =
+    let start = c .before .before .before .before .before .before .before .before .before in
+    let loop = c .before .before .before .before .before .before in
+    let k = loop .loop .k in
+    let line = kindAt (start .args .n) (start .args .t4) (start .args .table .now) in
+    let part = c .before .before .before .before .row .ensures in
+    let long = ap length part ∙ row-length (start .args .n) k (start .args .table .now) (record { some = start .pre .0 .0; few = start .pre .0 .1; kind = omega arith; room = start .pre .1 .0 }) in (
+      omega arith,
+      next-text line 0 k (loop .loop .inv .1)
+          (reads-as 730 (line k) (c .before .before .put-kind .ensures) (omega arith) (ap (kindText k (at (start .args .t4) k)) part)) (omega arith),
+    )
+
+same-length : tie.Need-same-length Inv-loop μ-loop
+same-length c = c .before .loop .inv .1 .size
+
+returns : tie.Need-returns Inv-loop μ-loop
+unfolding kindsText
+returns c =
+    let start = c .before .before .before .before in
+    let all : c .before .loop .k ≡ start .args .n = omega arith in
+    reads-as (730 * start .args .n) (kindsText (start .args .n) (start .args .t4) (start .args .table .now)) (c .before .loop .inv .1) (omega arith)
+    (ap (λ (i : ℕ). concat (listFrom (kindAt (start .args .n) (start .args .t4) (start .args .table .now)) 0 i)) all)
+
+pub put-kinds-spec : {M : Type 1} → statement M
+put-kinds-spec =
+    tie.close
+    (tie.spec
+    Inv-loop
+    μ-loop
+    loop-holds
+    row-requires
+    mul-put-kind
+    array-read-put-kind
+    put-kind-requires
+    add-k
+    loop-less
+    loop-again
+    same-length
+    returns)

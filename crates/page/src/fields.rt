@@ -1,0 +1,50 @@
+// The lines of the fields.
+use crate::line::put_field;
+use filer::form::form_settled;
+use filer::settlement::Settlement;
+use sheet::Card;
+ghost use Prim.Native.Nat.{_+_, _*_, _≤_, _<_};
+ghost use lib.ListN.{length};
+ghost use Rattle.model.specs.Answer.{primeForm};
+ghost use Rattle.norms.specs.Norms.{Accepts};
+ghost use Rattle.filer.specs.Settlement.{IsSettlement};
+ghost use Rattle.page.specs.Appended.{Appended};
+ghost use Rattle.page.specs.Line.{fieldText, fieldsText};
+
+// The line of one field of a settled sheet.
+fn put_settled_field(
+    out: &mut [u8],
+    at: usize,
+    s: &[u8],
+    settlement: Settlement,
+    card: Card,
+    field: usize,
+) -> usize
+    requires { ⌜ IsSettlement (now s) settlement ⌝ }
+    requires { ⌜ Accepts (now s) card (settlement .norms) ⌝ }
+    requires { ⌜ field < card .fields ⌝ }
+    requires { ⌜ at + 701 ≤ length (now out) ⌝ }
+    ensures { λ r. ⌜ Appended 701 (now (out .entry)) at (fieldText field (primeForm (now (s .entry)) field)) (now (out .exit)) r ⌝ }
+{
+    let n = card.kinds;
+    let mut form = [0u64; 32];
+    form_settled(s, settlement, field, &mut form);
+    put_field(out, at, field, &form[..n])
+}
+
+// The lines of all its fields.
+pub fn put_fields(out: &mut [u8], at: usize, s: &[u8], settlement: Settlement, card: Card) -> usize
+    requires { ⌜ IsSettlement (now s) settlement ⌝ }
+    requires { ⌜ Accepts (now s) card (settlement .norms) ⌝ }
+    requires { ⌜ at + 701 * card .fields ≤ length (now out) ⌝ }
+    ensures { λ r. ⌜ Appended (701 * card .fields) (now (out .entry)) at (fieldsText (now (s .entry)) (card .fields)) (now (out .exit)) r ⌝ }
+{
+    let fields = card.fields;
+    let mut next = at;
+    let mut i = 0;
+    while i < fields {
+        next = put_settled_field(out, next, s, settlement, card, i);
+        i += 1;
+    }
+    next
+}

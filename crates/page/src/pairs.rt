@@ -1,0 +1,49 @@
+// The lines of the pairs: "Field 0 is paired with each later field."
+use crate::line::put_different;
+use crate::line::put_not_called;
+use crate::line::put_same;
+use filer::Verdict;
+use filer::compare::compare_settled;
+use filer::settlement::Settlement;
+ghost use mathlib.Core.Path.{_≡_};
+ghost use Prim.Native.Nat.{_+_, _*_, _-_, _≤_};
+ghost use lib.ListN.{length};
+ghost use Rattle.filer.specs.Answers.{verdictOf};
+ghost use Rattle.filer.specs.Settlement.{IsSettlement};
+ghost use Rattle.page.specs.Appended.{Appended};
+ghost use Rattle.page.specs.Line.{pairText, pairsText};
+
+// The line of one pair, by its verdict.
+fn put_pair(out: &mut [u8], at: usize, later: usize, verdict: Verdict) -> usize
+    requires { ⌜ at + 80 ≤ length (now out) ⌝ }
+    ensures { λ r. ⌜ Appended 80 (now (out .entry)) at (pairText later (verdictOf verdict)) (now (out .exit)) r ⌝ }
+{
+    match verdict {
+        Verdict::Same => put_same(out, at, later),
+        Verdict::Different { stage, rounds } => put_different(out, at, later, stage, rounds),
+        Verdict::Refused { number, place } => put_not_called(out, at, later, number, place),
+    }
+}
+
+// The lines of all pairs of a sheet that was settled with field 0 for its first.
+pub fn put_pairs(
+    out: &mut [u8],
+    at: usize,
+    s: &[u8],
+    settlement: Settlement,
+    fields: usize,
+) -> usize
+    requires { ⌜ IsSettlement (now s) settlement ⌝ }
+    requires { ⌜ settlement .first ≡ 0 ⌝ }
+    requires { ⌜ at + 80 * (fields - 1) ≤ length (now out) ⌝ }
+    ensures { λ r. ⌜ Appended (80 * (fields - 1)) (now (out .entry)) at (pairsText (now (s .entry)) fields) (now (out .exit)) r ⌝ }
+{
+    let mut next = at;
+    let mut later = 1;
+    while later < fields {
+        let verdict = compare_settled(s, settlement, later);
+        next = put_pair(out, next, later, verdict);
+        later += 1;
+    }
+    next
+}

@@ -1,0 +1,110 @@
+// The page of a sheet. One settlement serves all its lines.
+use crate::fields::put_fields;
+use crate::kinds::put_kinds;
+use crate::line::put_head;
+use crate::line::put_refused;
+use crate::number::put_bytes;
+use crate::pairs::put_pairs;
+use base::table::Base;
+use filer::settle::write_table;
+use filer::settlement::Settlement;
+use filer::settlement::settle_once;
+use sheet::Card;
+use sheet::checks::Checked;
+ghost use mathlib.Core.Path.{_≡_};
+ghost use Prim.Native.Nat.{_*_, _≤_};
+ghost use lib.ListN.{length, take};
+ghost use Rattle.model.specs.Limits.{mostKinds, mostInput};
+ghost use Rattle.model.specs.Norm.{kindNorm};
+ghost use Rattle.model.specs.Sheet.{cardOf};
+ghost use Rattle.model.specs.Answer.{tableOf};
+ghost use Rattle.model.specs.Page.{lines, pageOf};
+ghost use Rattle.norms.specs.Norms.{Accepts};
+ghost use Rattle.filer.specs.Settlement.{IsSettlement, tableIn};
+ghost use Rattle.page.specs.Appended.{Appended};
+ghost use Rattle.page.specs.Writing.{writingOf, writePageOf, mostPage};
+
+// "at most 12,821 bytes"
+pub const INPUT: usize = 12821;
+
+// No page is longer.
+pub const PAGE: usize = 73319;
+
+// What the page function answers. specs/Writing.antt gives the cases the numbers and values of document 01.
+pub enum Writing {
+    Written { length: usize },
+    Refused { number: usize, place: usize },
+}
+
+// The page of a sheet to a lent buffer; a refused sheet's page is its refusal.
+pub fn write_page(s: &[u8], out: &mut [u8]) -> Writing
+    ensures { λ r. ⌜ writingOf r ≡ writePageOf (now (s .entry)) (now (out .entry)) .answer ⌝ }
+    ensures { λ r. ⌜ now (out .exit) ≡ writePageOf (now (s .entry)) (now (out .entry)) .lent ⌝ }
+{
+    let mut page = [0u8; PAGE];
+    let end = put_page(&mut page, input_part(s));
+    if out.len() < end {
+        return Writing::Refused {
+            number: 12,
+            place: 0,
+        };
+    }
+    let length = put_bytes(out, 0, &page[..end]);
+    Writing::Written { length }
+}
+
+// The bytes that the page goes by.
+fn input_part(s: &[u8]) -> &[u8]
+    ensures { λ r. ⌜ now r ≡ take mostInput (now (s .entry)) ⌝ }
+{
+    if s.len() < INPUT {
+        return s;
+    }
+    &s[..INPUT]
+}
+
+// The page of a sheet to a buffer that has room for any.
+fn put_page(out: &mut [u8], s: &[u8]) -> usize
+    requires { ⌜ mostPage ≤ length (now out) ⌝ }
+    ensures { λ r. ⌜ Appended mostPage (now (out .entry)) 0 (pageOf (now (s .entry))) (now (out .exit)) r ⌝ }
+{
+    let settlement = settle_once(s, 0);
+    let checked = settlement.checked;
+    match checked {
+        Checked::Refused { number, place } => put_refused(out, 0, number, place),
+        Checked::Passed(card) => put_lines(out, s, settlement, card),
+    }
+}
+
+// The lines of an accepted sheet.
+fn put_lines(out: &mut [u8], s: &[u8], settlement: Settlement, card: Card) -> usize
+    requires { ⌜ IsSettlement (now s) settlement ⌝ }
+    requires { ⌜ settlement .first ≡ 0 ⌝ }
+    requires { ⌜ Accepts (now s) card (settlement .norms) ⌝ }
+    requires { ⌜ mostPage ≤ length (now out) ⌝ }
+    ensures { λ r. ⌜ Appended mostPage (now (out .entry)) 0 (lines (now (s .entry)) (tableOf (now (s .entry))) (kindNorm (cardOf (now (s .entry))))) (now (out .exit)) r ⌝ }
+{
+    let n = card.kinds;
+    let fields = card.fields;
+    let norms = settlement.norms;
+    let settled = settlement.settled;
+    let stage = settled.stage;
+    let base = settled.base;
+    let size = n * n;
+    let table = table_of(base, n);
+    let at_kinds = put_head(out, 0, n, stage);
+    let at_fields = put_kinds(out, at_kinds, n, norms, &table[..size]);
+    let at_pairs = put_fields(out, at_fields, s, settlement, card);
+    put_pairs(out, at_pairs, s, settlement, fields)
+}
+
+// The rows of n kinds with n counts to a row, at the front of an array.
+fn table_of(base: Base, n: usize) -> [u32; 1024]
+    requires { ⌜ n ≤ mostKinds ⌝ }
+    ensures { λ r. ⌜ take (n * n) r ≡ tableIn n (base .rows) ⌝ }
+{
+    let rows = base.rows;
+    let mut table = [0u32; 1024];
+    write_table(&rows, n, &mut table);
+    table
+}
