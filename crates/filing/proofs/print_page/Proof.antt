@@ -1,0 +1,56 @@
+-- `print_page`: the page that was written fits its buffer.
+use mathlib.Core.Path.{sym, _∙_, ap}
+use Prim.Native.Nat.{_≤_}
+use native.Mathlib.Omega.{arith}
+use lib.ListN.{length, replicate}
+use lib.Seq.{length-take-le}
+use Rattle.page.specs.Writing.{writingOf}
+use Rattle.page.proofs.Pages.{written-within}
+use borrow.Author.Needs.{needs}
+use Rattle.filing.proofs.print_page.Statement.{statement}
+use Rattle.filing.proofs.print_page.Tie as tie
+
+fits : (c : tie.After-known-told) → c .before .length .given .0 .0 ≤ length (c .before .before .before .before .write-page .last .1 .0)
+fits c =
+    omega (arith, written-within (c .before .before .before .before .before .before .before .args .s .now) (replicate 73319 0) (c .before .length .given .0 .0) (ap writingOf (sym (c .before .length .given .1)) ∙ c .before .before .before .before .write-page .ensures .0))
+
+slice-aggregate-write-page : tie.Need-slice-aggregate-write-page
+slice-aggregate-write-page c = search needs
+
+write-page-requires : tie.Need-write-page-requires
+write-page-requires c κs = search needs
+
+enum-known-length : tie.Need-enum-known-length
+enum-known-length c = search needs
+
+array-share-prefix-text : tie.Need-array-share-prefix-text
+array-share-prefix-text c = fits c
+
+slice-aggregate-write-all : tie.Need-slice-aggregate-write-all
+slice-aggregate-write-all c = sym (length-take-le _ _ (fits (c .before)))
+
+write-all-requires : tie.Need-write-all-requires
+write-all-requires c κs = search needs
+
+enum-told : tie.Need-enum-told
+enum-told c = search needs
+
+returns : tie.Need-returns
+returns c = search needs
+
+returns-2 : tie.Need-returns-2
+returns-2 c = search needs
+
+pub print-page-spec : {M : Type 1} → statement M
+print-page-spec =
+    tie.close
+    (tie.spec
+    slice-aggregate-write-page
+    write-page-requires
+    enum-known-length
+    array-share-prefix-text
+    slice-aggregate-write-all
+    write-all-requires
+    enum-told
+    returns
+    returns-2)
