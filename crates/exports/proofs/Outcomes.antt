@@ -1,0 +1,130 @@
+-- What each call comes to, from what the library's function answered.
+use mathlib.Core.Bool.{Bool, true, false}
+use mathlib.Core.List.{List, [], _∷_}
+use mathlib.Core.Path.{_≡_, refl, sym, _∙_, ap}
+use Prim.Native.Nat.{ℕ, _*_, _≤_, _<_}
+use native.Mathlib.Omega.{arith}
+use lib.Dec.{ltb}
+use lib.ListN.{length}
+use Rattle.model.specs.Sheet.{kindCount, cardOf}
+use Rattle.model.specs.Base.{settledStage}
+use Rattle.model.specs.Walk.{WalkAnswer}
+use Rattle.model.specs.Refusal.{Finding, clear, refusal, check, firstOf, acceptChecks, settleChecks, formChecks}
+use Rattle.model.specs.Answer.{Answer, refused, given, Lent, written, Verdict, Walked, tableOf, primeForm, rowCheckOf, settleOf, compareOf, formOf, walkOf}
+use Rattle.model.proofs.Checks.{first-left, first-right}
+use Rattle.exports.specs.Reply.{Reply, codeOf, refusing, replyOf, laidOut, valuesReply}
+use Rattle.exports.specs.Calls.{rowValues, foundOr, rowCall, walkValues, walkCall, stageValues, settleCall, shortCodeBy, shortCode, verdictValues, compareCall, noValues, formCall}
+use Rattle.exports.proofs.Replies.{reply-refuses, reply-short, reply-gives}
+
+-- The parts of a call that comes to y.
+module _ {B : Type 0} {x y : Reply B} (e : x ≡ y) where
+  pub code-is : y .code ≡ x .code
+  code-is = ap (λ (z : Reply B). z .code) (sym e)
+
+  pub lent-is : y .lent ≡ x .lent
+  lent-is = ap (λ (z : Reply B). z .lent) (sym e)
+
+  pub values-are : y .values ≡ x .values
+  values-are = ap (λ (z : Reply B). z .values) (sym e)
+
+-- Row's check.
+module _ (n k : ℕ) (table array : List ℕ) where
+  pub row-refuses : (q p : ℕ) → rowCheckOf n k table ≡ refusal q p → rowCall n k table array ≡ refusing q p tt array
+  unfolding rowCall
+  row-refuses q p e = reply-refuses tt tt array (foundOr (rowValues n k) (rowCheckOf n k table)) q p (ap (foundOr (rowValues n k)) e)
+
+  pub row-gives : rowCheckOf n k table ≡ clear → rowCall n k table array ≡ valuesReply (rowValues n k) array
+  unfolding rowCall
+  row-gives e = ap (λ (f : Finding). replyOf (foundOr (rowValues n k) f) tt tt array) e
+
+-- Walk.
+module _ (s : List ℕ) (i j limit v : ℕ) (array : List ℕ) (w : Walked) (e : w ≡ walkOf s i j limit (record { left = v })) where
+  replied : walkCall s i j limit v array ≡ replyOf (laidOut (walkValues (w .drawn)) (w .answer)) v (w .after .left) array
+  unfolding walkCall
+  replied = ap (λ (x : Walked). replyOf (laidOut (walkValues (x .drawn)) (x .answer)) v (x .after .left) array) (sym e)
+
+  pub walk-refuses : (k p : ℕ) → w .answer ≡ refused k p → walkCall s i j limit v array ≡ refusing k p v array
+  walk-refuses k p d = replied ∙ reply-refuses v (w .after .left) array _ k p (ap (laidOut (walkValues (w .drawn))) d)
+
+  pub walk-gives : (a : WalkAnswer) → w .answer ≡ given a → walkCall s i j limit v array ≡ replyOf (given (walkValues (w .drawn) a)) v (w .after .left) array
+  walk-gives a d = replied ∙ ap (λ (y : Answer WalkAnswer). replyOf (laidOut (walkValues (w .drawn)) y) v (w .after .left) array) d
+
+-- Compare.
+module _ (s : List ℕ) (i j : ℕ) (array : List ℕ) where
+  pub compare-refuses : (k p : ℕ) → compareOf s i j ≡ refused k p → compareCall s i j array ≡ refusing k p tt array
+  unfolding compareCall
+  compare-refuses k p e = reply-refuses tt tt array _ k p (ap (laidOut verdictValues) e)
+
+  pub compare-gives : (a : Verdict) → compareOf s i j ≡ given a → compareCall s i j array ≡ valuesReply (verdictValues a) array
+  unfolding compareCall
+  compare-gives a e = ap (λ (y : Answer Verdict). replyOf (laidOut verdictValues y) tt tt array) e
+
+-- A call that was refused left what was lent as it was.
+module _ {A : Type 0} (a : A) (after before : List ℕ) where
+  abbrev LentBy : Finding → Lent A
+  LentBy f = elim f as (λ _. Lent A) [ clear ↦ record { answer = given a; lent = after } | refusal k p ↦ record { answer = refused k p; lent = before } ]
+
+  kept : (f : Finding) (k p : ℕ) → LentBy f .answer ≡ refused k p → LentBy f .lent ≡ before
+  kept clear k p e = let z : _≡_ {A = ℕ} 0 1 = cc in absurd (omega arith)
+  kept (refusal j q) k p e = refl
+
+-- Settle.
+module _ (s table : List ℕ) where
+  pub settle-kept : (k p : ℕ) → settleOf s table .answer ≡ refused k p → settleOf s table .lent ≡ table
+  unfolding settleOf
+  settle-kept k p e = kept (settledStage (cardOf s)) (written (tableOf s) table) table (firstOf (settleChecks s (length table))) k p e
+
+  settled-by : (f : Finding) → firstOf (settleChecks s (length table)) ≡ f → settleOf s table ≡ LentBy (settledStage (cardOf s)) (written (tableOf s) table) table f
+  unfolding settleOf
+  settled-by f e = ap (LentBy (settledStage (cardOf s)) (written (tableOf s) table) table) e
+
+  module _ (array : List ℕ) where
+    pub settle-refuses : (k p : ℕ) → settleOf s table .answer ≡ refused k p → settleCall s table array ≡ refusing k p table array
+    unfolding settleCall
+    settle-refuses k p e = reply-refuses table (settleOf s table .lent) array _ k p (ap (laidOut stageValues) e)
+
+    pub settle-gives : (t : ℕ) → settleOf s table .answer ≡ given t → 1 ≤ length array
+        → settleCall s table array ≡ record { code = 0; lent = settleOf s table .lent; values = written (stageValues t) array }
+    unfolding settleCall
+    settle-gives t e h = reply-gives table (settleOf s table .lent) array (stageValues t) _ (ap (laidOut stageValues) e) h
+
+    given-short : (t : ℕ) → settleOf s table .answer ≡ given t → length array < 1 → settleCall s table array ≡ refusing 12 0 table array
+    unfolding settleCall
+    given-short t e h = reply-short table (settleOf s table .lent) array (stageValues t) _ (ap (laidOut stageValues) e) h
+
+    -- Where the answer array has no room, the sheet's own refusal comes first, and then 12 comes whatever the table's length.
+    pub settle-short : length array < 1 → settleCall s table array ≡ record { code = shortCode s; lent = table; values = array }
+    unfolding firstOf settleChecks
+    settle-short h = go (firstOf (acceptChecks s)) refl
+      where
+        answered : (f : Finding) → firstOf (settleChecks s (length table)) ≡ f → settleOf s table .answer ≡ LentBy (settledStage (cardOf s)) (written (tableOf s) table) table f .answer
+        answered f e = ap (λ (x : Lent ℕ). x .answer) (settled-by f e)
+
+        by-room : (b : Bool) → firstOf (settleChecks s (length table)) ≡ firstOf (check 12 0 b ∷ []) → settleCall s table array ≡ refusing 12 0 table array
+        by-room true d = settle-refuses 12 0 (answered (refusal 12 0) d)
+        by-room false d = given-short (settledStage (cardOf s)) (answered clear d) h
+
+        go : (f : Finding) → firstOf (acceptChecks s) ≡ f
+            → settleCall s table array ≡ record { code = shortCodeBy f; lent = table; values = array }
+        go (refusal k p) e = settle-refuses k p (answered (refusal k p) (first-left (acceptChecks s) _ k p e))
+        go clear e = by-room (ltb (length table) (kindCount s * kindCount s)) (first-right (acceptChecks s) _ e)
+
+pub short-clear : (s : List ℕ) → firstOf (acceptChecks s) ≡ clear → 12 ≡ shortCode s
+short-clear s e = sym (ap shortCodeBy e)
+
+pub short-refused : (s : List ℕ) (k p : ℕ) → firstOf (acceptChecks s) ≡ refusal k p → codeOf k p ≡ shortCode s
+short-refused s k p e = sym (ap shortCodeBy e)
+
+-- Prime form.
+module _ (s : List ℕ) (i : ℕ) (buffer : List ℕ) where
+  pub form-kept : (k p : ℕ) → formOf s i buffer .answer ≡ refused k p → formOf s i buffer .lent ≡ buffer
+  unfolding formOf
+  form-kept k p e = kept tt (written (primeForm s i) buffer) buffer (firstOf (formChecks s i (length buffer))) k p e
+
+  pub form-refuses : (k p : ℕ) → formOf s i buffer .answer ≡ refused k p → formCall s i buffer ≡ refusing k p buffer []
+  unfolding formCall
+  form-refuses k p e = reply-refuses buffer (formOf s i buffer .lent) [] _ k p (ap (laidOut noValues) e)
+
+  pub form-gives : formOf s i buffer .answer ≡ given tt → formCall s i buffer ≡ record { code = 0; lent = formOf s i buffer .lent; values = written [] [] }
+  unfolding formCall
+  form-gives e = reply-gives buffer (formOf s i buffer .lent) [] [] _ (ap (laidOut noValues) e) (omega arith)

@@ -1,0 +1,55 @@
+-- The buffer is as the filer left it.
+use borrow.Author.Needs.{needs}
+use mathlib.Core.Path.{sym, _∙_, ap}
+use native.Mathlib.Omega.{arith}
+use Rattle.filer.specs.Answers.{formingOf}
+use Rattle.exports.proofs.Codes.{form-fits}
+use Rattle.exports.proofs.Outcomes.{code-is, lent-is, form-gives, form-refuses, form-kept}
+use Rattle.exports.proofs.form.limbatue_prime_form.Statement.{statement}
+use Rattle.exports.proofs.form.limbatue_prime_form.Tie as tie
+
+prime-form-requires : tie.Need-prime-form-requires
+prime-form-requires c κs = search needs
+
+enum-told : tie.Need-enum-told
+enum-told c = search needs
+
+enum-known-number : tie.Need-enum-known-number
+enum-known-number c = search needs
+
+refusal-code-requires : tie.Need-refusal-code-requires
+refusal-code-requires c κs =
+    let a = c .before .before .before .before .before .before .before .before .before .args in
+    form-fits (a .sheet .now) (λ i. omega (arith, c .before .before .before .before .before .before .before .before .shared-slice-known .given i)) _ _ (a .field) (a .counts .now) (sym (c .before .before .before .before .before .prime-form .ensures .0) ∙ ap formingOf (c .before .number .given .1))
+
+same-length : tie.Need-same-length
+same-length c = search needs
+
+returns : tie.Need-returns
+returns c =
+    let a = c .before .before .before .before .before .before .before .before .args in
+    let e = form-gives (a .sheet .now) (a .field) (a .counts .now) (sym (c .before .before .before .before .prime-form .ensures .0) ∙ ap formingOf (c .enum-told .given .1)) in
+    (code-is e, c .before .before .before .before .prime-form .ensures .1 ∙ lent-is e)
+
+same-length-2 : tie.Need-same-length-2
+same-length-2 c = search needs
+
+returns-2 : tie.Need-returns-2
+returns-2 c =
+    let a = c .before .before .before .before .before .before .before .before .before .before .args in
+    let d = sym (c .before .before .before .before .before .before .prime-form .ensures .0) ∙ ap formingOf (c .before .before .number .given .1) in
+    let e = form-refuses (a .sheet .now) (a .field) (a .counts .now) _ _ d in
+    (c .refusal-code .ensures ∙ code-is e, c .before .before .before .before .before .before .prime-form .ensures .1 ∙ form-kept (a .sheet .now) (a .field) (a .counts .now) _ _ d ∙ lent-is e)
+
+pub limbatue-prime-form-spec : {M : Type 1} → statement M
+limbatue-prime-form-spec =
+    tie.close
+    (tie.spec
+    prime-form-requires
+    enum-told
+    enum-known-number
+    refusal-code-requires
+    same-length
+    returns
+    same-length-2
+    returns-2)

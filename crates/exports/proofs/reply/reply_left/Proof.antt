@@ -1,0 +1,29 @@
+-- An array with room is written, a short one is not.
+use borrow.Author.Needs.{needs}
+use mathlib.Core.Path.{refl, _∙_}
+use Rattle.model.specs.Answer.{given}
+use Rattle.exports.proofs.Replies.{reply-short, reply-gives}
+use Rattle.exports.proofs.Outcomes.{code-is, lent-is, values-are}
+use Rattle.exports.proofs.reply.reply_left.Statement.{statement}
+use Rattle.exports.proofs.reply.reply_left.Tie as tie
+
+returns : tie.Need-returns
+returns c =
+    let a = c .before .before .before .args in
+    let e = reply-short (a .allowance .now) (a .left) (a .answer .now) (a .values .now) (given (a .values .now)) refl (c .if1 .taken) in
+    (code-is e, (lent-is e, values-are e))
+
+write-values-requires : tie.Need-write-values-requires
+write-values-requires c κs = search needs
+
+same-length : tie.Need-same-length
+same-length c = search needs
+
+returns-2 : tie.Need-returns-2
+returns-2 c =
+    let a = c .before .before .before .before .before .before .before .args in
+    let e = reply-gives (a .allowance .now) (a .left) (a .answer .now) (a .values .now) (given (a .values .now)) refl (c .before .before .before .before .if1 .left) in
+    (code-is e, (lent-is e, c .before .before .write-values .ensures ∙ values-are e))
+
+pub reply-left-spec : {M : Type 1} → statement M
+reply-left-spec = tie.close (tie.spec returns write-values-requires same-length returns-2)

@@ -1,0 +1,61 @@
+-- The calls from C, each from the model's own answer; the layout of each answer array.
+use mathlib.Core.List.{List, [], _∷_}
+use Prim.Native.Nat.{ℕ, _*_}
+use Rattle.model.specs.Refusal.{Finding, clear, refusal, firstOf, acceptChecks}
+use Rattle.model.specs.Walk.{WalkAnswer, apart, together, spent}
+use Rattle.model.specs.Answer.{Answer, refused, given, Verdict, same, different, rowCheckOf, walkOf, settleOf, compareOf, formOf}
+use Rattle.exports.specs.Reply.{Reply, codeOf, replyOf, laidOut}
+
+-- Row's check: where the row starts in the table, and how many entries it has.
+abbrev pub rowValues : ℕ → ℕ → List ℕ
+rowValues n k = k * n ∷ n ∷ []
+
+-- The values, unless a check found a refusal.
+abbrev pub foundOr : List ℕ → Finding → Answer (List ℕ)
+foundOr values clear = given values
+foundOr values (refusal number place) = refused number place
+
+unfoldable pub rowCall : ℕ → ℕ → List ℕ → List ℕ → Reply (Unit {0})
+rowCall n k table array = replyOf (foundOr (rowValues n k) (rowCheckOf n k table)) tt tt array
+
+-- Walk: 0 together, 1 apart, 2 spent; the rounds that part the pair, 0 where none did; the pairs drawn from the allowance.
+abbrev pub walkValues : ℕ → WalkAnswer → List ℕ
+walkValues drawn together = 0 ∷ 0 ∷ drawn ∷ []
+walkValues drawn (apart rounds) = 1 ∷ rounds ∷ drawn ∷ []
+walkValues drawn spent = 2 ∷ 0 ∷ drawn ∷ []
+
+-- The allowance is lent: what is left of it stands there afterwards.
+unfoldable pub walkCall : List ℕ → ℕ → ℕ → ℕ → ℕ → List ℕ → Reply ℕ
+walkCall s i j limit allowance array =
+    let w = walkOf s i j limit (record { left = allowance }) in
+    replyOf (laidOut (walkValues (w .drawn)) (w .answer)) allowance (w .after .left) array
+
+-- Settle: the settled stage. The table is lent.
+abbrev pub stageValues : ℕ → List ℕ
+stageValues stage = stage ∷ []
+
+unfoldable pub settleCall : List ℕ → List ℕ → List ℕ → Reply (List ℕ)
+settleCall s table array = let x = settleOf s table in replyOf (laidOut stageValues (x .answer)) table (x .lent) array
+
+-- What Settle returns where the answer array has no room: the sheet's own refusal, else that of a short buffer.
+abbrev pub shortCodeBy : Finding → ℕ
+shortCodeBy clear = codeOf 12 0
+shortCodeBy (refusal number place) = codeOf number place
+
+abbrev pub shortCode : List ℕ → ℕ
+shortCode s = shortCodeBy (firstOf (acceptChecks s))
+
+-- Compare: 0 same, 1 different; the stage and the rounds, 0 and 0 where the fields are the same.
+abbrev pub verdictValues : Verdict → List ℕ
+verdictValues same = 0 ∷ 0 ∷ 0 ∷ []
+verdictValues (different stage rounds) = 1 ∷ stage ∷ rounds ∷ []
+
+unfoldable pub compareCall : List ℕ → ℕ → ℕ → List ℕ → Reply (Unit {0})
+compareCall s i j array = replyOf (laidOut verdictValues (compareOf s i j)) tt tt array
+
+-- Prime form: no values, and so no answer array. The buffer is lent.
+abbrev pub noValues : Unit {0} → List ℕ
+noValues _ = []
+
+unfoldable pub formCall : List ℕ → ℕ → List ℕ → Reply (List ℕ)
+formCall s i buffer = let x = formOf s i buffer in replyOf (laidOut noValues (x .answer)) buffer (x .lent) []

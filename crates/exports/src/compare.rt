@@ -1,0 +1,31 @@
+// Compare.
+ghost use mathlib.Core.Path.{_≡_};
+ghost use Rattle.exports.specs.Calls.{compareCall};
+use crate::reply::refusal_code;
+use crate::reply::reply;
+use filer::Verdict;
+use filer::compare::compare;
+
+// Any bytes, and any two field numbers.
+#[no_mangle]
+pub extern "C" fn limbatue_compare(
+    sheet: &[u8],
+    first: usize,
+    second: usize,
+    answer: &mut [u64],
+) -> u32
+    ensures { λ r. ⌜ r ≡ compareCall (now (sheet .entry)) first second (now (answer .entry)) .code ⌝ }
+    ensures { λ _. ⌜ now (answer .exit) ≡ compareCall (now (sheet .entry)) first second (now (answer .entry)) .values ⌝ }
+{
+    match compare(sheet, first, second) {
+        Verdict::Same => {
+            let values = [0u64, 0, 0];
+            reply(&values, answer)
+        }
+        Verdict::Different { stage, rounds } => {
+            let values = [1, stage as u64, rounds];
+            reply(&values, answer)
+        }
+        Verdict::Refused { number, place } => refusal_code(number, place),
+    }
+}

@@ -1,0 +1,27 @@
+// Row's check. C cannot be handed a part of a table: the answer says where the row stands.
+ghost use mathlib.Core.Path.{_≡_};
+ghost use Rattle.exports.specs.Calls.{rowCall};
+use crate::reply::refusal_code;
+use crate::reply::reply;
+use filer::RowCheck;
+use filer::row::row_check;
+
+// A table of any length, any n and any kind.
+#[no_mangle]
+pub extern "C" fn limbatue_row_check(
+    table: &[u32],
+    kinds: usize,
+    kind: usize,
+    answer: &mut [u64],
+) -> u32
+    ensures { λ r. ⌜ r ≡ rowCall kinds kind (now (table .entry)) (now (answer .entry)) .code ⌝ }
+    ensures { λ _. ⌜ now (answer .exit) ≡ rowCall kinds kind (now (table .entry)) (now (answer .entry)) .values ⌝ }
+{
+    match row_check(table, kinds, kind) {
+        RowCheck::Clear => {
+            let values = [(kind * kinds) as u64, kinds as u64];
+            reply(&values, answer)
+        }
+        RowCheck::Refused { number, place } => refusal_code(number, place),
+    }
+}
