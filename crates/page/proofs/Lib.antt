@@ -1,11 +1,3 @@
--- Laws that the proofs of the page's writers cite.
--- One text appended after another.
-pub mod Append
--- Decimal numbers: their last digit, how many digits they have.
-pub mod Decimal
--- A loop that appends one text after another.
-pub mod Sequence
--- The lines: what the writers append one after another, and the model's.
-pub mod Lines
+-- Laws that the proofs of the page cite.
 -- What a settled sheet gives for the lines, and what the page function answers.
 pub mod Pages

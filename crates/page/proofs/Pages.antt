@@ -29,11 +29,11 @@ use Rattle.filer.specs.Settlement.{IsSettlement, tableIn}
 use Rattle.filer.specs.declared.settlement.Settlement.{Settlement}
 use Rattle.filer.proofs.Calls.{limits, table-is}
 use Rattle.filer.proofs.Rows.{Whole, row-clear, row-inside}
-use Rattle.page.specs.Appended.{Appended}
-use Rattle.page.specs.Line.{headText, kindText, kindAt, fieldAt, pairAt, kindsText, fieldsText, pairsText}
+use Rattle.text.specs.Appended.{Appended}
+use Rattle.text.specs.Line.{headText, kindText, kindAt, fieldAt, pairAt, kindsText, fieldsText, pairsText}
 use Rattle.page.specs.Writing.{writePageOf}
-use Rattle.page.proofs.Append.{from-start}
-use Rattle.page.proofs.Lines.{lines-are}
+use Rattle.text.proofs.Append.{from-start}
+use Rattle.text.proofs.Lines.{lines-are}
 
 -- The front of a buffer that a list was written to is the list.
 pub front : (n : ℕ) (xs buffer : List ℕ) → length xs ≡ n → take n (written xs buffer) ≡ xs

@@ -1,17 +1,17 @@
 // The lines of the pairs: "Field 0 is paired with each later field."
-use crate::line::put_different;
-use crate::line::put_not_called;
-use crate::line::put_same;
 use filer::Verdict;
 use filer::compare::compare_settled;
 use filer::settlement::Settlement;
+use text::put_different;
+use text::put_not_called;
+use text::put_same;
 ghost use mathlib.Core.Path.{_≡_};
 ghost use Prim.Native.Nat.{_+_, _*_, _-_, _≤_};
 ghost use lib.ListN.{length};
 ghost use Rattle.filer.specs.Answers.{verdictOf};
 ghost use Rattle.filer.specs.Settlement.{IsSettlement};
-ghost use Rattle.page.specs.Appended.{Appended};
-ghost use Rattle.page.specs.Line.{pairText, pairsText};
+ghost use Rattle.text.specs.Appended.{Appended};
+ghost use Rattle.text.specs.Line.{pairText, pairsText};
 
 // The line of one pair, by its verdict.
 fn put_pair(out: &mut [u8], at: usize, later: usize, verdict: Verdict) -> usize

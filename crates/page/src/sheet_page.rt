@@ -1,9 +1,6 @@
 // The page of a sheet. One settlement serves all its lines.
 use crate::fields::put_fields;
 use crate::kinds::put_kinds;
-use crate::line::put_head;
-use crate::line::put_refused;
-use crate::number::put_bytes;
 use crate::pairs::put_pairs;
 use base::table::Base;
 use filer::settle::write_table;
@@ -11,6 +8,9 @@ use filer::settlement::Settlement;
 use filer::settlement::settle_once;
 use sheet::Card;
 use sheet::checks::Checked;
+use text::put_bytes;
+use text::put_head;
+use text::put_refused;
 ghost use mathlib.Core.Path.{_≡_};
 ghost use Prim.Native.Nat.{_*_, _≤_};
 ghost use lib.ListN.{length, take};
@@ -21,7 +21,7 @@ ghost use Rattle.model.specs.Answer.{tableOf};
 ghost use Rattle.model.specs.Page.{lines, pageOf};
 ghost use Rattle.norms.specs.Norms.{Accepts};
 ghost use Rattle.filer.specs.Settlement.{IsSettlement, tableIn};
-ghost use Rattle.page.specs.Appended.{Appended};
+ghost use Rattle.text.specs.Appended.{Appended};
 ghost use Rattle.page.specs.Writing.{writingOf, writePageOf, mostPage};
 
 // "at most 12,821 bytes"

@@ -6,7 +6,7 @@ use walker::Session;
 use walker::walk;
 ghost use Prim.Native.Nat.{_≤_};
 ghost use lib.ListN.{length};
-ghost use Rattle.page.specs.Appended.{Appended};
+ghost use Rattle.text.specs.Appended.{Appended};
 ghost use Rattle.walkline.specs.Word.{numberOf};
 ghost use Rattle.walkline.specs.Asked.{mostWide, mostNarrow, askedLine};
 

@@ -1,12 +1,12 @@
 // The line that a walk answers.
-use page::put_bytes;
-use page::put_labelled;
-use page::put_refused;
+use text::put_bytes;
+use text::put_labelled;
+use text::put_refused;
 use walker::Answer;
 use walker::Walked;
 ghost use Prim.Native.Nat.{_+_, _≤_};
 ghost use lib.ListN.{length};
-ghost use Rattle.page.specs.Appended.{Appended};
+ghost use Rattle.text.specs.Appended.{Appended};
 ghost use Rattle.walker.specs.Answers.{walkedOf};
 ghost use Rattle.walkline.specs.Line.{drawnText, walkLine};
 

@@ -3,10 +3,10 @@ use mathlib.Core.Path.{_≡_, ap}
 use Prim.Native.Nat.{ℕ, _+_, _-_, _*_, _≤_}
 use native.Mathlib.Omega.{arith}
 use Rattle.model.specs.Finite.{concat, listFrom}
-use Rattle.page.specs.Appended.{Appended}
-use Rattle.page.specs.Line.{fieldAt, fieldsText}
-use Rattle.page.proofs.Append.{reads-as}
-use Rattle.page.proofs.Sequence.{no-text, next-text}
+use Rattle.text.specs.Appended.{Appended}
+use Rattle.text.specs.Line.{fieldAt, fieldsText}
+use Rattle.text.proofs.Append.{reads-as}
+use Rattle.text.proofs.Sequence.{no-text, next-text}
 use Rattle.page.proofs.fields.put_fields.Statement.{statement}
 use Rattle.page.proofs.fields.put_fields.Tie as tie
 

@@ -5,8 +5,8 @@ use native.Mathlib.Omega.{arith}
 use lib.ListN.{length, take, replicate}
 use lib.Seq.{length-take-le}
 use Rattle.sheet.proofs.Laws.{kinds-most}
-use Rattle.page.specs.Line.{fieldText, fieldAt}
-use Rattle.page.proofs.Append.{reads-as}
+use Rattle.text.specs.Line.{fieldText, fieldAt}
+use Rattle.text.proofs.Append.{reads-as}
 use Rattle.page.proofs.Pages.{form-part}
 use borrow.Author.Needs.{needs}
 use Rattle.page.proofs.fields.put_settled_field.Statement.{statement}

@@ -6,10 +6,10 @@ use native.Mathlib.Omega.{arith}
 use lib.ListN.{length}
 use Rattle.model.specs.Finite.{concat, listFrom}
 use Rattle.model.specs.Field.{at}
-use Rattle.page.specs.Appended.{Appended}
-use Rattle.page.specs.Line.{kindText, kindAt, kindsText}
-use Rattle.page.proofs.Append.{reads-as}
-use Rattle.page.proofs.Sequence.{no-text, next-text}
+use Rattle.text.specs.Appended.{Appended}
+use Rattle.text.specs.Line.{kindText, kindAt, kindsText}
+use Rattle.text.proofs.Append.{reads-as}
+use Rattle.text.proofs.Sequence.{no-text, next-text}
 use Rattle.page.proofs.Pages.{row-length}
 use Rattle.page.proofs.kinds.put_kinds.Statement.{statement}
 use Rattle.page.proofs.kinds.put_kinds.Tie as tie

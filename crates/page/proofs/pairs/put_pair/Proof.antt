@@ -1,9 +1,9 @@
 -- `put_pair`: each case of the verdict has its line.
 use mathlib.Core.Path.{sym, ap}
 use native.Mathlib.Omega.{arith}
-use Rattle.page.specs.Line.{pairText}
+use Rattle.text.specs.Line.{pairText}
 use Rattle.filer.specs.Answers.{verdictOf}
-use Rattle.page.proofs.Append.{reads-as}
+use Rattle.text.proofs.Append.{reads-as}
 use borrow.Author.Needs.{needs}
 use Rattle.page.proofs.pairs.put_pair.Statement.{statement}
 use Rattle.page.proofs.pairs.put_pair.Tie as tie

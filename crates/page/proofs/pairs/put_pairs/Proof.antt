@@ -4,10 +4,10 @@ use Prim.Native.Nat.{ℕ, _+_, _-_, _*_, _≤_}
 use native.Mathlib.Omega.{arith}
 use Rattle.model.specs.Finite.{concat, listFrom}
 use Rattle.model.specs.Answer.{compareOf}
-use Rattle.page.specs.Appended.{Appended}
-use Rattle.page.specs.Line.{pairText, pairAt, pairsText}
-use Rattle.page.proofs.Append.{reads-as}
-use Rattle.page.proofs.Sequence.{no-text, later-text}
+use Rattle.text.specs.Appended.{Appended}
+use Rattle.text.specs.Line.{pairText, pairAt, pairsText}
+use Rattle.text.proofs.Append.{reads-as}
+use Rattle.text.proofs.Sequence.{no-text, later-text}
 use Rattle.page.proofs.pairs.put_pairs.Statement.{statement}
 use Rattle.page.proofs.pairs.put_pairs.Tie as tie
 

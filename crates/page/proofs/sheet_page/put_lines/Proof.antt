@@ -11,7 +11,7 @@ use Rattle.model.specs.Page.{lines}
 use Rattle.sheet.proofs.Laws.{kinds-some, kinds-most, fields-most}
 use Rattle.page.specs.Writing.{mostPage}
 use Rattle.filer.proofs.Rows.{square-most}
-use Rattle.page.proofs.Append.{then, reads-as}
+use Rattle.text.proofs.Append.{then, reads-as}
 use Rattle.page.proofs.Pages.{table-part, lines-from}
 use borrow.Author.Needs.{needs}
 use Rattle.page.proofs.sheet_page.put_lines.Statement.{statement}

@@ -3,7 +3,7 @@ use native.Mathlib.Omega.{arith}
 use Rattle.model.specs.Page.{pageOf}
 use Rattle.filer.proofs.Settlements.{was-accepted}
 use Rattle.page.specs.Writing.{mostPage}
-use Rattle.page.proofs.Append.{reads-as}
+use Rattle.text.proofs.Append.{reads-as}
 use Rattle.page.proofs.Pages.{page-refusal, page-lines}
 use borrow.Author.Needs.{needs}
 use Rattle.page.proofs.sheet_page.put_page.Statement.{statement}

@@ -3,7 +3,7 @@ use native.Mathlib.Omega.{arith}
 use mathlib.Core.Path.{sym, ap, _∙_}
 use Prim.Native.Nat.{ℕ}
 use Rattle.model.specs.Answer.{walkOf}
-use Rattle.page.proofs.Append.{nothing, reads-as}
+use Rattle.text.proofs.Append.{nothing, reads-as}
 use Rattle.walkline.specs.Word.{numberOf}
 use Rattle.walkline.specs.Line.{walkLine}
 use Rattle.walkline.specs.Asked.{mostWide, mostNarrow, askedLine}

@@ -1,7 +1,7 @@
 -- The label with the number, and then the line's end.
 use native.Mathlib.Omega.{arith}
 use Rattle.model.specs.Page.{bytes}
-use Rattle.page.proofs.Append.{then, reads-as}
+use Rattle.text.proofs.Append.{then, reads-as}
 use Rattle.walkline.specs.Line.{drawnText}
 use Rattle.walkline.proofs.Texts.{drawn-is}
 use borrow.Author.Needs.{needs}

@@ -2,7 +2,7 @@
 use native.Mathlib.Omega.{arith}
 use mathlib.Core.Path.{sym, ap, _∙_}
 use Rattle.model.specs.Page.{bytes}
-use Rattle.page.proofs.Append.{then, reads-as}
+use Rattle.text.proofs.Append.{then, reads-as}
 use Rattle.walker.specs.Answers.{answerOf, walkedOf}
 use Rattle.walker.specs.declared.entry.Answer.{Answer}
 use Rattle.walkline.specs.Line.{answerLine, walkLine}

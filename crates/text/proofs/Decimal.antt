@@ -1,0 +1,95 @@
+-- Decimal numbers: their last digit, how many digits they have.
+use mathlib.Core.List.{List, [], _∷_, _++_, append-assoc}
+use mathlib.Core.Path.{_≡_, refl, sym, _∙_, ap}
+use Prim.Native.Nat.{ℕ, zero, suc, _+_, _/_, _%_, _^_, _≤_, _<_}
+use native.Mathlib.Decide.{decLt}
+use native.Mathlib.Nat.{pow-suc}
+use native.Mathlib.Omega.{arith}
+use borrow.Author.Tests.{eq-eqb, ne-eqb}
+use lib.ListN.{length, length-append}
+use Rattle.model.specs.Page.{digits, number}
+use Rattle.text.specs.Appended.{Appended}
+use Rattle.text.proofs.Append.{then, reads-as}
+
+-- A digit that is the whole number, and one with others before it.
+last : (f x : ℕ) (rest : List ℕ) → x < 10 → digits (suc f) x rest ≡ (48 + x % 10) ∷ rest
+unfolding digits
+last f x rest h = let e : x / 10 ≡ 0 = omega arith in rw (eq-eqb (x / 10) 0 e, digits) refl
+
+before : (f x : ℕ) (rest : List ℕ) → 10 ≤ x → digits (suc f) x rest ≡ digits f (x / 10) ((48 + x % 10) ∷ rest)
+unfolding digits
+before f x rest h = let n : ¬ (x / 10 ≡ 0) = λ e. omega arith in rw (ne-eqb (x / 10) 0 n, digits) refl
+
+-- Fuel past the number does not matter.
+fuel : (f g x : ℕ) (rest : List ℕ) → x < f → x < g → digits f x rest ≡ digits g x rest
+fuel zero g x rest h i = absurd (omega arith)
+fuel (suc f) zero x rest h i = absurd (omega arith)
+fuel (suc f) (suc g) x rest h i = go (decLt x 10) (λ l. fuel f g (x / 10) ((48 + x % 10) ∷ rest) (omega arith) (omega arith))
+  where
+    go : Dec (x < 10) → (10 ≤ x → digits f (x / 10) ((48 + x % 10) ∷ rest) ≡ digits g (x / 10) ((48 + x % 10) ∷ rest)) → digits (suc f) x rest ≡ digits (suc g) x rest
+    go (yes l) r = last f x rest l ∙ sym (last g x rest l)
+    go (no l) r = let m : 10 ≤ x = omega arith in before f x rest m ∙ r m ∙ sym (before g x rest m)
+
+-- What follows a number is kept.
+follows : (f x : ℕ) (rest : List ℕ) → x < f → digits f x rest ≡ digits f x [] ++ rest
+follows zero x rest h = absurd (omega arith)
+follows (suc f) x rest h = go (decLt x 10) (λ l. follows f (x / 10) ((48 + x % 10) ∷ rest) (omega arith)) (λ l. follows f (x / 10) ((48 + x % 10) ∷ []) (omega arith))
+  where
+    go : Dec (x < 10) → (10 ≤ x → digits f (x / 10) ((48 + x % 10) ∷ rest) ≡ digits f (x / 10) [] ++ ((48 + x % 10) ∷ rest))
+        → (10 ≤ x → digits f (x / 10) ((48 + x % 10) ∷ []) ≡ digits f (x / 10) [] ++ ((48 + x % 10) ∷ [])) → digits (suc f) x rest ≡ digits (suc f) x [] ++ rest
+    go (yes l) r q = last f x rest l ∙ ap (λ (s : List ℕ). s ++ rest) (sym (last f x [] l))
+    go (no l) r q =
+        let m : 10 ≤ x = omega arith in
+        before f x rest m ∙ r m ∙ sym (append-assoc (digits f (x / 10) []) ((48 + x % 10) ∷ []) rest) ∙ ap (λ (s : List ℕ). s ++ rest) (sym (before f x [] m ∙ q m))
+
+-- A number below 10 is its one digit.
+pub number-small : (x : ℕ) → x < 10 → number x ≡ (48 + x % 10) ∷ []
+unfolding number
+number-small x h = last x x [] h
+
+-- Any other is the number without its last digit, then that digit.
+pub number-more : (x : ℕ) → 10 ≤ x → number x ≡ number (x / 10) ++ ((48 + x % 10) ∷ [])
+unfolding number
+number-more x h =
+    before x x [] h ∙ follows x (x / 10) ((48 + x % 10) ∷ []) (omega arith)
+    ∙ ap (λ (s : List ℕ). s ++ ((48 + x % 10) ∷ [])) (fuel x (suc (x / 10)) (x / 10) [] (omega arith) (omega arith))
+
+-- So it has one digit, or one more; in any case some.
+pub length-small : (x : ℕ) → x < 10 → length (number x) ≡ 1
+length-small x h = ap length (number-small x h)
+
+pub length-more : (x : ℕ) → 10 ≤ x → length (number x) ≡ length (number (x / 10)) + 1
+length-more x h = ap length (number-more x h) ∙ length-append (number (x / 10)) ((48 + x % 10) ∷ [])
+
+pub length-some : (x : ℕ) → 1 ≤ length (number x)
+length-some x = go (decLt x 10)
+  where
+    go : Dec (x < 10) → 1 ≤ length (number x)
+    go (yes h) = omega (arith, length-small x h)
+    go (no h) = omega (arith, length-more x (omega arith))
+
+-- A number below 10 ^ k, for a k from 1 up, has at most k digits.
+pub number-digits : (k x : ℕ) → x < 10 ^ suc k → length (number x) ≤ suc k
+number-digits zero x h = omega (arith, length-small x (omega (arith, h)))
+number-digits (suc k) x h = go (decLt x 10) (λ l. number-digits k (x / 10) l)
+  where
+    fewer : x / 10 < 10 ^ suc k
+    fewer = omega (arith, h, pow-suc 10 (suc k))
+
+    go : Dec (x < 10) → (x / 10 < 10 ^ suc k → length (number (x / 10)) ≤ suc k) → length (number x) ≤ suc (suc k)
+    go (yes l) r = omega (arith, length-small x l)
+    go (no l) r = omega (arith, length-more x (omega arith), r fewer)
+
+-- A number of 64 bits has at most 20.
+pub number-most : (x : ℕ) → x < 2 ^ 64 → length (number x) ≤ 20
+number-most x h = number-digits 19 x (omega arith)
+
+-- A number's digits are appended: the only one; those before the last, then the last.
+module _ {x y i k : ℕ} {b d : List ℕ} (e : y ≡ 48 + x % 10) where
+  pub digit-only : x < 10 → Appended 1 b i (y ∷ []) d k → Appended (length (number x)) b i (number x) d k
+  digit-only h p = reads-as (length (number x)) (number x) p (omega (arith, length-small x h)) (ap (λ (z : ℕ). z ∷ []) e ∙ sym (number-small x h))
+
+  pub digit-last : {j : ℕ} {c : List ℕ} → 10 ≤ x → Appended (length (number (x / 10))) b i (number (x / 10)) c j → Appended 1 c j (y ∷ []) d k
+      → Appended (length (number x)) b i (number x) d k
+  digit-last h p q =
+      reads-as (length (number x)) (number x) (then p q) (omega (arith, length-more x h)) (ap (λ (z : ℕ). number (x / 10) ++ (z ∷ [])) e ∙ sym (number-more x h))

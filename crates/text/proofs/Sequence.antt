@@ -1,0 +1,64 @@
+-- A loop that appends one text after another: f a, f (a + 1), .., each of at most m bytes.
+use mathlib.Core.List.{List, [], _∷_, _++_, map, append-nil, append-assoc}
+use mathlib.Core.Path.{_≡_, refl, sym, _∙_, ap}
+use Prim.Native.Nat.{ℕ, zero, suc, _+_, _*_, _-_, _≤_}
+use native.Mathlib.Nat.{mul-suc}
+use native.Mathlib.Numerals.{add-one}
+use native.Mathlib.Omega.{arith}
+use lib.ListN.{length, getD}
+use Rattle.model.specs.Finite.{concat, listFrom}
+use Rattle.model.specs.Page.{bytes, countsOf}
+use Rattle.text.specs.Appended.{Appended}
+use Rattle.text.specs.Line.{countText}
+use Rattle.text.proofs.Append.{nothing, then, reads-as}
+
+module _ (f : ℕ → List ℕ) where
+  -- The texts with one more at their end.
+  texts-more : (a i : ℕ) → concat (listFrom f a i) ++ f (a + i) ≡ concat (listFrom f a (suc i))
+  unfolding concat listFrom
+  texts-more a zero = let e : a + 0 ≡ a = omega arith in ap f e ∙ sym (append-nil (f a))
+  texts-more a (suc i) =
+      let e : a + suc i ≡ suc a + i = omega arith in
+      append-assoc (f a) (concat (listFrom f (suc a) i)) (f (a + suc i)) ∙ ap (λ (n : ℕ). f a ++ (concat (listFrom f (suc a) i) ++ f n)) e
+      ∙ ap (λ (l : List ℕ). f a ++ l) (texts-more (suc a) i)
+
+  -- None was appended yet; one more.
+  pub no-text : (m a : ℕ) (b : List ℕ) (start : ℕ) → Appended (m * 0) b start (concat (listFrom f a 0)) b start
+  unfolding concat listFrom
+  no-text m a b start = reads-as (m * 0) [] (nothing b start) (omega arith) refl
+
+  pub next-text : {m n j k start : ℕ} {b c d : List ℕ} (a i : ℕ) → Appended (m * i) b start (concat (listFrom f a i)) c j → Appended m c j (f n) d k → n ≡ a + i
+      → Appended (m * (i + 1)) b start (concat (listFrom f a (i + 1))) d k
+  next-text {m} a i p q h =
+      let e = ap (λ (n : ℕ). m * n) (add-one i) ∙ mul-suc m i in
+      reads-as (m * (i + 1)) (concat (listFrom f a (i + 1))) (then p q) (omega arith)
+      (ap (λ (n : ℕ). concat (listFrom f a i) ++ f n) h ∙ texts-more a i ∙ ap (λ (n : ℕ). concat (listFrom f a n)) (sym (add-one i)))
+
+  -- The same where the loop counts from 1 up: text j comes after the j - 1 before it.
+  pub later-text : {m k start : ℕ} {b c d : List ℕ} {i : ℕ} (j : ℕ) → 1 ≤ j → Appended (m * (j - 1)) b start (concat (listFrom f 1 (j - 1))) c i → Appended m c i (f j) d k
+      → Appended (m * (j + 1 - 1)) b start (concat (listFrom f 1 (j + 1 - 1))) d k
+  later-text j h p q =
+      let e : j + 1 - 1 ≡ j - 1 + 1 = omega arith in
+      rw e (next-text 1 (j - 1) p q (omega arith))
+
+-- The texts of a list's counts, by their numbers in it.
+abbrev pub countAt : List ℕ → ℕ → List ℕ
+countAt xs k = countText (getD xs k 0)
+
+shifted : (f : ℕ → List ℕ) (a i : ℕ) → listFrom f (suc a) i ≡ listFrom (λ k. f (suc k)) a i
+unfolding listFrom
+shifted f a zero = refl
+shifted f a (suc i) = ap (λ (l : List (List ℕ)). f (suc a) ∷ l) (shifted f (suc a) i)
+
+by-number : (xs : List ℕ) → listFrom (countAt xs) 0 (length xs) ≡ map countText xs
+unfolding listFrom
+by-number [] = refl
+by-number (x ∷ xs) = ap (λ (l : List (List ℕ)). countText x ∷ l) (shifted (countAt (x ∷ xs)) 0 (length xs) ∙ by-number xs)
+
+-- "=" and then all counts of a list.
+pub counts-all : {i j k start : ℕ} {b c d : List ℕ} (xs : List ℕ) → i ≡ length xs → Appended 1 b start (bytes "=") c j
+    → Appended (21 * i) c j (concat (listFrom (countAt xs) 0 i)) d k → Appended (1 + 21 * length xs) b start (countsOf xs) d k
+unfolding countText countsOf
+counts-all {i} xs e p q =
+    reads-as (1 + 21 * length xs) (countsOf xs) (then p q) (omega arith)
+    (ap (λ (n : ℕ). bytes "=" ++ concat (listFrom (countAt xs) 0 n)) e ∙ ap (λ (l : List (List ℕ)). bytes "=" ++ concat l) (by-number xs))

@@ -1,0 +1,45 @@
+-- `put_refused`: its parts, one after the other, are the model's line.
+use native.Mathlib.Omega.{arith}
+use Rattle.model.specs.Page.{bytes, refusedLine}
+use Rattle.text.proofs.Append.{then, reads-as}
+use Rattle.text.proofs.Lines.{refused-is}
+use borrow.Author.Needs.{needs}
+use Rattle.text.proofs.line.put_refused.Statement.{statement}
+use Rattle.text.proofs.line.put_refused.Tie as tie
+
+slice-aggregate-put-two-labelled : tie.Need-slice-aggregate-put-two-labelled
+slice-aggregate-put-two-labelled c = search needs
+
+slice-aggregate-put-two-labelled-2 : tie.Need-slice-aggregate-put-two-labelled-2
+slice-aggregate-put-two-labelled-2 c = search needs
+
+put-two-labelled-requires : tie.Need-put-two-labelled-requires
+put-two-labelled-requires c κs = search needs
+
+slice-aggregate-put-bytes : tie.Need-slice-aggregate-put-bytes
+slice-aggregate-put-bytes c = search needs
+
+put-bytes-requires : tie.Need-put-bytes-requires
+put-bytes-requires c κs = search needs
+
+same-length : tie.Need-same-length
+same-length c = search needs
+
+returns : tie.Need-returns
+unfolding bytes
+returns c =
+    let start = c .before .before .before .before .before .before .before .before .before .before .before .before in
+    reads-as 50 (refusedLine (start .args .number) (start .args .place)) (then (c .before .before .before .before .before .before .before .put-two-labelled .ensures) (c .before .before .put-bytes .ensures))
+    (omega arith) (refused-is (start .args .number) (start .args .place))
+
+pub put-refused-spec : {M : Type 1} → statement M
+put-refused-spec =
+    tie.close
+    (tie.spec
+    slice-aggregate-put-two-labelled
+    slice-aggregate-put-two-labelled-2
+    put-two-labelled-requires
+    slice-aggregate-put-bytes
+    put-bytes-requires
+    same-length
+    returns)

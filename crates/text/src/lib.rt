@@ -1,0 +1,26 @@
+// The texts of the page and of the walk's line, over plain values: each writer appends its text to what a lent buffer holds up to a position, and answers the position past it.
+
+// Byte strings and decimal numbers.
+mod number;
+
+pub use number::put_bytes;
+pub use number::put_labelled;
+pub use number::put_number;
+pub use number::put_two_labelled;
+
+// The counts of a row or of a prime form.
+mod counts;
+
+pub use counts::put_form;
+pub use counts::put_row;
+
+// The lines.
+mod line;
+
+pub use line::put_different;
+pub use line::put_field;
+pub use line::put_head;
+pub use line::put_kind;
+pub use line::put_not_called;
+pub use line::put_refused;
+pub use line::put_same;
