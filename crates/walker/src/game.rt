@@ -125,10 +125,11 @@ fn reply(
 fn hold(allowance: u32) -> Examined
     ensures { λ r. ⌜ r ≡ within allowance true 1 ⌝ }
 {
-    if allowance == 0 {
-        return Examined::Spent;
+    if 0 < allowance {
+        Examined::Holds(allowance - 1)
+    } else {
+        Examined::Spent
     }
-    Examined::Holds(allowance - 1)
 }
 
 // The pair that a challenge of the field a by `line` and the reply of the field b by `answer` leave. At 0 rounds its fields are not wanted.

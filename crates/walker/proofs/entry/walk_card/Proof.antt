@@ -48,7 +48,7 @@ returns-3 c =
     let a = c .before .before .before .before .before .args in
     let read = c .before .before .before .before .before .pre in
     c .refuse3 .ensures
-    ∙ limit-refused (a .s .now) (a .first) (a .second) (a .limit) (sessionOf (a .session)) (read .passed) (first-field (c .before .before .before)) (second-field (c .before .before)) (c .before .if3 .taken)
+    ∙ limit-refused (a .s .now) (a .first) (a .second) (a .limit) (sessionOf (a .session)) (read .passed) (first-field (c .before .before .before)) (second-field (c .before .before)) (omega (arith, c .before .if3 .taken))
 
 field-requires : tie.Need-field-requires
 field-requires c κs = search needs
@@ -62,7 +62,7 @@ try-rounds-requires c κs =
     let read = c .before .before .before .before .before .before .before .before .pre in (
       read,
       (
-        c .before .before .before .before .if3 .left,
+        omega (arith, c .before .before .before .before .if3 .left),
         (
           field-bounded read (a .first) _ (c .before .before .before .field .ensures) (λ k. omega (arith, c .before .before .before .before .before .before .before .shared-slice-known .given k)),
           field-bounded read (a .second) _ (c .before .before .field2 .ensures) (λ k. omega (arith, c .before .before .before .before .before .before .before .shared-slice-known .given k)),
@@ -78,7 +78,7 @@ returns-4 c =
     ∙ full-walk (a .s .now) (a .first) (a .second) (a .limit) (sessionOf (a .session)) _ _
     (ap at (c .before .before .before .before .field .ensures) ∙ field-counts-at read (a .first))
     (ap at (c .before .before .before .field2 .ensures) ∙ field-counts-at read (a .second))
-    ∙ call-walks (a .s .now) (a .first) (a .second) (a .limit) (sessionOf (a .session)) (read .passed) (first-field (c .before .before .before .before .before .before .before)) (second-field (c .before .before .before .before .before .before)) (c .before .before .before .before .before .if3 .left)
+    ∙ call-walks (a .s .now) (a .first) (a .second) (a .limit) (sessionOf (a .session)) (read .passed) (first-field (c .before .before .before .before .before .before .before)) (second-field (c .before .before .before .before .before .before)) (omega (arith, c .before .before .before .before .before .if3 .left))
 
 pub walk-card-spec : {M : Type 1} → statement M
 walk-card-spec =
