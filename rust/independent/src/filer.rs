@@ -1,0 +1,99 @@
+//! "What the filer offers": Settle, Row, Compare, Prime form.
+
+use crate::base::{Base, Refinement};
+use crate::norm::{accept, NormedCard};
+use crate::sheet::{refused, Refusal, MOST_KINDS};
+
+/// "A verdict is same, or different with its stage and its rounds."
+#[derive(Clone, Copy, Debug, PartialEq, Eq)]
+pub enum Verdict {
+    Same,
+    Different { stage: u32, rounds: u64 },
+}
+
+/// Settle: "writes the final base to a lent table of 32-bit counts, row by row in kind number, n × n
+/// of them, and reports the settled stage".
+pub fn settle(sheet: &[u8], table: &mut [u32]) -> Result<u32, Refusal> {
+    let normed = accept(sheet)?;
+    let kinds = normed.card.kinds;
+    if table.len() < kinds * kinds {
+        return refused(12, 0);
+    }
+    let settled = Refinement::first(&normed).settle();
+    for kind in 0..kinds {
+        for (entry, &count) in table[kind * kinds..].iter_mut().zip(settled.base().row(kind)) {
+            *entry = count as u32;
+        }
+    }
+    Ok(settled.stage())
+}
+
+/// Row's check: "Row checks 2, 11, 12 only".
+pub fn row_check(table: &[u32], kinds: usize, kind: usize) -> Result<(), Refusal> {
+    if !(1..=MOST_KINDS).contains(&kinds) {
+        return refused(2, 0);
+    }
+    if kind >= kinds {
+        return refused(11, 0);
+    }
+    if table.len() < kinds * kinds {
+        return refused(12, 0);
+    }
+    Ok(())
+}
+
+/// Row: "handed out as that part of the lent table; a refusal hands out an empty part".
+pub fn row(table: &[u32], kinds: usize, kind: usize) -> &[u32] {
+    match row_check(table, kinds, kind) {
+        Ok(()) => &table[kind * kinds..(kind + 1) * kinds],
+        Err(_) => &[],
+    }
+}
+
+/// Compare: the verdict on two fields.
+pub fn compare(sheet: &[u8], first: usize, second: usize) -> Result<Verdict, Refusal> {
+    let normed = accept(sheet)?;
+    normed.card.check_fields(&[first, second])?;
+    let pair = [normed.card.field(first), normed.card.field(second)];
+    if normed.norm(&pair[0]) != normed.norm(&pair[1]) {
+        return Ok(different(&normed, &pair, 0));
+    }
+    let mut refinement = Refinement::first(&normed);
+    loop {
+        if !related(refinement.base(), &pair) {
+            return Ok(different(&normed, &pair, refinement.stage()));
+        }
+        if refinement.is_settled() {
+            return Ok(Verdict::Same);
+        }
+        refinement.refine();
+    }
+}
+
+/// Whether the stage of a base relates two fields.
+pub fn related(base: &Base, pair: &[Vec<u64>; 2]) -> bool {
+    base.form(pair[0].iter().copied()) == base.form(pair[1].iter().copied())
+}
+
+/// The verdict on two fields where a stage is the least that does not relate them: rounds is N + 1 at
+/// stage 0 and N + 1 + (s - 1)(g + 1) at stage s, where N is the smaller of the two norms.
+pub fn different(normed: &NormedCard, pair: &[Vec<u64>; 2], stage: u32) -> Verdict {
+    let norm = normed.norm(&pair[0]).min(normed.norm(&pair[1]));
+    let later_stages = u64::from(stage).saturating_sub(1);
+    Verdict::Different { stage, rounds: norm + 1 + later_stages * (normed.gain() + 1) }
+}
+
+/// Prime form: "n counts of 64 bits to a lent buffer".
+pub fn prime_form(sheet: &[u8], field: usize, counts: &mut [u64]) -> Result<(), Refusal> {
+    let normed = accept(sheet)?;
+    normed.card.check_fields(&[field])?;
+    if counts.len() < normed.card.kinds {
+        return refused(12, 0);
+    }
+    let settled = Refinement::first(&normed).settle();
+    let form = settled.base().form(normed.card.field(field).into_iter());
+    for (written, count) in counts.iter_mut().zip(&form[..normed.card.kinds]) {
+        *written = *count as u64;
+    }
+    Ok(())
+}

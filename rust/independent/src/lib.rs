@@ -1,0 +1,25 @@
+//! Document 01 ("Race cards, fields and their prime forms") implemented a second time, from that
+//! document's definitions and document 000 (Hirshfeld, Jerrum, Moller, 1996). It shares no code with
+//! the verified library. The tests hold the two against each other, and the measurements compare
+//! their times. Sentences in quotes are document 01's own.
+
+/// The decomposition base from stage to stage: document 000's algorithm.
+pub mod base;
+/// Calls as values, the buffers that they lend, and one call after another on two implementations.
+pub mod calls;
+/// Stages, rows, primes and the round game straight from their definitions, for small cards.
+pub mod definitions;
+/// Settle, Row, Compare and Prime form.
+pub mod filer;
+/// Sheets from a seed: valid and damaged, small and at the limits.
+pub mod generator;
+/// Norms of kinds, their order, g, and refusals 9 and 10.
+pub mod norm;
+/// The printed page.
+pub mod page;
+/// Pseudorandom numbers from a seed.
+pub mod random;
+/// The bytes of a sheet, and refusals 1 to 8.
+pub mod sheet;
+/// Walk and its session.
+pub mod walker;

@@ -1,0 +1,47 @@
+//! The verified library's functions, as `include/limbatue.h` declares them.
+//!
+//! Nothing checks these declarations against the Rattle source: they are kept beside the header, and `tests/comparison.rs` calls each of them.
+
+extern "C" {
+    pub fn limbatue_settle(
+        sheet: *const u8,
+        sheet_length: usize,
+        table: *mut u32,
+        table_length: usize,
+        answer: *mut u64,
+        answer_length: usize,
+    ) -> u32;
+    pub fn limbatue_row_check(
+        table: *const u32,
+        table_length: usize,
+        kinds: usize,
+        kind: usize,
+        answer: *mut u64,
+        answer_length: usize,
+    ) -> u32;
+    pub fn limbatue_compare(
+        sheet: *const u8,
+        sheet_length: usize,
+        first: usize,
+        second: usize,
+        answer: *mut u64,
+        answer_length: usize,
+    ) -> u32;
+    pub fn limbatue_prime_form(
+        sheet: *const u8,
+        sheet_length: usize,
+        field: usize,
+        counts: *mut u64,
+        counts_length: usize,
+    ) -> u32;
+    pub fn limbatue_walk(
+        sheet: *const u8,
+        sheet_length: usize,
+        first: usize,
+        second: usize,
+        limit: u64,
+        allowance: *mut u32,
+        answer: *mut u64,
+        answer_length: usize,
+    ) -> u32;
+}

@@ -1,0 +1,168 @@
+//! The generator and the independent implementation on the generator's sheets, by themselves.
+
+use std::collections::BTreeMap;
+
+use independent::base::{Base, Refinement};
+use independent::calls::{compare_implementations, independent};
+use independent::generator::{apply, draft, measured, sample, Damage, Family, Size, COSTLY, FAMILIES};
+use independent::norm::{accept, NormedCard};
+use independent::page::page;
+use independent::random::Random;
+use independent::sheet::{Refusal, MOST_BYTES};
+
+const SEED: u64 = 20_261_115;
+
+#[test]
+fn a_seed_gives_the_same_sheets() {
+    for number in 0..200 {
+        assert_eq!(sample(SEED, number).bytes, sample(SEED, number).bytes);
+    }
+    assert_ne!(sample(SEED, 0).bytes, sample(SEED + 1, 0).bytes);
+}
+
+#[test]
+fn every_refusal_and_every_answer_is_met() {
+    let comparison = compare_implementations(SEED, 0..20_000, independent, independent);
+    for (name, count) in &comparison.answers {
+        println!("{count:8} {name}");
+    }
+    let met = |name: &str| assert!(comparison.answers.contains_key(name), "{name}");
+    for number in 1..=12 {
+        met(&format!("settle: refused {number}").replace("settle: refused 11", "compare: refused 11"));
+    }
+    for name in
+        ["walk: refused 11", "walk: refused 13", "walk: apart", "walk: together", "walk: spent", "compare: same"]
+    {
+        met(name);
+    }
+    for name in [
+        "row: empty",
+        "row: done",
+        "row check: refused 2",
+        "row check: refused 11",
+        "row check: refused 12",
+        "page: refused 12",
+        "page: done",
+    ] {
+        met(name);
+    }
+    for stage in 0..=8 {
+        met(&format!("compare: different {stage}"));
+    }
+    met("settle: stage 32");
+    assert_eq!(comparison.differences.len(), 0);
+}
+
+#[test]
+fn sheets_of_every_family_size_and_damage() {
+    let mut accepted: BTreeMap<(Family, Size), u64> = BTreeMap::new();
+    let mut damaged: BTreeMap<(Damage, bool), u64> = BTreeMap::new();
+    let mut largest = 0;
+    for number in 0..40_000 {
+        let made = sample(SEED, number);
+        let is_accepted = accept(&made.bytes).is_ok();
+        if made.damage == Damage::None {
+            largest = largest.max(made.bytes.len());
+            *accepted.entry((made.family, made.size)).or_default() += u64::from(is_accepted);
+        }
+        *damaged.entry((made.damage, is_accepted)).or_default() += 1;
+    }
+    println!("{accepted:?}\n{damaged:?}");
+    assert_eq!(largest, MOST_BYTES);
+    for family in FAMILIES {
+        for size in [Size::Tiny, Size::Small, Size::Middle, Size::Limit] {
+            let free = matches!(family, Family::Free | Family::Noise);
+            assert!(free || accepted.get(&(family, size)).is_some_and(|&count| count > 0), "{family:?} {size:?}");
+        }
+    }
+    // A few flipped bits leave some sheets acceptable.
+    assert!(damaged[&(Damage::Flipped, true)] > 100);
+    assert!(damaged[&(Damage::Flipped, false)] > 100);
+    assert!(!damaged.contains_key(&(Damage::Truncated, true)));
+    assert!(!damaged.contains_key(&(Damage::Extended, true)));
+}
+
+#[test]
+fn truncations_and_extensions_are_refused() {
+    let mut random = Random::new(SEED);
+    for _ in 0..200 {
+        let bytes = draft(Family::Normed, Size::Small, &mut random).bytes();
+        for length in 0..bytes.len() {
+            let number = accept(&bytes[..length]).expect_err("truncated").number;
+            assert_eq!(number, if length < 20 { 1 } else { 6 });
+        }
+        let mut longer = bytes.clone();
+        apply(Damage::Extended, &mut longer, &mut random);
+        assert_eq!(accept(&longer).err(), Some(Refusal { number: 6, place: 3 }));
+    }
+}
+
+/// The settled bases of sheets of any size are bisimulations, tested pair by pair of lines.
+#[test]
+fn settled_bases_are_bisimulations() {
+    let mut checked = 0;
+    for number in 0..4_000 {
+        let bytes = sample(SEED + 1, number).bytes;
+        let Ok(normed) = accept(&bytes) else { continue };
+        let settled = Refinement::first(&normed).settle();
+        for kind in 0..normed.card.kinds {
+            assert!(expands(&normed, settled.base(), kind), "sheet {number} kind {kind}");
+        }
+        checked += 1;
+    }
+    assert!(checked > 1_500, "{checked}");
+}
+
+/// Whether a kind and its row satisfy expansion under a base.
+fn expands(normed: &NormedCard, base: &Base, kind: usize) -> bool {
+    let lines = &normed.card.lines;
+    let token: Vec<u64> = (0..normed.card.kinds).map(|other| u64::from(other == kind)).collect();
+    let row: Vec<u64> = base.row(kind).iter().map(|&count| count as u64).collect();
+    let reads = |field: &[u64]| {
+        let usable = lines.iter().filter(|line| field[line.kind] > 0);
+        let mut reads: Vec<_> = usable
+            .map(|line| {
+                let left = (0..field.len())
+                    .map(|other| field[other] - u64::from(other == line.kind) + u64::from(line.left[other]));
+                (line.code, base.form(left))
+            })
+            .collect();
+        reads.sort();
+        reads.dedup();
+        reads
+    };
+    reads(&token) == reads(&row)
+}
+
+/// Neither the order of the lines nor equal lines change a page.
+#[test]
+fn order_and_repetition_of_lines_change_no_page() {
+    let mut random = Random::new(SEED);
+    for number in 0..2_000 {
+        let size = if number % 40 == 0 { Size::Limit } else { Size::Small };
+        let family = random.choose(&FAMILIES);
+        let mut made = draft(family, size, &mut random);
+        let before = page(&made.bytes());
+        if before.starts_with("refused 7") || before.starts_with("refused 8") {
+            continue;
+        }
+        if made.lines.len() < 256 {
+            made.lines.push(made.lines[random.below(made.lines.len())].clone());
+        }
+        for last in (1..made.lines.len()).rev() {
+            made.lines.swap(last, random.below(last + 1));
+        }
+        assert_eq!(page(&made.bytes()), before, "sheet {number}");
+    }
+}
+
+#[test]
+fn costly_families_settle_late() {
+    for family in COSTLY {
+        let sheet = measured(family, 32, 256, SEED);
+        let normed = accept(&sheet).expect("an accepted sheet");
+        let stage = Refinement::first(&normed).settle().stage();
+        println!("{family:?}: {} lines, stage {stage}", normed.card.lines.len());
+        assert!(stage >= 10, "{family:?} {stage}");
+    }
+}

@@ -1,0 +1,84 @@
+//! The stored pages and walks, and document 01's examples.
+
+use std::fs;
+use std::path::{Path, PathBuf};
+
+use independent::filer::{compare, row, settle, Verdict};
+use independent::page::page;
+use independent::walker::{walk, Answer, Session};
+
+/// The folder of the stored sheets, pages and walks.
+fn stored() -> PathBuf {
+    Path::new(env!("CARGO_MANIFEST_DIR")).join("testdata")
+}
+
+/// The stored sheet of that name.
+fn sheet(name: &str) -> Vec<u8> {
+    fs::read(stored().join(format!("{name}.sheet"))).expect(name)
+}
+
+#[test]
+fn pages_agree() {
+    let mut compared = 0;
+    for entry in fs::read_dir(stored()).expect("testdata") {
+        let path = entry.expect("an entry").path();
+        if path.extension().is_some_and(|extension| extension == "sheet") {
+            let expected = fs::read_to_string(path.with_extension("page")).expect("a page for each sheet");
+            assert_eq!(page(&fs::read(&path).expect("a sheet")), expected, "{}", path.display());
+            compared += 1;
+        }
+    }
+    assert_eq!(compared, 46);
+}
+
+#[test]
+fn walks_agree() {
+    let text = fs::read_to_string(stored().join("walks.txt")).expect("walks.txt");
+    for line in text.lines() {
+        let (call, expected) = line.split_once(" = ").expect("a call and its answer");
+        let words: Vec<&str> = call.split(' ').collect();
+        let number = |place: usize| words[place].parse::<usize>().expect("a number");
+        let allowance = number(4) as u32;
+        let mut session = Session { allowance };
+        let given = match walk(&sheet(words[0]), number(1), number(2), number(3) as u64, &mut session) {
+            Err(refusal) => format!("refused {} {}", refusal.number, refusal.place),
+            Ok(walked) => {
+                assert_eq!(session.allowance, allowance - walked.drawn, "{line}");
+                match walked.answer {
+                    Answer::Apart { rounds } => format!("apart {rounds} drawn {}", walked.drawn),
+                    Answer::Together => format!("together drawn {}", walked.drawn),
+                    Answer::Spent => format!("spent drawn {}", walked.drawn),
+                }
+            }
+        };
+        assert_eq!(given, expected, "{line}");
+    }
+    assert!(text.lines().count() > 100);
+}
+
+#[test]
+fn refused_calls_alter_nothing() {
+    let mut table = [7; 3];
+    let refusal = settle(&sheet("page36"), &mut table).expect_err("a table of three entries is too short");
+    assert_eq!((refusal.number, refusal.place, table), (12, 0, [7; 3]));
+    let mut session = Session { allowance: 5 };
+    walk(&sheet("page36"), 0, 0, 9, &mut session).expect_err("a limit of nine");
+    assert_eq!(session.allowance, 5);
+}
+
+#[test]
+fn rows_of_the_million() {
+    let mut table = [7; 40];
+    assert_eq!(settle(&sheet("million"), &mut table), Ok(1));
+    assert_eq!(row(&table, 6, 5), [1_000_000, 0, 0, 0, 0, 0]);
+    assert_eq!(table[36..], [7; 4]);
+    assert!(row(&table, 7, 0).is_empty());
+}
+
+#[test]
+fn verdicts_of_the_examples() {
+    assert_eq!(compare(&sheet("stage1"), 0, 1), Ok(Verdict::Different { stage: 1, rounds: 3 }));
+    assert_eq!(compare(&sheet("stage2_g1"), 0, 1), Ok(Verdict::Different { stage: 2, rounds: 4 }));
+    assert_eq!(compare(&sheet("stage3"), 0, 1), Ok(Verdict::Different { stage: 3, rounds: 4 }));
+    assert_eq!(compare(&sheet("page36"), 0, 1), Ok(Verdict::Same));
+}
