@@ -43,6 +43,9 @@ extern "C" {
 #define LIMBATUE_TABLE_MOST 1024
 #define LIMBATUE_COUNTS_MOST 32
 
+/* Bytes that no page passes. */
+#define LIMBATUE_PAGE_MOST 73319
+
 /* Settle. Reads the sheet. Writes the final base to the table: n x n counts, row by row in kind number; a prime kind's row is itself once.
  * answer[0]: the settled stage. Refuses 1 to 10, and 12. */
 uint32_t limbatue_settle(const uint8_t *sheet, size_t sheet_length, uint32_t *table, size_t table_length, uint64_t *answer, size_t answer_length);
@@ -61,6 +64,10 @@ uint32_t limbatue_prime_form(const uint8_t *sheet, size_t sheet_length, size_t f
 /* Walk. Reads the sheet and the allowance. Writes what is left of the allowance.
  * answer[0]: 0 together, 1 apart, 2 spent; answer[1]: the rounds that parted the pair (0 unless apart); answer[2]: the pairs drawn. Refuses 1 to 8 and 11 to 13. */
 uint32_t limbatue_walk(const uint8_t *sheet, size_t sheet_length, size_t first, size_t second, uint64_t limit, uint32_t *allowance, uint64_t *answer, size_t answer_length);
+
+/* The page. Reads the sheet's first 12,821 bytes. Writes the page's bytes. A sheet that is refused has a page too, "refused NUMBER PLACE".
+ * answer[0]: the length of the page. Refuses 12 alone. */
+uint32_t limbatue_page(const uint8_t *sheet, size_t sheet_length, uint8_t *page, size_t page_length, uint64_t *answer, size_t answer_length);
 
 #ifdef __cplusplus
 }

@@ -44,4 +44,12 @@ extern "C" {
         answer: *mut u64,
         answer_length: usize,
     ) -> u32;
+    pub fn limbatue_page(
+        sheet: *const u8,
+        sheet_length: usize,
+        page: *mut u8,
+        page_length: usize,
+        answer: *mut u64,
+        answer_length: usize,
+    ) -> u32;
 }

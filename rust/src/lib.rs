@@ -14,6 +14,7 @@
 //! assert_eq!(limbatue::settle(&sheet, &mut table), Ok(1));
 //! assert_eq!(limbatue::row(&table, 2, 1), Ok(&[2, 0][..]));
 //! assert_eq!(limbatue::compare(&sheet, 0, 1), Ok(limbatue::Verdict::Same));
+//! assert!(limbatue::page(&sheet).ends_with("pair 0 1 same\n"));
 //! ```
 
 pub mod ffi;
@@ -150,6 +151,9 @@ impl Session {
 /// The entries that a table needs for any sheet, 32 × 32.
 pub const TABLE_MOST: usize = 1024;
 
+/// The bytes that no page passes.
+pub const PAGE_MOST: usize = 73_319;
+
 /// The result of a call by the number that it returned.
 fn done(code: u32) -> Result<(), Refusal> {
     if code == 0 {
@@ -227,4 +231,22 @@ pub fn walk(sheet: &[u8], first: usize, second: usize, limit: u64, session: &mut
         1 => Walked::Apart { rounds: answer[1] as u32, drawn },
         _ => Walked::Spent { drawn },
     })
+}
+
+/// Writes the page of a sheet and answers its length. A refused sheet has a page too (`refused NUMBER PLACE`): only a buffer that is too short is refused, with 12.
+pub fn write_page(sheet: &[u8], page: &mut [u8]) -> Result<usize, Refusal> {
+    let mut answer = [0; 1];
+    // SAFETY: three slices, none of which overlaps one that is written.
+    done(unsafe {
+        ffi::limbatue_page(sheet.as_ptr(), sheet.len(), page.as_mut_ptr(), page.len(), answer.as_mut_ptr(), answer.len())
+    })?;
+    Ok(answer[0] as usize)
+}
+
+/// The page of a sheet.
+pub fn page(sheet: &[u8]) -> String {
+    let mut page = vec![0; PAGE_MOST];
+    let length = write_page(sheet, &mut page).expect("no page is longer");
+    page.truncate(length);
+    String::from_utf8(page).expect("a page has letters, digits, spaces, \"=\" and ends of lines")
 }

@@ -44,7 +44,10 @@ fn call_library(call: &Call, lent: &mut Lent, entries: usize) -> (u32, Margined<
             Call::Walk { first, second, limit, .. } => {
                 ffi::limbatue_walk(sheet, bytes, first, second, limit, &mut lent.session.allowance, values, room)
             }
-            Call::Page { .. } => unreachable!("the page has no function yet"),
+            Call::Page { .. } => {
+                let page = lent.page.lent_mut();
+                ffi::limbatue_page(sheet, bytes, page.as_mut_ptr(), page.len(), values, room)
+            }
         }
     };
     (code, array)
@@ -53,18 +56,15 @@ fn call_library(call: &Call, lent: &mut Lent, entries: usize) -> (u32, Margined<
 /// How many values the answer of a call has.
 fn values_of(call: &Call) -> usize {
     match call {
-        Call::Settle { .. } => 1,
+        Call::Settle { .. } | Call::Page { .. } => 1,
         Call::RowCheck { .. } | Call::Row { .. } => 2,
         Call::Compare { .. } | Call::Walk { .. } => 3,
-        Call::PrimeForm { .. } | Call::Page { .. } => 0,
+        Call::PrimeForm { .. } => 0,
     }
 }
 
 /// The library's side: the answer array has one entry more than the values, and what is past them must be as it was; so must all of it where the call is refused.
 fn library(call: &Call, lent: &mut Lent) -> Answer {
-    if let Call::Page { .. } = call {
-        return independent(call, lent);
-    }
     let named = values_of(call);
     let (code, array) = call_library(call, lent, named + 1);
     let written = if code == 0 { named } else { 0 };
@@ -93,7 +93,7 @@ fn library(call: &Call, lent: &mut Lent) -> Answer {
             };
             Answer::Walked(Walked { answer, drawn: values[2] as _ })
         }
-        Call::Page { .. } => unreachable!(),
+        Call::Page { .. } => Answer::PageWritten { bytes: values[0] as usize },
     }
 }
 
@@ -160,7 +160,9 @@ fn wrappers(call: &Call, lent: &mut Lent) -> Answer {
                 Answer::Walked(Walked { answer, drawn })
             })
         }
-        Call::Page { .. } => independent(call, lent),
+        Call::Page { .. } => {
+            limbatue::write_page(sheet, lent.page.lent_mut()).map_or_else(refused, |bytes| Answer::PageWritten { bytes })
+        }
     }
 }
 

@@ -1,3 +1,4 @@
 pub mod Replies
 pub mod Codes
 pub mod Outcomes
+pub mod PageOutcomes

@@ -4,6 +4,7 @@ use Prim.Native.Nat.{ℕ, _*_}
 use Rattle.model.specs.Refusal.{Finding, clear, refusal, firstOf, acceptChecks}
 use Rattle.model.specs.Walk.{WalkAnswer, apart, together, spent}
 use Rattle.model.specs.Answer.{Answer, refused, given, Verdict, same, different, rowCheckOf, walkOf, settleOf, compareOf, formOf}
+use Rattle.page.specs.Writing.{writePageOf}
 use Rattle.exports.specs.Reply.{Reply, codeOf, replyOf, laidOut}
 
 -- Row's check: where the row starts in the table, and how many entries it has.
@@ -59,3 +60,10 @@ noValues _ = []
 
 unfoldable pub formCall : List ℕ → ℕ → List ℕ → Reply (List ℕ)
 formCall s i buffer = let x = formOf s i buffer in replyOf (laidOut noValues (x .answer)) buffer (x .lent) []
+
+-- The page: its length. The buffer that it is written to is lent.
+abbrev pub lengthValues : ℕ → List ℕ
+lengthValues length = length ∷ []
+
+unfoldable pub pageCall : List ℕ → List ℕ → List ℕ → Reply (List ℕ)
+pageCall s buffer array = let x = writePageOf s buffer in replyOf (laidOut lengthValues (x .answer)) buffer (x .lent) array

@@ -18,3 +18,6 @@ pub mod form;
 
 // Walk.
 pub mod walk;
+
+// The page.
+pub mod printing;
