@@ -36,7 +36,7 @@ put-kind-requires : tie.Need-put-kind-requires Inv-loop μ-loop
 put-kind-requires c κs =
     let start = c .before .before .before .before .before .before in
     let so-far = c .before .before .before .loop .inv .1 in
-    let long = ap length (c .before .row .ensures) ∙ row-length (start .args .n) (c .before .before .before .loop .k) (start .args .table .now) (record { some = start .pre .0 .0; few = start .pre .0 .1; kind = omega arith; room = start .pre .1 .0 }) in
+    let long = ap length (c .before .row .ensures) ∙ row-length (start .args .n) _ (start .args .table .now) (record { some = start .pre .0 .0; few = start .pre .0 .1; kind = omega arith; room = start .pre .1 .0 }) in
     (omega arith, omega (arith, so-far .ends, so-far .size, so-far .within, start .pre .1 .1))
 
 add-k : tie.Need-add-k Inv-loop μ-loop
@@ -52,7 +52,7 @@ loop-again c =
     let k = loop .loop .k in
     let line = kindAt (start .args .n) (start .args .t4) (start .args .table .now) in
     let part = c .before .before .before .before .row .ensures in
-    let long = ap length part ∙ row-length (start .args .n) k (start .args .table .now) (record { some = start .pre .0 .0; few = start .pre .0 .1; kind = omega arith; room = start .pre .1 .0 }) in (
+    let long = ap length part ∙ row-length (start .args .n) _ (start .args .table .now) (record { some = start .pre .0 .0; few = start .pre .0 .1; kind = omega arith; room = start .pre .1 .0 }) in (
       omega arith,
       next-text line 0 k (loop .loop .inv .1)
           (reads-as 730 (line k) (c .before .before .put-kind .ensures) (omega arith) (ap (kindText k (at (start .args .t4) k)) part)) (omega arith),
