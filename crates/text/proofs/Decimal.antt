@@ -1,58 +1,23 @@
 -- Decimal numbers: their last digit, how many digits they have.
-use mathlib.Core.List.{List, [], _∷_, _++_, append-assoc}
-use mathlib.Core.Path.{_≡_, refl, sym, _∙_, ap}
+use mathlib.Core.List.{List, [], _∷_, _++_}
+use mathlib.Core.Path.{_≡_, sym, _∙_, ap}
 use Prim.Native.Nat.{ℕ, zero, suc, _+_, _/_, _%_, _^_, _≤_, _<_}
 use native.Mathlib.Decide.{decLt}
 use native.Mathlib.Nat.{pow-suc}
 use native.Mathlib.Omega.{arith}
-use borrow.Author.Tests.{eq-eqb, ne-eqb}
 use lib.ListN.{length, length-append}
-use Rattle.model.specs.Page.{digits, number}
+use Rattle.model.specs.Page.{number}
+use Rattle.model.proofs.Decimals.{decimals}
 use Rattle.text.specs.Appended.{Appended}
 use Rattle.text.proofs.Append.{then, reads-as}
 
--- A digit that is the whole number, and one with others before it.
-last : (f x : ℕ) (rest : List ℕ) → x < 10 → digits (suc f) x rest ≡ (48 + x % 10) ∷ rest
-unfolding digits
-last f x rest h = let e : x / 10 ≡ 0 = omega arith in rw (eq-eqb (x / 10) 0 e, digits) refl
-
-before : (f x : ℕ) (rest : List ℕ) → 10 ≤ x → digits (suc f) x rest ≡ digits f (x / 10) ((48 + x % 10) ∷ rest)
-unfolding digits
-before f x rest h = let n : ¬ (x / 10 ≡ 0) = λ e. omega arith in rw (ne-eqb (x / 10) 0 n, digits) refl
-
--- Fuel past the number does not matter.
-fuel : (f g x : ℕ) (rest : List ℕ) → x < f → x < g → digits f x rest ≡ digits g x rest
-fuel zero g x rest h i = absurd (omega arith)
-fuel (suc f) zero x rest h i = absurd (omega arith)
-fuel (suc f) (suc g) x rest h i = go (decLt x 10) (λ l. fuel f g (x / 10) ((48 + x % 10) ∷ rest) (omega arith) (omega arith))
-  where
-    go : Dec (x < 10) → (10 ≤ x → digits f (x / 10) ((48 + x % 10) ∷ rest) ≡ digits g (x / 10) ((48 + x % 10) ∷ rest)) → digits (suc f) x rest ≡ digits (suc g) x rest
-    go (yes l) r = last f x rest l ∙ sym (last g x rest l)
-    go (no l) r = let m : 10 ≤ x = omega arith in before f x rest m ∙ r m ∙ sym (before g x rest m)
-
--- What follows a number is kept.
-follows : (f x : ℕ) (rest : List ℕ) → x < f → digits f x rest ≡ digits f x [] ++ rest
-follows zero x rest h = absurd (omega arith)
-follows (suc f) x rest h = go (decLt x 10) (λ l. follows f (x / 10) ((48 + x % 10) ∷ rest) (omega arith)) (λ l. follows f (x / 10) ((48 + x % 10) ∷ []) (omega arith))
-  where
-    go : Dec (x < 10) → (10 ≤ x → digits f (x / 10) ((48 + x % 10) ∷ rest) ≡ digits f (x / 10) [] ++ ((48 + x % 10) ∷ rest))
-        → (10 ≤ x → digits f (x / 10) ((48 + x % 10) ∷ []) ≡ digits f (x / 10) [] ++ ((48 + x % 10) ∷ [])) → digits (suc f) x rest ≡ digits (suc f) x [] ++ rest
-    go (yes l) r q = last f x rest l ∙ ap (λ (s : List ℕ). s ++ rest) (sym (last f x [] l))
-    go (no l) r q =
-        let m : 10 ≤ x = omega arith in
-        before f x rest m ∙ r m ∙ sym (append-assoc (digits f (x / 10) []) ((48 + x % 10) ∷ []) rest) ∙ ap (λ (s : List ℕ). s ++ rest) (sym (before f x [] m ∙ q m))
-
 -- A number below 10 is its one digit.
 pub number-small : (x : ℕ) → x < 10 → number x ≡ (48 + x % 10) ∷ []
-unfolding number
-number-small x h = last x x [] h
+number-small x h = let e : x % 10 ≡ x = omega arith in decimals x .one-digit h ∙ ap (λ (d : ℕ). (48 + d) ∷ []) (sym e)
 
 -- Any other is the number without its last digit, then that digit.
 pub number-more : (x : ℕ) → 10 ≤ x → number x ≡ number (x / 10) ++ ((48 + x % 10) ∷ [])
-unfolding number
-number-more x h =
-    before x x [] h ∙ follows x (x / 10) ((48 + x % 10) ∷ []) (omega arith)
-    ∙ ap (λ (s : List ℕ). s ++ ((48 + x % 10) ∷ [])) (fuel x (suc (x / 10)) (x / 10) [] (omega arith) (omega arith))
+number-more x h = decimals x .more-digits h
 
 -- So it has one digit, or one more; in any case some.
 pub length-small : (x : ℕ) → x < 10 → length (number x) ≡ 1
