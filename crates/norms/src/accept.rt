@@ -27,7 +27,7 @@ pub fn accept(s: &[u8]) -> Acceptance
         Checked::Refused { number, place } => refuse(number, place),
         Checked::Passed(card) => {
             let norms = kind_norms(s, card);
-            match check_norms(card, norms) {
+            match check_norms(card, &norms) {
                 Checked::Refused { number, place } => refuse(number, place),
                 Checked::Passed(card) => Acceptance {
                     checked: Checked::Passed(card),
@@ -39,9 +39,9 @@ pub fn accept(s: &[u8]) -> Acceptance
 }
 
 // 9 at the lowest kind that has no norm, then 10 at the lowest with one over the limit.
-fn check_norms(card: Card, norms: [u32; 32]) -> Checked
+fn check_norms(card: Card, norms: &[u32; 32]) -> Checked
     requires { ⌜ card .kinds ≤ mostKinds ⌝ }
-    ensures { λ r. ⌜ r ≡ outcome card (firstOf (normChecksBy (at norms) (card .kinds))) ⌝ }
+    ensures { λ r. ⌜ r ≡ outcome card (firstOf (normChecksBy (at (now (norms .entry))) (card .kinds))) ⌝ }
 {
     let kinds = card.kinds;
     let missing = first_missing(norms, kinds);
@@ -62,9 +62,9 @@ fn check_norms(card: Card, norms: [u32; 32]) -> Checked
 }
 
 // The lowest kind that has no norm; the number of kinds if each has one.
-fn first_missing(norms: [u32; 32], kinds: usize) -> usize
+fn first_missing(norms: &[u32; 32], kinds: usize) -> usize
     requires { ⌜ kinds ≤ mostKinds ⌝ }
-    ensures { λ r. ⌜ r ≡ leastFrom (λ k. eqb (at norms k) 0) 0 kinds ⌝ }
+    ensures { λ r. ⌜ r ≡ leastFrom (λ k. eqb (at (now (norms .entry)) k) 0) 0 kinds ⌝ }
 {
     let mut k = 0;
     while k < kinds {
@@ -78,9 +78,9 @@ fn first_missing(norms: [u32; 32], kinds: usize) -> usize
 }
 
 // The lowest kind with a norm over the limit; the number of kinds if there is none.
-fn first_over(norms: [u32; 32], kinds: usize) -> usize
+fn first_over(norms: &[u32; 32], kinds: usize) -> usize
     requires { ⌜ kinds ≤ mostKinds ⌝ }
-    ensures { λ r. ⌜ r ≡ leastFrom (λ k. ltb normLimit (at norms k)) 0 kinds ⌝ }
+    ensures { λ r. ⌜ r ≡ leastFrom (λ k. ltb normLimit (at (now (norms .entry)) k)) 0 kinds ⌝ }
 {
     let mut k = 0;
     while k < kinds {

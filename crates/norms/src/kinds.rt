@@ -21,7 +21,7 @@ pub fn kind_norms(s: &[u8], card: Card) -> [u32; 32]
     let mut values = [0u32; 32];
     let mut turn = 0;
     while turn < kinds {
-        let next = sweep(s, card, values);
+        let next = sweep(s, card, &values);
         values = next;
         turn += 1;
     }
@@ -29,10 +29,10 @@ pub fn kind_norms(s: &[u8], card: Card) -> [u32; 32]
 }
 
 // The values of the kinds after one more sweep.
-fn sweep(s: &[u8], card: Card, values: [u32; 32]) -> [u32; 32]
+fn sweep(s: &[u8], card: Card, values: &[u32; 32]) -> [u32; 32]
     requires { ⌜ Reads (now s) card ⌝ }
-    requires { ⌜ AtMost (suc normLimit) values ⌝ }
-    ensures { λ r. ⌜ r ≡ sweepOf (now (s .entry)) (at values) ⌝ }
+    requires { ⌜ AtMost (suc normLimit) (now values) ⌝ }
+    ensures { λ r. ⌜ r ≡ sweepOf (now (s .entry)) (at (now (values .entry))) ⌝ }
 {
     let kinds = card.kinds;
     let mut next = [0u32; 32];
@@ -45,10 +45,10 @@ fn sweep(s: &[u8], card: Card, values: [u32; 32]) -> [u32; 32]
 }
 
 // The least value that a line gives the kind; 0 if none gives it one.
-fn best(s: &[u8], card: Card, values: [u32; 32], kind: usize) -> u32
+fn best(s: &[u8], card: Card, values: &[u32; 32], kind: usize) -> u32
     requires { ⌜ Reads (now s) card ⌝ }
-    requires { ⌜ AtMost (suc normLimit) values ⌝ }
-    ensures { λ r. ⌜ r ≡ min (model.best (card .kinds) (at values) kind (cardOf (now (s .entry)) .lines)) (suc normLimit) ⌝ }
+    requires { ⌜ AtMost (suc normLimit) (now values) ⌝ }
+    ensures { λ r. ⌜ r ≡ min (model.best (card .kinds) (at (now (values .entry))) kind (cardOf (now (s .entry)) .lines)) (suc normLimit) ⌝ }
 {
     let mut found = 0;
     let mut j = card.lines;
@@ -60,11 +60,11 @@ fn best(s: &[u8], card: Card, values: [u32; 32], kind: usize) -> u32
 }
 
 // The value that line j gives the kind; 0 if it is no line of the kind, or leaves a kind without a value.
-fn line_value(s: &[u8], card: Card, values: [u32; 32], kind: usize, j: usize) -> u32
+fn line_value(s: &[u8], card: Card, values: &[u32; 32], kind: usize, j: usize) -> u32
     requires { ⌜ Reads (now s) card ⌝ }
-    requires { ⌜ AtMost (suc normLimit) values ⌝ }
+    requires { ⌜ AtMost (suc normLimit) (now values) ⌝ }
     requires { ⌜ j < card .lines ⌝ }
-    ensures { λ r. ⌜ r ≡ min (lineValue (card .kinds) (at values) kind (lineOf (now (s .entry)) j)) (suc normLimit) ⌝ }
+    ensures { λ r. ⌜ r ≡ min (lineValue (card .kinds) (at (now (values .entry))) kind (lineOf (now (s .entry)) j)) (suc normLimit) ⌝ }
 {
     if card.line_kind(s, j) == kind {
         return read_value(values, card.line_counts(s, j));

@@ -10,8 +10,8 @@ use crate::weights::wide32;
 use sheet::Card;
 
 // The norm of the tokens that line j leaves.
-pub fn left_norm(s: &[u8], card: Card, norms: [u32; 32], j: usize) -> u64
-    requires { ⌜ Accepts (now s) card norms ⌝ }
+pub fn left_norm(s: &[u8], card: Card, norms: &[u32; 32], j: usize) -> u64
+    requires { ⌜ Accepts (now s) card (now norms) ⌝ }
     requires { ⌜ j < card .lines ⌝ }
     ensures { λ r. ⌜ r ≡ norm (cardOf (now (s .entry))) (lineOf (now (s .entry)) j .left) ⌝ }
 {
@@ -19,8 +19,8 @@ pub fn left_norm(s: &[u8], card: Card, norms: [u32; 32], j: usize) -> u64
 }
 
 // The norm of line j's kind.
-pub fn own_norm(s: &[u8], card: Card, norms: [u32; 32], j: usize) -> u64
-    requires { ⌜ Accepts (now s) card norms ⌝ }
+pub fn own_norm(s: &[u8], card: Card, norms: &[u32; 32], j: usize) -> u64
+    requires { ⌜ Accepts (now s) card (now norms) ⌝ }
     requires { ⌜ j < card .lines ⌝ }
     ensures { λ r. ⌜ r ≡ kindNorm (cardOf (now (s .entry))) (lineOf (now (s .entry)) j .kind) ⌝ }
 {
@@ -30,8 +30,8 @@ pub fn own_norm(s: &[u8], card: Card, norms: [u32; 32], j: usize) -> u64
 }
 
 // "reads that lower the norm": whether reads by line j do.
-pub fn lowers(s: &[u8], card: Card, norms: [u32; 32], j: usize) -> bool
-    requires { ⌜ Accepts (now s) card norms ⌝ }
+pub fn lowers(s: &[u8], card: Card, norms: &[u32; 32], j: usize) -> bool
+    requires { ⌜ Accepts (now s) card (now norms) ⌝ }
     requires { ⌜ j < card .lines ⌝ }
     ensures { λ r. ⌜ r ≡ lowersNorm (now (s .entry)) j ⌝ }
 {
@@ -39,8 +39,8 @@ pub fn lowers(s: &[u8], card: Card, norms: [u32; 32], j: usize) -> bool
 }
 
 // "g is the greatest of 0 and, over all lines, the norm left minus the kind's norm."
-pub fn gain(s: &[u8], card: Card, norms: [u32; 32]) -> u64
-    requires { ⌜ Accepts (now s) card norms ⌝ }
+pub fn gain(s: &[u8], card: Card, norms: &[u32; 32]) -> u64
+    requires { ⌜ Accepts (now s) card (now norms) ⌝ }
     ensures { λ r. ⌜ r ≡ base.gain (cardOf (now (s .entry))) ⌝ }
 {
     let mut most = 0;
@@ -53,8 +53,8 @@ pub fn gain(s: &[u8], card: Card, norms: [u32; 32]) -> u64
 }
 
 // The norm that line j leaves minus its kind's norm, or 0 where it leaves less.
-fn line_gain(s: &[u8], card: Card, norms: [u32; 32], j: usize) -> u64
-    requires { ⌜ Accepts (now s) card norms ⌝ }
+fn line_gain(s: &[u8], card: Card, norms: &[u32; 32], j: usize) -> u64
+    requires { ⌜ Accepts (now s) card (now norms) ⌝ }
     requires { ⌜ j < card .lines ⌝ }
     ensures { λ r. ⌜ r ≡ lineGain (now (s .entry)) j ⌝ }
 {

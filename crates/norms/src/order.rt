@@ -6,10 +6,10 @@ ghost use Rattle.model.specs.Base as base;
 ghost use Rattle.model.specs.Limits.{mostKinds};
 
 // "Kinds are ordered by norm, then by number": whether kind j comes before kind k.
-pub fn earlier(norms: [u32; 32], k: usize, j: usize) -> bool
+pub fn earlier(norms: &[u32; 32], k: usize, j: usize) -> bool
     requires { ⌜ k < mostKinds ⌝ }
     requires { ⌜ j < mostKinds ⌝ }
-    ensures { λ r. ⌜ r ≡ base.earlier (at norms) k j ⌝ }
+    ensures { λ r. ⌜ r ≡ base.earlier (at (now (norms .entry))) k j ⌝ }
 {
     let own = norms[k];
     let other = norms[j];

@@ -9,9 +9,9 @@ ghost use Rattle.norms.specs.Sweep.{AtMost, readValue, lesserOf};
 use sheet::Card;
 
 // Whether every kind that the counts hold has a value.
-pub fn all_valued(values: [u32; 32], counts: &[u8]) -> bool
+pub fn all_valued(values: &[u32; 32], counts: &[u8]) -> bool
     requires { ⌜ length (now counts) ≤ mostKinds ⌝ }
-    ensures { λ r. ⌜ r ≡ ready (length (now (counts .entry))) (at values) (at (now (counts .entry))) ⌝ }
+    ensures { λ r. ⌜ r ≡ ready (length (now (counts .entry))) (at (now (values .entry))) (at (now (counts .entry))) ⌝ }
 {
     let mut i = 0;
     while i < counts.len() {
@@ -27,10 +27,10 @@ pub fn all_valued(values: [u32; 32], counts: &[u8]) -> bool
 }
 
 // The sum, over the kinds, of count times value.
-pub fn weight(values: [u32; 32], counts: &[u8]) -> u64
+pub fn weight(values: &[u32; 32], counts: &[u8]) -> u64
     requires { ⌜ length (now counts) ≤ mostKinds ⌝ }
-    requires { ⌜ weigh (length (now counts)) (at values) (at (now counts)) < 2 ^ 64 ⌝ }
-    ensures { λ r. ⌜ r ≡ weigh (length (now (counts .entry))) (at values) (at (now (counts .entry))) ⌝ }
+    requires { ⌜ weigh (length (now counts)) (at (now values)) (at (now counts)) < 2 ^ 64 ⌝ }
+    ensures { λ r. ⌜ r ≡ weigh (length (now (counts .entry))) (at (now (values .entry))) (at (now (counts .entry))) ⌝ }
 {
     let mut sum: u64 = 0;
     let mut i = 0;
@@ -43,10 +43,10 @@ pub fn weight(values: [u32; 32], counts: &[u8]) -> u64
 }
 
 // One read and the values of the tokens it leaves, cut one past the limit; 0 where a kind that it leaves has no value.
-pub fn read_value(values: [u32; 32], counts: &[u8]) -> u32
+pub fn read_value(values: &[u32; 32], counts: &[u8]) -> u32
     requires { ⌜ length (now counts) ≤ mostKinds ⌝ }
-    requires { ⌜ AtMost (suc normLimit) values ⌝ }
-    ensures { λ r. ⌜ r ≡ min (readValue (length (now (counts .entry))) (at values) (at (now (counts .entry)))) (suc normLimit) ⌝ }
+    requires { ⌜ AtMost (suc normLimit) (now values) ⌝ }
+    ensures { λ r. ⌜ r ≡ min (readValue (length (now (counts .entry))) (at (now (values .entry))) (at (now (counts .entry)))) (suc normLimit) ⌝ }
 {
     if all_valued(values, counts) {
         let left = weight(values, counts);

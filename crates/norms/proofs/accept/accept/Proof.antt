@@ -27,7 +27,7 @@ kind-norms-requires : tie.Need-kind-norms-requires
 kind-norms-requires c κs = card-told (c .before)
 
 check-norms-requires : tie.Need-check-norms-requires
-check-norms-requires c κs = kinds-most (card-told (c .before .before))
+check-norms-requires c κs = kinds-most (card-told (c .before .before .before))
 
 enum-known-number-2 : tie.Need-enum-known-number-2
 enum-known-number-2 c = search needs
@@ -44,12 +44,12 @@ returns c = c .refuse .ensures ∙ sheet-refused _ _ _ (sym (c .before .before .
 returns-2 : tie.Need-returns-2
 returns-2 c =
     c .refuse2 .ensures
-    ∙ norms-refused (card-told (c .before .before .before .before .before .before .before)) _ (c .before .before .before .before .before .kind-norms .ensures) _ _
+    ∙ norms-refused (card-told (c .before .before .before .before .before .before .before .before)) _ (c .before .before .before .before .before .before .kind-norms .ensures) _ _
     (sym (c .before .before .before .before .check-norms .ensures) ∙ c .before .before .number2 .given .1)
 
 returns-3 : tie.Need-returns-3
 returns-3 c =
-    norms-passed (card-told (c .before .before .before .before .before .before)) _ (c .before .before .before .before .kind-norms .ensures) _
+    norms-passed (card-told (c .before .before .before .before .before .before .before)) _ (c .before .before .before .before .before .kind-norms .ensures) _
     (sym (c .before .before .before .check-norms .ensures) ∙ c .before .card2 .given .1)
 
 pub accept-spec : {M : Type 1} → statement M

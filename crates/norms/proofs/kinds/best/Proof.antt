@@ -22,7 +22,7 @@ abbrev μ-loop : tie.MeasureT-loop
 loop-holds : tie.Need-loop-holds Inv-loop μ-loop
 loop-holds c =
     let a = c .before .args in
-    (search needs, best-start (a .card .kinds) (at (a .values)) (a .kind) (lineOf (a .s .now)) (a .card .lines) normLimit)
+    (search needs, best-start (a .card .kinds) (at (a .values .now)) (a .kind) (lineOf (a .s .now)) (a .card .lines) normLimit)
 
 sub-j : tie.Need-sub-j Inv-loop μ-loop
 sub-j c = search needs
@@ -42,7 +42,7 @@ loop-again c =
     let a = b .args in
     let l = c .before .before .before .loop in (
       search needs,
-      best-more (a .card .kinds) (at (a .values)) (a .kind) (lineOf (a .s .now)) (a .card .lines) (l .j) normLimit (l .found) (c .before .line-value .result) (c .lesser .result)
+      best-more (a .card .kinds) (at (a .values .now)) (a .kind) (lineOf (a .s .now)) (a .card .lines) (l .j) normLimit (l .found) (c .before .line-value .result) (c .lesser .result)
           (c .before .before .loop-test .taken) (l .inv .0) (l .inv .1) (c .before .line-value .ensures) (c .lesser .ensures),
     )
 
@@ -50,7 +50,7 @@ returns : tie.Need-returns Inv-loop μ-loop
 returns c =
     let b = c .before .before .before in
     let a = b .args in
-    best-end (b .pre .0) (at (a .values)) (a .kind) (c .before .loop .j) normLimit (c .before .loop .found) (omega arith) (c .before .loop .inv .1)
+    best-end (b .pre .0) (at (a .values .now)) (a .kind) (c .before .loop .j) normLimit (c .before .loop .found) (omega arith) (c .before .loop .inv .1)
 
 pub best-spec : {M : Type 1} → statement M
 best-spec =

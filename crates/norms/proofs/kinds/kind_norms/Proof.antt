@@ -23,19 +23,19 @@ loop-holds c = (swept-start (c .before .pre), search needs)
 
 sweep-requires : tie.Need-sweep-requires Inv-loop μ-loop
 sweep-requires c κs =
-    let R = c .before .before .before .pre in
-    (R, rw (c .before .loop .inv .0) (swept-most R (c .before .loop .turn)))
+    let R = c .before .before .before .before .pre in
+    (R, rw (c .before .before .loop .inv .0) (swept-most R (c .before .before .loop .turn)))
 
 add-turn : tie.Need-add-turn Inv-loop μ-loop
-add-turn c = omega (arith, kinds-most (c .before .before .before .before .pre))
+add-turn c = omega (arith, kinds-most (c .before .before .before .before .before .pre))
 
 loop-less : tie.Need-loop-less Inv-loop μ-loop
 loop-less c = search needs
 
 loop-again : tie.Need-loop-again Inv-loop μ-loop
 loop-again c =
-    let b = c .before .before .before .before in
-    let l = c .before .before .loop in
+    let b = c .before .before .before .before .before in
+    let l = c .before .before .before .loop in
     (c .sweep .ensures ∙ ap (λ (xs : List ℕ). sweepOf (b .args .s .now) (at xs)) (l .inv .0) ∙ swept-next (b .pre) (l .turn), search needs)
 
 returns : tie.Need-returns Inv-loop μ-loop

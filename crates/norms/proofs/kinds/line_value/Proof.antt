@@ -31,14 +31,14 @@ returns c =
     let own = sym (c .before .before .before .line-kind .ensures) ∙ c .before .before .if1 .taken in
     c .read-value .ensures
     ∙ ap (λ x. min x (suc normLimit))
-    (part-left (b .pre .0) (b .args .j) _ (c .before .line-counts .ensures) (λ n a. readValue n (at (b .args .values)) a)
-    ∙ sym (line-own (b .args .card .kinds) (at (b .args .values)) (b .args .kind) l own))
+    (part-left (b .pre .0) (b .args .j) _ (c .before .line-counts .ensures) (λ n a. readValue n (at (b .args .values .now)) a)
+    ∙ sym (line-own (b .args .card .kinds) (at (b .args .values .now)) (b .args .kind) l own))
 
 returns-2 : tie.Need-returns-2
 returns-2 c =
     let b = c .before .before .before in
     let l = lineOf (b .args .s .now) (b .args .j) in
-    omega (arith, line-other (b .args .card .kinds) (at (b .args .values)) (b .args .kind) l (λ e. c .if1 .left (c .before .line-kind .ensures ∙ e)))
+    omega (arith, line-other (b .args .card .kinds) (at (b .args .values .now)) (b .args .kind) l (λ e. c .if1 .left (c .before .line-kind .ensures ∙ e)))
 
 pub line-value-spec : {M : Type 1} → statement M
 line-value-spec =

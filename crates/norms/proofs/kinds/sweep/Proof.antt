@@ -22,7 +22,7 @@ abbrev μ-loop : tie.MeasureT-loop
 loop-holds : tie.Need-loop-holds Inv-loop μ-loop
 loop-holds c =
     let a = c .before .args in
-    (search needs, counts-none (bestCut (a .card .kinds) (at (a .values)) (cardOf (a .s .now) .lines)) mostKinds)
+    (search needs, counts-none (bestCut (a .card .kinds) (at (a .values .now)) (cardOf (a .s .now) .lines)) mostKinds)
 
 best-requires : tie.Need-best-requires Inv-loop μ-loop
 best-requires c κs = search needs
@@ -45,7 +45,7 @@ loop-again c = (search needs, counts-more _ _ _ _ _ (array-write-next c) (c .bef
 returns : tie.Need-returns Inv-loop μ-loop
 returns c =
     let b = c .before .before .before in
-    sweep-end (b .pre .0) (at (b .args .values)) (c .before .loop .k) _ (omega arith) (c .before .loop .inv .1)
+    sweep-end (b .pre .0) (at (b .args .values .now)) (c .before .loop .k) _ (omega arith) (c .before .loop .inv .1)
 
 pub sweep-spec : {M : Type 1} → statement M
 sweep-spec =

@@ -14,17 +14,17 @@ line-kind-requires c κs = search needs
 mul-norm : tie.Need-mul-norm
 mul-norm c = omega (arith, kind-most (c .before .before .pre .0 .reads) (c .before .before .args .j) (c .before .before .pre .1), c .line-kind .ensures)
 
-array-read-norm : tie.Need-array-read-norm
-array-read-norm c = omega (arith, kind-most (c .before .before .pre .0 .reads) (c .before .before .args .j) (c .before .before .pre .1), c .line-kind .ensures)
+element-copy-out-norm : tie.Need-element-copy-out-norm
+element-copy-out-norm c = omega (arith, kind-most (c .before .before .pre .0 .reads) (c .before .before .args .j) (c .before .before .pre .1), c .line-kind .ensures)
 
 wide32-requires : tie.Need-wide32-requires
 wide32-requires c κs = search needs
 
 returns : tie.Need-returns
 returns c =
-    let b = c .before .before .before in
-    c .wide32 .ensures ∙ norm-at (b .pre .0) (c .before .line-kind .result) ∙ ap (kindNorm (cardOf (b .args .s .now))) (c .before .line-kind .ensures)
+    let b = c .before .before .before .before in
+    c .wide32 .ensures ∙ norm-at (b .pre .0) (c .before .before .line-kind .result) ∙ ap (kindNorm (cardOf (b .args .s .now))) (c .before .before .line-kind .ensures)
 
 pub own-norm-spec : {M : Type 1} → statement M
 own-norm-spec =
-    tie.close (tie.spec line-kind-requires mul-norm array-read-norm wide32-requires returns)
+    tie.close (tie.spec line-kind-requires mul-norm element-copy-out-norm wide32-requires returns)

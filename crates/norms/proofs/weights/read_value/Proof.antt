@@ -18,7 +18,7 @@ weight-requires : tie.Need-weight-requires
 weight-requires c κs =
     let b = c .before .before .before in (
       search needs,
-      bytes-fit (length (b .args .counts .now)) (at (b .args .values)) (at (b .args .counts .now)) (b .pre .0) (b .pre .1)
+      bytes-fit (length (b .args .counts .now)) (at (b .args .values .now)) (at (b .args .counts .now)) (b .pre .0) (b .pre .1)
           (λ k. omega (arith, c .before .before .shared-slice-known .given k)),
     )
 
@@ -34,10 +34,10 @@ cast-result c = search needs
 -- The read's value, where each kind that is left has one.
 value-told : (c : tie.After-weight)
     → let a = c .before .before .before .before .args in
-    readValue (length (a .counts .now)) (at (a .values)) (at (a .counts .now)) ≡ suc (c .weight .result)
+    readValue (length (a .counts .now)) (at (a .values .now)) (at (a .counts .now)) ≡ suc (c .weight .result)
 value-told c =
     let a = c .before .before .before .before .args in
-    read-ready (length (a .counts .now)) (at (a .values)) (at (a .counts .now)) (sym (c .before .before .all-valued .ensures) ∙ c .before .if1 .taken)
+    read-ready (length (a .counts .now)) (at (a .values .now)) (at (a .counts .now)) (sym (c .before .before .all-valued .ensures) ∙ c .before .if1 .taken)
     ∙ ap suc (sym (c .weight .ensures))
 
 returns : tie.Need-returns
@@ -54,7 +54,7 @@ returns-3 c =
     let b = c .before .before .before in
     omega (
       arith,
-      read-missing (length (b .args .counts .now)) (at (b .args .values)) (at (b .args .counts .now)) (sym (c .before .all-valued .ensures) ∙ c .if1 .left),
+      read-missing (length (b .args .counts .now)) (at (b .args .values .now)) (at (b .args .counts .now)) (sym (c .before .all-valued .ensures) ∙ c .if1 .left),
     )
 
 pub read-value-spec : {M : Type 1} → statement M

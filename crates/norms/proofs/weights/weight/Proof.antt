@@ -10,10 +10,10 @@ use Rattle.norms.proofs.weights.weight.Statement.{statement}
 use Rattle.norms.proofs.weights.weight.Tie as tie
 
 abbrev Inv-loop : tie.InvT-loop
-Inv-loop counts values sum₀ i₀ sum i = (i ≤ length counts) × (sum ≡ weigh i (at values) (at counts))
+Inv-loop values counts sum₀ i₀ sum i = (i ≤ length counts) × (sum ≡ weigh i (at values) (at counts))
 
 abbrev μ-loop : tie.MeasureT-loop
-μ-loop counts values sum₀ i₀ sum i = length counts - i
+μ-loop values counts sum₀ i₀ sum i = length counts - i
 
 loop-holds : tie.Need-loop-holds Inv-loop μ-loop
 unfolding weigh
@@ -22,8 +22,8 @@ loop-holds c = (search needs, search needs)
 mul-value : tie.Need-mul-value Inv-loop μ-loop
 mul-value c = search needs
 
-array-read-value : tie.Need-array-read-value Inv-loop μ-loop
-array-read-value c = search needs
+element-copy-out-value : tie.Need-element-copy-out-value Inv-loop μ-loop
+element-copy-out-value c = search needs
 
 shared-slice-read-wide8 : tie.Need-shared-slice-read-wide8 Inv-loop μ-loop
 shared-slice-read-wide8 c = search needs
@@ -36,13 +36,13 @@ wide32-requires c κs = search needs
 
 -- What a turn adds.
 more : (c : tie.After-wide32 Inv-loop μ-loop)
-    → let a = c .before .before .before .before .before .before .args in
-    SumMore (c .before .before .before .before .loop .i) (at (a .t1)) (at (a .counts .now)) (c .before .before .before .before .loop .sum) (c .before .wide8 .result * c .wide32 .result) (2 ^ 64)
+    → let a = c .before .before .before .before .before .before .before .args in
+    SumMore (c .before .before .before .before .before .loop .i) (at (a .values .now)) (at (a .counts .now)) (c .before .before .before .before .before .loop .sum) (c .before .wide8 .result * c .wide32 .result) (2 ^ 64)
 more c =
-    let a = c .before .before .before .before .before .before .args in
-    let l = c .before .before .before .before .loop in
-    sum-more (l .i) (length (a .counts .now)) (at (a .t1)) (at (a .counts .now)) (2 ^ 64) (l .sum) (c .before .wide8 .result) (c .wide32 .result) (omega arith)
-    (c .before .before .before .before .before .before .pre .1) (l .inv .1) (c .before .wide8 .ensures) (c .wide32 .ensures)
+    let a = c .before .before .before .before .before .before .before .args in
+    let l = c .before .before .before .before .before .loop in
+    sum-more (l .i) (length (a .counts .now)) (at (a .values .now)) (at (a .counts .now)) (2 ^ 64) (l .sum) (c .before .wide8 .result) (c .wide32 .result) (omega arith)
+    (c .before .before .before .before .before .before .before .pre .1) (l .inv .1) (c .before .wide8 .ensures) (c .wide32 .ensures)
 
 mul-sum : tie.Need-mul-sum Inv-loop μ-loop
 mul-sum c = record { fits = more c .product-fits }
@@ -72,7 +72,7 @@ weight-spec =
     μ-loop
     loop-holds
     mul-value
-    array-read-value
+    element-copy-out-value
     shared-slice-read-wide8
     wide8-requires
     wide32-requires
