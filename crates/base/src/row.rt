@@ -59,7 +59,7 @@ fn suits(
         let other = codes[m];
         if other == code {
             let kind = kinds[m];
-            if earlier(norms, k, kind) {
+            if earlier(&norms, k, kind) {
                 let own = kind * 32 + kind;
                 let count = rows[own];
                 return count == 1;

@@ -46,7 +46,7 @@ pub fn lowering_lines(s: &[u8], card: Card, norms: [u32; 32]) -> [bool; 256]
     let mut lowering = [false; 256];
     let mut j = 0;
     while j < lines {
-        lowering[j] = lowers(s, card, norms, j);
+        lowering[j] = lowers(s, card, &norms, j);
         j += 1;
     }
     lowering

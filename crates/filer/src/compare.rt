@@ -77,7 +77,7 @@ fn rounds_at(
     let kinds = card.kinds;
     let one = field_norm(kinds, norms, card.field(s, first));
     let other = field_norm(kinds, norms, card.field(s, second));
-    let most = gain(s, card, norms);
+    let most = gain(s, card, &norms);
     if one < other {
         return rounds_for(one, most, stage);
     }

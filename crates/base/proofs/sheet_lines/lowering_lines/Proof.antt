@@ -32,7 +32,7 @@ loop-less : tie.Need-loop-less Inv-loop μ-loop
 loop-less c = search needs
 
 loop-again : tie.Need-loop-again Inv-loop μ-loop
-loop-again c = filled-more (c .before .before .loop .inv) _ (c .before .loop-test .taken) (c .lowers .ensures)
+loop-again c = filled-more (c .before .before .before .loop .inv) _ (c .before .before .loop-test .taken) (c .lowers .ensures)
 
 returns : tie.Need-returns Inv-loop μ-loop
 returns c = record { long = c .before .loop .inv .long; holds = filled-all (c .before .loop .inv) (c .loop-test .left) }
