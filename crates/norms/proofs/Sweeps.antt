@@ -5,7 +5,7 @@ use Prim.Native.Nat.{ℕ, suc, _+_, _-_, _≤_, _<_, min}
 use native.Mathlib.Decide.{decLt}
 use native.Mathlib.Numerals.{add-one}
 use native.Mathlib.Omega.{arith}
-use lib.ListN.{replicate}
+use lib.ListN.{set, replicate}
 use Rattle.model.specs.Finite.{listFrom}
 use Rattle.model.specs.Field.{Field, at}
 use Rattle.model.specs.Card.{Line}
@@ -16,39 +16,86 @@ use Rattle.model.proofs.Cut.{cutSweeps, cut-sweeps, cut-norm}
 use Rattle.model.proofs.Sweeps.{value-kind}
 use Rattle.sheet.specs.Reader.{Reads}
 use Rattle.sheet.specs.declared.reader.Card.{Card}
+use Rattle.sheet.proofs.Counts.{counts-below, counts-past, at-counts, from-set, counts-none}
 use Rattle.sheet.proofs.Laws.{kinds-are, kinds-most, card-kinds, card-lines}
 use Rattle.norms.specs.Norms.{arrayOf, cutNorms}
-use Rattle.norms.specs.Sweep.{AtMost, sweepOf, lineValue, lesserOf}
+use Rattle.norms.specs.Sweep.{AtMost, sweepOf, readValue, lesserOf}
 use Rattle.norms.proofs.Arrays.{array-at, list-at, list-back}
-use Rattle.norms.proofs.Values.{best-first, lesser-cut}
+use Rattle.norms.proofs.Values.{lineValue, line-other, line-own, lesser-right, best-first, lesser-cut}
 
 -- The search for the best line, from the last line back: no line at first, one line more at each turn, all of them at the end.
 module _ (n : ℕ) (w : ℕ → ℕ) (k : ℕ) (line : ℕ → Line) (m : ℕ) where
-  pub best-start : (limit : ℕ) → 0 ≡ min (best n w k (listFrom line m (m - m))) (suc limit)
+  best-start : (limit : ℕ) → 0 ≡ min (best n w k (listFrom line m (m - m))) (suc limit)
   unfolding best listFrom
   best-start limit = let z : m - m ≡ 0 = omega arith in rw z (omega arith)
 
-  pub best-more : (j limit found value next : ℕ) → 0 < j → j ≤ m → found ≡ min (best n w k (listFrom line j (m - j))) (suc limit)
+  best-more : (j limit found value next : ℕ) → 0 < j → j ≤ m → found ≡ min (best n w k (listFrom line j (m - j))) (suc limit)
       → value ≡ min (lineValue n w k (line (j - 1))) (suc limit) → next ≡ lesserOf value found
       → next ≡ min (best n w k (listFrom line (j - 1) (m - (j - 1)))) (suc limit)
   best-more j limit found value next h i e d f =
       f ∙ rw (d, e) (sym (lesser-cut limit (lineValue n w k (line (j - 1))) (best n w k (listFrom line j (m - j)))))
       ∙ ap (λ x. min x (suc limit)) (sym (best-first n w k (line (j - 1)) (listFrom line j (m - j))) ∙ ap (best n w k) (sym (list-back line j m h i)))
 
-pub best-end : {s : List ℕ} {c : Card} (R : Reads s c) (w : ℕ → ℕ) (k j limit found : ℕ) → j ≡ 0
-    → found ≡ min (best (c .kinds) w k (listFrom (lineOf s) j (c .lines - j))) (suc limit) → found ≡ min (best (c .kinds) w k (cardOf s .lines)) (suc limit)
-best-end {s} {c} R w k j limit found z e =
-    let y : c .lines - 0 ≡ c .lines = omega arith in
-    rw (card-lines R) (rw (z, y) at e)
-
 -- One sweep: each kind's best value, cut.
-abbrev pub bestCut : ℕ → (ℕ → ℕ) → List Line → ℕ → ℕ
+abbrev bestCut : ℕ → (ℕ → ℕ) → List Line → ℕ → ℕ
 bestCut n w ls k = min (best n w k ls) (suc normLimit)
 
-pub sweep-end : {s : List ℕ} {c : Card} (R : Reads s c) (w : ℕ → ℕ) (k : ℕ) (xs : List ℕ) → k ≡ c .kinds
-    → xs ≡ arrayOf (counts k (bestCut (c .kinds) w (cardOf s .lines))) → xs ≡ sweepOf s w
+-- What a sweep has found of n kinds once the lines from j up, of m, were taken.
+abbrev pub foundFrom : ℕ → (ℕ → ℕ) → (ℕ → Line) → ℕ → ℕ → Field
+foundFrom n w line m j = counts n (bestCut n w (listFrom line j (m - j)))
+
+-- A sweep, from the last line back: nothing is found at first, and each line more can better the value of its own kind alone.
+module _ (n : ℕ) (w : ℕ → ℕ) (line : ℕ → Line) (m : ℕ) where
+  found-none : (k : ℕ) → foundFrom n w line m m k ≡ 0
+  found-none k = go (decLt k n)
+    where
+      f : ℕ → ℕ
+      f = bestCut n w (listFrom line m (m - m))
+
+      go : Dec (k < n) → counts n f k ≡ 0
+      go (yes h) = counts-below n f k h ∙ sym (best-start n w k line m normLimit)
+      go (no h) = counts-past n f k (omega arith)
+
+  pub found-start : replicate mostKinds 0 ≡ arrayOf (foundFrom n w line m m)
+  found-start =
+      let f : ℕ → ℕ = bestCut n w (listFrom line m (m - m)) in
+      counts-none f mostKinds ∙ ap arrayOf (fun-ext (λ k. counts-past 0 f k (omega arith) ∙ sym (found-none k)))
+
+  module _ (few : n ≤ mostKinds) (j : ℕ) (some : 0 < j) (within : j ≤ m) (own : line (j - 1) .kind < n) where
+    abbrev before : ℕ → ℕ
+    before = bestCut n w (listFrom line j (m - j))
+
+    abbrev after : ℕ → ℕ
+    after = bestCut n w (listFrom line (j - 1) (m - (j - 1)))
+
+    found-other : (k : ℕ) → ¬ (k ≡ line (j - 1) .kind) → counts n before k ≡ counts n after k
+    found-other k d = go (decLt k n)
+      where
+        same : before k ≡ after k
+        same =
+            best-more n w k line m j normLimit (before k) 0 (before k) some within refl (omega (arith, line-other n w k (line (j - 1)) (λ e. d (sym e))))
+            (sym (lesser-right 0 (before k) refl))
+
+        go : Dec (k < n) → counts n before k ≡ counts n after k
+        go (yes h) = counts-below n before k h ∙ same ∙ sym (counts-below n after k h)
+        go (no h) = counts-past n before k (omega arith) ∙ sym (counts-past n after k (omega arith))
+
+    pub found-more : (xs : List ℕ) (k value next : ℕ) → k ≡ line (j - 1) .kind → xs ≡ arrayOf (foundFrom n w line m j)
+        → value ≡ min (readValue n w (line (j - 1) .left)) (suc normLimit) → next ≡ lesserOf value (at xs k)
+        → set xs k next ≡ arrayOf (foundFrom n w line m (j - 1))
+    found-more xs k value next kind e d f =
+        let h : k < n = omega arith in
+        let held : at xs k ≡ before k = ap (λ (l : List ℕ). at l k) e ∙ ap (λ (g : Field). g k) (at-counts n mostKinds before few) ∙ counts-below n before k h in
+        let given : value ≡ min (lineValue n w k (line (j - 1))) (suc normLimit) = d ∙ ap (λ x. min x (suc normLimit)) (sym (line-own n w k (line (j - 1)) (sym kind))) in
+        let better : next ≡ after k = best-more n w k line m j normLimit (at xs k) value next some within held given f in
+        rw e (from-set (counts n before) (counts n after) mostKinds k next (omega arith) (better ∙ sym (counts-below n after k h)) (λ i q. found-other i (λ z. q (z ∙ sym kind))))
+
+pub found-end : {s : List ℕ} {c : Card} (R : Reads s c) (w : ℕ → ℕ) (j : ℕ) (xs : List ℕ) → j ≡ 0 → xs ≡ arrayOf (foundFrom (c .kinds) w (lineOf s) (c .lines) j)
+    → xs ≡ sweepOf s w
 unfolding sweepOf
-sweep-end R w k xs z e = rw (z, kinds-are R) at e
+found-end {s} {c} R w j xs z e =
+    let y : c .lines - 0 ≡ c .lines = omega arith in
+    rw (z, y, ← card-lines R, kinds-are R) at e
 
 -- The values of the sheet's kinds after d sweeps, cut.
 abbrev pub swept : List ℕ → ℕ → Field

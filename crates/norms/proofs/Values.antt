@@ -13,7 +13,7 @@ use Rattle.model.specs.Field.{Field, weigh, weighFrom}
 use Rattle.model.specs.Card.{Line}
 use Rattle.model.specs.Norm.{ready, sooner, best}
 use Rattle.model.specs.Base.{earlier}
-use Rattle.norms.specs.Sweep.{readValue, lesserOf, lineValue}
+use Rattle.norms.specs.Sweep.{readValue, lesserOf}
 
 -- "the norm of its first kind's tokens plus the norm of the rest"
 pub rest-none : (i m : ℕ) (w : ℕ → ℕ) (a : Field) → m ≡ 0 → weighFrom i m w a ≡ 0
@@ -81,7 +81,10 @@ module _ (p : ℕ → Bool) (i m : ℕ) where
   unfolding leastFrom
   least-end h = let z : m - i ≡ 0 = omega arith in rw z
 
--- The value that a line gives a kind.
+-- The value that a line gives kind k: that of a read by it, if it is a line of k.
+unfoldable pub lineValue : ℕ → (ℕ → ℕ) → ℕ → Line → ℕ
+lineValue n w k l = elim (eqb (l .kind) k) [ true ↦ readValue n w (l .left) | false ↦ 0 ]
+
 pub line-other : (n : ℕ) (w : ℕ → ℕ) (k : ℕ) (l : Line) → ¬ (l .kind ≡ k) → lineValue n w k l ≡ 0
 unfolding lineValue
 line-other n w k l h = rw (ne-eqb (l .kind) k h, lineValue)

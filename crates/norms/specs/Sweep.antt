@@ -4,7 +4,6 @@ use mathlib.Core.List.{List}
 use Prim.Native.Nat.{ℕ, suc, _≤_, min}
 use lib.Dec.{eqb}
 use Rattle.model.specs.Field.{Field, weigh, at}
-use Rattle.model.specs.Card.{Line}
 use Rattle.model.specs.Norm.{ready, sooner, best}
 use Rattle.model.specs.Sheet.{kindCount, counts, cardOf}
 use Rattle.model.specs.Limits.{normLimit}
@@ -21,10 +20,6 @@ readValue n w a = elim (ready n w a) [ true ↦ suc (weigh n w a) | false ↦ 0 
 -- The lesser of two values, where 0 is none.
 unfoldable pub lesserOf : ℕ → ℕ → ℕ
 lesserOf x y = elim (eqb x 0) [ true ↦ y | false ↦ sooner x y ]
-
--- The value that a line gives kind k: that of a read by it, if it is a line of k.
-unfoldable pub lineValue : ℕ → (ℕ → ℕ) → ℕ → Line → ℕ
-lineValue n w k l = elim (eqb (l .kind) k) [ true ↦ readValue n w (l .left) | false ↦ 0 ]
 
 -- The values after one more sweep over the kinds.
 unfoldable pub sweepOf : List ℕ → (ℕ → ℕ) → List ℕ

@@ -1,51 +1,87 @@
--- The kinds passed have their new values.
+-- The kinds hold the best values of the lines from j on.
 use borrow.Author.Needs.{needs}
-use mathlib.Core.Path.{_≡_}
-use Prim.Native.Nat.{_-_, _≤_}
+use mathlib.Core.Path.{_≡_, _∙_, ap}
+use Prim.Native.Nat.{suc, _-_, _≤_, _<_, min}
 use native.Mathlib.Omega.{arith}
 use Rattle.model.specs.Field.{at}
-use Rattle.model.specs.Sheet.{counts, cardOf}
-use Rattle.model.specs.Limits.{mostKinds}
-use Rattle.sheet.proofs.Counts.{counts-none, counts-more}
-use Rattle.sheet.proofs.Laws.{kinds-most}
+use Rattle.model.specs.Sheet.{lineOf}
+use Rattle.model.specs.Limits.{mostKinds, normLimit}
+use Rattle.sheet.proofs.Laws.{kinds-most, kind-under}
 use Rattle.norms.specs.Norms.{arrayOf}
-use Rattle.norms.proofs.Sweeps.{bestCut, sweep-end}
+use Rattle.norms.specs.Sweep.{readValue}
+use Rattle.norms.proofs.Laws.{kind-most, part-short, part-left}
+use Rattle.norms.proofs.Sweeps.{foundFrom, found-start, found-more, found-end}
 use Rattle.norms.proofs.kinds.sweep.Statement.{statement}
 use Rattle.norms.proofs.kinds.sweep.Tie as tie
 
 abbrev Inv-loop : tie.InvT-loop
-Inv-loop s card values kinds next₀ k₀ next k = (k ≤ card .kinds) × (next ≡ arrayOf (counts k (bestCut (card .kinds) (at values) (cardOf s .lines))))
+Inv-loop s card values next₀ j₀ next j = (j ≤ card .lines) × (next ≡ arrayOf (foundFrom (card .kinds) (at values) (lineOf s) (card .lines) j))
 
 abbrev μ-loop : tie.MeasureT-loop
-μ-loop s card values kinds next₀ k₀ next k = card .kinds - k
+μ-loop s card values next₀ j₀ next j = j
 
 loop-holds : tie.Need-loop-holds Inv-loop μ-loop
 loop-holds c =
     let a = c .before .args in
-    (search needs, counts-none (bestCut (a .card .kinds) (at (a .values .now)) (cardOf (a .s .now) .lines)) mostKinds)
+    (search needs, found-start (a .card .kinds) (at (a .values .now)) (lineOf (a .s .now)) (a .card .lines))
 
-best-requires : tie.Need-best-requires Inv-loop μ-loop
-best-requires c κs = search needs
+sub-j : tie.Need-sub-j Inv-loop μ-loop
+sub-j c = search needs
+
+line-kind-requires : tie.Need-line-kind-requires Inv-loop μ-loop
+line-kind-requires c κs = search needs
+
+line-counts-requires : tie.Need-line-counts-requires Inv-loop μ-loop
+line-counts-requires c κs = search needs
+
+read-value-requires : tie.Need-read-value-requires Inv-loop μ-loop
+read-value-requires c κs =
+    let b = c .before .before .before .before .before in
+    (part-short (b .pre .0) (c .before .before .before .loop .j - 1) _ (c .line-counts .ensures), b .pre .1)
+
+-- The line's kind is one of the card's.
+own-kind : (c : tie.After-read-value Inv-loop μ-loop) → c .before .before .line-kind .result < mostKinds
+own-kind c =
+    let b = c .before .before .before .before .before .before in
+    let l = c .before .before .before .before .loop in
+    omega (arith, c .before .before .line-kind .ensures, kind-most (b .pre .0) (l .j - 1) (omega arith))
+
+mul-held : tie.Need-mul-held Inv-loop μ-loop
+mul-held c = omega (arith, own-kind c)
+
+array-read-held : tie.Need-array-read-held Inv-loop μ-loop
+array-read-held c = own-kind c
+
+lesser-requires : tie.Need-lesser-requires Inv-loop μ-loop
+lesser-requires c κs = search needs
 
 mul-next : tie.Need-mul-next Inv-loop μ-loop
-mul-next c = omega (arith, kinds-most (c .before .before .before .before .pre .0))
+mul-next c = omega (arith, own-kind (c .before))
 
 array-write-next : tie.Need-array-write-next Inv-loop μ-loop
-array-write-next c = omega (arith, kinds-most (c .before .before .before .before .pre .0))
-
-add-k : tie.Need-add-k Inv-loop μ-loop
-add-k c = omega (arith, kinds-most (c .before .before .before .before .pre .0))
+array-write-next c = own-kind (c .before)
 
 loop-less : tie.Need-loop-less Inv-loop μ-loop
 loop-less c = search needs
 
 loop-again : tie.Need-loop-again Inv-loop μ-loop
-loop-again c = (search needs, counts-more _ _ _ _ _ (array-write-next c) (c .before .before .loop .inv .1) (c .best .ensures))
+loop-again c =
+    let v = c .before in
+    let b = v .before .before .before .before .before .before in
+    let a = b .args in
+    let l = v .before .before .before .before .loop in
+    let R = b .pre .0 in
+    let value = v .read-value .ensures
+    ∙ ap (λ x. min x (suc normLimit)) (part-left R (l .j - 1) _ (v .before .line-counts .ensures) (λ n f. readValue n (at (a .values .now)) f)) in (
+      search needs,
+      found-more (a .card .kinds) (at (a .values .now)) (lineOf (a .s .now)) (a .card .lines) (kinds-most R) (l .j) (v .before .before .before .loop-test .taken) (l .inv .0)
+          (kind-under R (l .j - 1) (omega arith)) (l .next) _ _ _ (v .before .before .line-kind .ensures) (l .inv .1) value (c .lesser .ensures),
+    )
 
 returns : tie.Need-returns Inv-loop μ-loop
 returns c =
     let b = c .before .before .before in
-    sweep-end (b .pre .0) (at (b .args .values .now)) (c .before .loop .k) _ (omega arith) (c .before .loop .inv .1)
+    found-end (b .pre .0) (at (b .args .values .now)) (c .before .loop .j) _ (omega arith) (c .before .loop .inv .1)
 
 pub sweep-spec : {M : Type 1} → statement M
 sweep-spec =
@@ -54,10 +90,15 @@ sweep-spec =
     Inv-loop
     μ-loop
     loop-holds
-    best-requires
+    sub-j
+    line-kind-requires
+    line-counts-requires
+    read-value-requires
+    mul-held
+    array-read-held
+    lesser-requires
     mul-next
     array-write-next
-    add-k
     loop-less
     loop-again
     returns)
