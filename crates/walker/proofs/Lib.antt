@@ -1,6 +1,7 @@
 -- What the proofs of the functions cite.
 pub mod Fields  -- fields as lists of counts: one token less, a line's use, how far the counts grow
 pub mod Searches  -- the search for the next line that passes a test
+pub mod Following  -- the table of the lines that follow, and the search through it
 pub mod Cuts  -- what the allowance cuts off, one part of the walk after another
 pub mod Challenges  -- challenges and replies by lines in order
 pub mod Pairs  -- a pair that is examined

@@ -1,4 +1,6 @@
 // The walk as it is called: the checks, the numbers of rounds one after another, and the session.
+use crate::follow::ENTRIES;
+use crate::follow::fill_table;
 use crate::game::Examined;
 use crate::game::examine_pair;
 use sheet::Card;
@@ -13,6 +15,7 @@ ghost use Rattle.model.specs.Walk as model;
 ghost use Rattle.model.specs.Answer.{within, walkOf};
 ghost use Rattle.sheet.specs.Reader.{Reads};
 ghost use Rattle.walker.specs.Rounds.{Bounded};
+ghost use Rattle.walker.specs.Following.{Follows};
 ghost use Rattle.walker.specs.Answers.{sessionOf, walkedOf, refusedOf};
 
 // "the allowance, 32 bits for all callers together, [belongs] to the session": what is left of it.
@@ -61,12 +64,13 @@ fn refuse(number: usize, place: usize, session: Session) -> Walked
 fn try_rounds(
     card: Card,
     s: &[u8],
+    t: &[u16],
     a: &[u32; 32],
     b: &[u32; 32],
     limit: u64,
     session: Session,
 ) -> Walked
-    requires { ⌜ Reads (now s) card ⌝ }
+    requires { ⌜ Reads (now s) card × Follows (now s) (now t) ⌝ }
     requires { ⌜ limit ≤ mostRounds ⌝ }
     requires { ⌜ Bounded mostRounds (now a) × Bounded mostRounds (now b) ⌝ }
     ensures { λ r. ⌜
@@ -76,7 +80,7 @@ fn try_rounds(
     let mut left = allowance;
     let mut rounds: u64 = 1;
     while rounds <= limit {
-        match examine_pair(card, s, rounds, a, b, left) {
+        match examine_pair(card, s, t, rounds, a, b, left) {
             Examined::Holds(rest) => {
                 left = rest;
             }
@@ -104,7 +108,7 @@ fn try_rounds(
     }
 }
 
-// The walk on a card that was read: 11 and 13 are checked, and the fields are read.
+// The walk on a card that was read: 11 and 13 are checked, the fields are read, and the table of the lines that follow is made, 33 KB in this frame.
 fn walk_card(
     card: Card,
     s: &[u8],
@@ -128,7 +132,9 @@ fn walk_card(
     }
     let a = card.field(s, first);
     let b = card.field(s, second);
-    try_rounds(card, s, &a, &b, limit, session)
+    let mut t = [0u16; ENTRIES];
+    fill_table(card, s, &mut t);
+    try_rounds(card, s, &t, &a, &b, limit, session)
 }
 
 // Walk: "two fields, a round limit 0 to 8, a session".

@@ -1,10 +1,10 @@
 // A pair of fields at a number of rounds. "A challenge at r rounds is tried against replies at r - 1": challenge and reply call each other,
-// with fewer rounds left or fewer lines left.
+// with fewer rounds left or fewer lines left. t is the table of the lines that follow.
 // The stack: after a line, challenge and reply go on with one half of the lines left and then with the other, so that with 256 lines at
 // most 10 calls of each stand at once in a round, whether or not the back end removes a call. The two fields of the next pair live in
 // the frame of examine_left, which exists once a round. So 8 rounds have at most 8 × (10 + 10 + 2) = 176 calls at once. Measured on the deepest sheet
-// (`deep` of crates/walks: 256 lines of one code, and the last line of 256 goes on in each round): 94 KB in the program walking, of which
-// it needs 24 KB for a walk of no rounds.
+// (`deep` of crates/walks: 256 lines of one code, and the last line of 256 goes on in each round): 124 KB in the program walking, of which
+// it needs 55 KB for a walk of no rounds, 33 KB of them for the table.
 use crate::lines::next_challenge;
 use crate::lines::next_reply;
 use crate::moves::use_line;
@@ -19,6 +19,7 @@ ghost use Rattle.model.specs.Sheet.{lineOf, cardOf};
 ghost use Rattle.model.specs.Walk.{tryReplies, tryChallenges, examine};
 ghost use Rattle.sheet.specs.Reader.{Reads};
 ghost use Rattle.walker.specs.Rounds.{Bounded, within, examined, leaves, linesBetween};
+ghost use Rattle.walker.specs.Following.{Follows};
 
 // A part of the walk: whether it holds, with what is left of the allowance, or spent where its count passes the allowance.
 pub enum Examined {
@@ -31,6 +32,7 @@ pub enum Examined {
 fn challenge(
     card: Card,
     s: &[u8],
+    t: &[u16],
     rounds: u64,
     second: bool,
     from: usize,
@@ -39,7 +41,7 @@ fn challenge(
     b: &[u32; 32],
     allowance: u32,
 ) -> Examined
-    requires { ⌜ Reads (now s) card ⌝ }
+    requires { ⌜ Reads (now s) card × Follows (now s) (now t) ⌝ }
     requires { ⌜ (0 < rounds) × (rounds ≤ mostRounds) × (from ≤ to) × (to ≤ card .lines) ⌝ }
     requires { ⌜ Bounded rounds (now a) × Bounded rounds (now b) ⌝ }
     ensures { λ r. ⌜
@@ -55,6 +57,7 @@ fn challenge(
     let answered = reply(
         card,
         s,
+        t,
         rounds - 1,
         second,
         line,
@@ -66,9 +69,11 @@ fn challenge(
     );
     match answered {
         Examined::Holds(left) => {
-            let half = challenge(card, s, rounds, second, next, middle, a, b, left);
+            let half = challenge(card, s, t, rounds, second, next, middle, a, b, left);
             match half {
-                Examined::Holds(rest) => challenge(card, s, rounds, second, middle, to, a, b, rest),
+                Examined::Holds(rest) => {
+                    challenge(card, s, t, rounds, second, middle, to, a, b, rest)
+                }
                 Examined::Fails(rest) => Examined::Fails(rest),
                 Examined::Spent => Examined::Spent,
             }
@@ -82,6 +87,7 @@ fn challenge(
 fn reply(
     card: Card,
     s: &[u8],
+    t: &[u16],
     rounds: u64,
     second: bool,
     line: usize,
@@ -91,28 +97,28 @@ fn reply(
     b: &[u32; 32],
     allowance: u32,
 ) -> Examined
-    requires { ⌜ Reads (now s) card ⌝ }
+    requires { ⌜ Reads (now s) card × Follows (now s) (now t) ⌝ }
     requires { ⌜ (rounds < mostRounds) × (line < card .lines) × (from ≤ to) × (to ≤ card .lines) ⌝ }
     requires { ⌜ Bounded (rounds + 1) (now a) × Bounded (rounds + 1) (now b) ⌝ }
     ensures { λ r. ⌜
         r ≡ examined allowance (tryReplies (leaves second (cardOf (now (s .entry)) .lines) rounds) (lineOf (now (s .entry)) line)
         (fire (lineOf (now (s .entry)) line) (at (now (a .entry)))) (at (now (b .entry))) (linesBetween (lineOf (now (s .entry))) from to)) ⌝ }
 {
-    let answer = next_reply(card, s, from, to, line, b);
+    let answer = next_reply(card, s, t, from, to, line, b);
     if answer == to {
         return Examined::Fails(allowance);
     }
     let next = answer + 1;
     let middle = next + (to - next) / 2;
-    let examined = examine_left(card, s, rounds, second, line, answer, a, b, allowance);
+    let examined = examine_left(card, s, t, rounds, second, line, answer, a, b, allowance);
     match examined {
         Examined::Holds(left) => Examined::Holds(left),
         Examined::Fails(left) => {
-            let half = reply(card, s, rounds, second, line, next, middle, a, b, left);
+            let half = reply(card, s, t, rounds, second, line, next, middle, a, b, left);
             match half {
                 Examined::Holds(rest) => Examined::Holds(rest),
                 Examined::Fails(rest) => {
-                    reply(card, s, rounds, second, line, middle, to, a, b, rest)
+                    reply(card, s, t, rounds, second, line, middle, to, a, b, rest)
                 }
                 Examined::Spent => Examined::Spent,
             }
@@ -136,6 +142,7 @@ fn hold(allowance: u32) -> Examined
 fn examine_left(
     card: Card,
     s: &[u8],
+    t: &[u16],
     rounds: u64,
     second: bool,
     line: usize,
@@ -144,7 +151,7 @@ fn examine_left(
     b: &[u32; 32],
     allowance: u32,
 ) -> Examined
-    requires { ⌜ Reads (now s) card ⌝ }
+    requires { ⌜ Reads (now s) card × Follows (now s) (now t) ⌝ }
     requires { ⌜ (rounds < mostRounds) × (line < card .lines) × (answer < card .lines) ⌝ }
     requires { ⌜ Bounded (rounds + 1) (now a) × Bounded (rounds + 1) (now b) ⌝ }
     ensures { λ r. ⌜
@@ -157,9 +164,9 @@ fn examine_left(
     let x = use_line(card, s, line, a);
     let y = use_line(card, s, answer, b);
     if second {
-        examine_pair(card, s, rounds, &y, &x, allowance)
+        examine_pair(card, s, t, rounds, &y, &x, allowance)
     } else {
-        examine_pair(card, s, rounds, &x, &y, allowance)
+        examine_pair(card, s, t, rounds, &x, &y, allowance)
     }
 }
 
@@ -167,12 +174,13 @@ fn examine_left(
 pub fn examine_pair(
     card: Card,
     s: &[u8],
+    t: &[u16],
     rounds: u64,
     a: &[u32; 32],
     b: &[u32; 32],
     allowance: u32,
 ) -> Examined
-    requires { ⌜ Reads (now s) card ⌝ }
+    requires { ⌜ Reads (now s) card × Follows (now s) (now t) ⌝ }
     requires { ⌜ rounds ≤ mostRounds ⌝ }
     requires { ⌜ Bounded rounds (now a) × Bounded rounds (now b) ⌝ }
     ensures { λ r. ⌜ r ≡ examined allowance (examine (cardOf (now (s .entry)) .lines) rounds (at (now (a .entry))) (at (now (b .entry)))) ⌝ }
@@ -183,8 +191,9 @@ pub fn examine_pair(
     if allowance == 0 {
         return Examined::Spent;
     }
-    match challenge(card, s, rounds, false, 0, card.lines, a, b, allowance - 1) {
-        Examined::Holds(rest) => challenge(card, s, rounds, true, 0, card.lines, b, a, rest),
+    let lines = card.lines;
+    match challenge(card, s, t, rounds, false, 0, lines, a, b, allowance - 1) {
+        Examined::Holds(rest) => challenge(card, s, t, rounds, true, 0, lines, b, a, rest),
         Examined::Fails(rest) => Examined::Fails(rest),
         Examined::Spent => Examined::Spent,
     }

@@ -1,4 +1,5 @@
 // The next line that a side may use.
+use crate::follow::following;
 use sheet::Card;
 ghost use mathlib.Core.Path.{_≡_};
 ghost use Prim.Native.Nat.{_≤_, _<_};
@@ -6,6 +7,7 @@ ghost use Rattle.model.specs.Field.{at};
 ghost use Rattle.model.specs.Sheet.{lineOf};
 ghost use Rattle.sheet.specs.Reader.{Reads};
 ghost use Rattle.walker.specs.Rounds.{usable, answers, nextLine};
+ghost use Rattle.walker.specs.Following.{Follows};
 
 // Whether the field may use line j.
 fn may_use(card: Card, s: &[u8], j: usize, a: &[u32; 32]) -> bool
@@ -15,19 +17,6 @@ fn may_use(card: Card, s: &[u8], j: usize, a: &[u32; 32]) -> bool
 {
     let kind = card.line_kind(s, j);
     0 < a[kind]
-}
-
-// Whether line j is a reply of the field to a challenge by `line`.
-fn may_answer(card: Card, s: &[u8], j: usize, line: usize, b: &[u32; 32]) -> bool
-    requires { ⌜ Reads (now s) card ⌝ }
-    requires { ⌜ (j < card .lines) × (line < card .lines) ⌝ }
-    ensures { λ r. ⌜ r ≡ answers (lineOf (now (s .entry)) line) (at (now (b .entry))) (lineOf (now (s .entry)) j) ⌝ }
-{
-    if may_use(card, s, j, b) {
-        card.line_code(s, j) == card.line_code(s, line)
-    } else {
-        false
-    }
 }
 
 // The first line from `from` up to `to` that the field may use; `to` where it may use none.
@@ -46,25 +35,27 @@ pub fn next_challenge(card: Card, s: &[u8], from: usize, to: usize, a: &[u32; 32
     line
 }
 
-// The first line from `from` up to `to` that is a reply of the field to a challenge by `challenge`; `to` where none is.
+// The first line from `from` up to `to` that is a reply of the field to a challenge by `challenge`; `to` where none is. The table leads from one line of the challenge's code to the next.
 pub fn next_reply(
     card: Card,
     s: &[u8],
+    t: &[u16],
     from: usize,
     to: usize,
     challenge: usize,
     b: &[u32; 32],
 ) -> usize
-    requires { ⌜ Reads (now s) card ⌝ }
+    requires { ⌜ Reads (now s) card × Follows (now s) (now t) ⌝ }
     requires { ⌜ (from ≤ to) × (to ≤ card .lines) × (challenge < card .lines) ⌝ }
     ensures { λ r. ⌜ r ≡ nextLine (answers (lineOf (now (s .entry)) challenge) (at (now (b .entry)))) (lineOf (now (s .entry))) from to ⌝ }
 {
-    let mut line = from;
+    let code = card.line_code(s, challenge);
+    let mut line = following(t, from, code);
     while line < to {
-        if may_answer(card, s, line, challenge, b) {
+        if may_use(card, s, line, b) {
             return line;
         }
-        line += 1;
+        line = following(t, line + 1, code);
     }
-    line
+    to
 }

@@ -56,29 +56,38 @@ field-requires c κs = search needs
 field-requires-2 : tie.Need-field-requires-2
 field-requires-2 c κs = search needs
 
+slice-aggregate-fill-table : tie.Need-slice-aggregate-fill-table
+slice-aggregate-fill-table c = search needs
+
+fill-table-requires : tie.Need-fill-table-requires
+fill-table-requires c κs = search needs
+
+slice-aggregate-try-rounds : tie.Need-slice-aggregate-try-rounds
+slice-aggregate-try-rounds c = search needs
+
 try-rounds-requires : tie.Need-try-rounds-requires
 try-rounds-requires c κs =
-    let a = c .before .before .before .before .before .before .before .before .args in
-    let read = c .before .before .before .before .before .before .before .before .pre in (
-      read,
+    let a = c .before .before .before .before .before .before .before .before .before .before .before .before .args in
+    let read = c .before .before .before .before .before .before .before .before .before .before .before .before .pre in (
+      (read, c .before .before .before .before .fill-table .ensures),
       (
-        omega (arith, c .before .before .before .before .if3 .left),
+        omega (arith, c .before .before .before .before .before .before .before .before .if3 .left),
         (
-          field-bounded read (a .first) _ (c .before .before .before .field .ensures) (λ k. omega (arith, c .before .before .before .before .before .before .before .shared-slice-known .given k)),
-          field-bounded read (a .second) _ (c .before .before .field2 .ensures) (λ k. omega (arith, c .before .before .before .before .before .before .before .shared-slice-known .given k)),
+          field-bounded read (a .first) _ (c .before .before .before .before .before .before .before .field .ensures) (λ k. omega (arith, c .before .before .before .before .before .before .before .before .before .before .before .shared-slice-known .given k)),
+          field-bounded read (a .second) _ (c .before .before .before .before .before .before .field2 .ensures) (λ k. omega (arith, c .before .before .before .before .before .before .before .before .before .before .before .shared-slice-known .given k)),
         ),
       ),
     )
 
 returns-4 : tie.Need-returns-4
 returns-4 c =
-    let a = c .before .before .before .before .before .before .before .before .before .args in
-    let read = c .before .before .before .before .before .before .before .before .before .pre in
+    let a = c .before .before .before .before .before .before .before .before .before .before .before .before .before .args in
+    let read = c .before .before .before .before .before .before .before .before .before .before .before .before .before .pre in
     c .try-rounds .ensures
     ∙ full-walk (a .s .now) (a .first) (a .second) (a .limit) (sessionOf (a .session)) _ _
-    (ap at (c .before .before .before .before .field .ensures) ∙ field-counts-at read (a .first))
-    (ap at (c .before .before .before .field2 .ensures) ∙ field-counts-at read (a .second))
-    ∙ call-walks (a .s .now) (a .first) (a .second) (a .limit) (sessionOf (a .session)) (read .passed) (first-field (c .before .before .before .before .before .before .before)) (second-field (c .before .before .before .before .before .before)) (omega (arith, c .before .before .before .before .before .if3 .left))
+    (ap at (c .before .before .before .before .before .before .before .before .field .ensures) ∙ field-counts-at read (a .first))
+    (ap at (c .before .before .before .before .before .before .before .field2 .ensures) ∙ field-counts-at read (a .second))
+    ∙ call-walks (a .s .now) (a .first) (a .second) (a .limit) (sessionOf (a .session)) (read .passed) (first-field (c .before .before .before .before .before .before .before .before .before .before .before)) (second-field (c .before .before .before .before .before .before .before .before .before .before)) (omega (arith, c .before .before .before .before .before .before .before .before .before .if3 .left))
 
 pub walk-card-spec : {M : Type 1} → statement M
 walk-card-spec =
@@ -92,5 +101,8 @@ walk-card-spec =
     returns-3
     field-requires
     field-requires-2
+    slice-aggregate-fill-table
+    fill-table-requires
+    slice-aggregate-try-rounds
     try-rounds-requires
     returns-4)

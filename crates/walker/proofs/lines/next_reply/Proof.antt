@@ -1,40 +1,78 @@
--- The invariant: none of the lines passed is a reply. The measure is the lines left.
+-- The invariant: none of the lines passed is a reply, and the line has the challenge's code. The measure is the lines left.
 use borrow.Author.Needs.{needs}
+use native.Mathlib.Omega.{arith}
 use mathlib.Core.Path.{sym, _∙_}
-use Prim.Native.Nat.{_-_}
+use Prim.Native.Nat.{_+_, _-_, _<_}
 use Rattle.model.specs.Field.{at}
+use Rattle.model.specs.Limits.{mostCodes}
 use Rattle.model.specs.Sheet.{lineOf}
-use Rattle.walker.specs.Rounds.{answers}
-use Rattle.walker.proofs.Searches.{Searching, searching-starts, searching-on, searching-found, searching-ends}
+use Rattle.sheet.proofs.Laws.{lines-are, lines-most, codes-most, code-under}
+use Rattle.walker.proofs.Following.{follows-later, Seeking, seeking-starts, seeking-on, seeking-found, seeking-ends}
 use Rattle.walker.proofs.lines.next_reply.Statement.{statement}
 use Rattle.walker.proofs.lines.next_reply.Tie as tie
 
 abbrev Inv-loop : tie.InvT-loop
-Inv-loop card s from to challenge b line₀ line = Searching (λ j. answers (lineOf s challenge) (at b) (lineOf s j)) from to line
+Inv-loop card s t from to challenge b code line₀ line = Seeking s (lineOf s challenge) (at b) from line
 
 abbrev μ-loop : tie.MeasureT-loop
-μ-loop card s from to challenge b line₀ line = to - line
+μ-loop card s t from to challenge b code line₀ line = to - line
+
+line-code-requires : tie.Need-line-code-requires Inv-loop μ-loop
+line-code-requires c κs = search needs
+
+-- The challenge's code is below the limit.
+code-small : (c : tie.After-line-code Inv-loop μ-loop) → c .line-code .result < mostCodes
+code-small c =
+    let b = c .before .before .before in
+    let R = b .pre .0 .0 in
+    omega (arith, c .line-code .ensures, code-under R (b .args .challenge) (b .pre .1 .2), codes-most R)
+
+following-requires : tie.Need-following-requires Inv-loop μ-loop
+following-requires c κs =
+    let b = c .before .before .before in
+    (b .pre .0 .1 .long, omega (arith, b .pre .1, lines-most (b .pre .0 .0)), code-small c)
 
 loop-holds : tie.Need-loop-holds Inv-loop μ-loop
-loop-holds c = searching-starts _ _ _ (c .before .pre .1 .0)
+loop-holds c =
+    let b = c .before .before .before .before in
+    seeking-starts (b .pre .0 .1) (c .before .line-code .result) _ (c .before .line-code .ensures) (code-small (c .before)) (omega (arith, b .pre .1, lines-are (b .pre .0 .0))) (c .following .ensures)
 
-may-answer-requires : tie.Need-may-answer-requires Inv-loop μ-loop
-may-answer-requires c κs = search needs
+may-use-requires : tie.Need-may-use-requires Inv-loop μ-loop
+may-use-requires c κs = search needs
 
 returns : tie.Need-returns Inv-loop μ-loop
-returns c = searching-found _ _ _ _ (c .before .before .before .loop .inv) (c .before .before .loop-test .taken) (sym (c .before .may-answer .ensures) ∙ c .if1 .taken)
+returns c =
+    let b = c .before .before .before .before .before .before .before .before in
+    seeking-found (c .before .before .before .loop .inv) (b .args .to) (omega (arith, b .pre .1, lines-are (b .pre .0 .0))) (c .before .before .loop-test .taken) (sym (c .before .may-use .ensures) ∙ c .if1 .taken)
 
-add-line : tie.Need-add-line Inv-loop μ-loop
-add-line c = search needs
+add-following : tie.Need-add-following Inv-loop μ-loop
+add-following c = search needs
+
+following-requires-2 : tie.Need-following-requires-2 Inv-loop μ-loop
+following-requires-2 c κs =
+    let b = c .before .before .before .before .before .before .before .before in
+    (b .pre .0 .1 .long, omega (arith, b .pre .1, c .before .before .loop-test .taken, lines-most (b .pre .0 .0)), code-small (c .before .before .before .before .before))
 
 loop-less : tie.Need-loop-less Inv-loop μ-loop
-loop-less c = search needs
+loop-less c =
+    let b = c .before .before .before .before .before .before .before .before .before in
+    let l = c .before .before .before .before .loop in
+    let h : l .line < b .args .to = c .before .before .before .loop-test .taken in
+    let code = c .before .before .before .before .before .before .line-code .result in
+    omega (arith, c .following2 .ensures, follows-later (b .pre .0 .1) (l .line + 1) code (omega (arith, b .pre .1, lines-are (b .pre .0 .0))) (code-small (c .before .before .before .before .before .before)))
 
 loop-again : tie.Need-loop-again Inv-loop μ-loop
-loop-again c = searching-on _ _ _ _ (c .before .before .before .loop .inv) (c .before .before .loop-test .taken) (sym (c .before .may-answer .ensures) ∙ c .if1 .left)
+loop-again c =
+    let b = c .before .before .before .before .before .before .before .before .before in
+    let l = c .before .before .before .before .loop in
+    let h : l .line < b .args .to = c .before .before .before .loop-test .taken in
+    let d = c .before .before .before .before .before .before in
+    seeking-on (b .pre .0 .1) (d .line-code .result) _ (d .line-code .ensures) (code-small d) (l .line) (l .inv) (omega (arith, b .pre .1, lines-are (b .pre .0 .0))) (sym (c .before .before .may-use .ensures) ∙ c .before .if1 .left) (c .following2 .ensures)
 
 returns-2 : tie.Need-returns-2 Inv-loop μ-loop
-returns-2 c = searching-ends _ _ _ _ (c .before .loop .inv) (c .loop-test .left)
+returns-2 c =
+    let b = c .before .before .before .before .before .before in
+    seeking-ends (c .before .loop .inv) (b .args .to) (omega (arith, b .pre .1, lines-are (b .pre .0 .0))) (b .pre .1 .0) (c .loop-test .left)
 
 pub next-reply-spec : {M : Type 1} → statement M
 next-reply-spec =
@@ -42,10 +80,13 @@ next-reply-spec =
     (tie.spec
     Inv-loop
     μ-loop
+    line-code-requires
+    following-requires
     loop-holds
-    may-answer-requires
+    may-use-requires
     returns
-    add-line
+    add-following
+    following-requires-2
     loop-less
     loop-again
     returns-2)
