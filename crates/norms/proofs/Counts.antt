@@ -40,6 +40,10 @@ sum-more i n w a bound sum x y h fits e p q =
     let u = weigh-step i n w a h in
     record { product-fits = omega arith; sum-fits = omega arith; sum-is = omega (arith, weigh-next i w a) }
 
+-- A kind without tokens adds nothing.
+pub sum-same : (i : ℕ) (w : ℕ → ℕ) (a : Field) → a i ≡ 0 → weigh i w a ≡ weigh (i + 1) w a
+sum-same i w a e = let z : a i * w i ≡ 0 = rw e (omega arith) in omega (arith, weigh-next i w a)
+
 -- A sum of n parts, none of them over x.
 pub weigh-most : (n : ℕ) (w : ℕ → ℕ) (a : Field) (x : ℕ) → ((k : ℕ) → k < n → a k * w k ≤ x) → weigh n w a ≤ n * x
 unfolding weigh

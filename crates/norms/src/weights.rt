@@ -3,28 +3,9 @@ ghost use mathlib.Core.Path.{_≡_};
 ghost use Prim.Native.Nat.{suc, min, _≤_, _<_, _^_};
 ghost use lib.ListN.{length};
 ghost use Rattle.model.specs.Field.{weigh, at};
-ghost use Rattle.model.specs.Norm.{ready};
 ghost use Rattle.model.specs.Limits.{mostKinds, normLimit};
 ghost use Rattle.norms.specs.Sweep.{AtMost, readValue, lesserOf};
 use sheet::Card;
-
-// Whether every kind that the counts hold has a value.
-pub fn all_valued(values: &[u32; 32], counts: &[u8]) -> bool
-    requires { ⌜ length (now counts) ≤ mostKinds ⌝ }
-    ensures { λ r. ⌜ r ≡ ready (length (now (counts .entry))) (at (now (values .entry))) (at (now (counts .entry))) ⌝ }
-{
-    let mut i = 0;
-    while i < counts.len() {
-        let value = values[i];
-        if value == 0 {
-            if 0 < counts[i] {
-                return false;
-            }
-        }
-        i += 1;
-    }
-    true
-}
 
 // The sum, over the kinds, of count times value.
 pub fn weight(values: &[u32; 32], counts: &[u8]) -> u64
@@ -48,14 +29,23 @@ pub fn read_value(values: &[u32; 32], counts: &[u8]) -> u32
     requires { ⌜ AtMost (suc normLimit) (now values) ⌝ }
     ensures { λ r. ⌜ r ≡ min (readValue (length (now (counts .entry))) (at (now (values .entry))) (at (now (counts .entry)))) (suc normLimit) ⌝ }
 {
-    if all_valued(values, counts) {
-        let left = weight(values, counts);
-        if left < Card::NORM as u64 {
-            return (left + 1) as u32;
+    let mut sum: u64 = 0;
+    let mut i = 0;
+    while i < counts.len() {
+        let count = counts[i];
+        if 0 < count {
+            let value = values[i];
+            if value == 0 {
+                return 0;
+            }
+            sum += wide8(count) * wide32(value);
         }
-        return Card::NORM + 1;
+        i += 1;
     }
-    0
+    if sum < Card::NORM as u64 {
+        return (sum + 1) as u32;
+    }
+    Card::NORM + 1
 }
 
 // The lesser of two values, where 0 is none.
