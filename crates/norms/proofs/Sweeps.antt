@@ -1,7 +1,7 @@
 -- The array of values after each sweep, and after the last.
 use mathlib.Core.List.{List}
 use mathlib.Core.Path.{_≡_, refl, sym, _∙_, ap, fun-ext}
-use Prim.Native.Nat.{ℕ, suc, _+_, _-_, _≤_, _<_, min}
+use Prim.Native.Nat.{ℕ, zero, suc, _+_, _-_, _≤_, _<_, min}
 use native.Mathlib.Decide.{decLt}
 use native.Mathlib.Numerals.{add-one}
 use native.Mathlib.Omega.{arith}
@@ -19,7 +19,7 @@ use Rattle.sheet.specs.declared.reader.Card.{Card}
 use Rattle.sheet.proofs.Counts.{counts-below, counts-past, at-counts, from-set, counts-none}
 use Rattle.sheet.proofs.Laws.{kinds-are, kinds-most, card-kinds, card-lines}
 use Rattle.norms.specs.Norms.{arrayOf, cutNorms}
-use Rattle.norms.specs.Sweep.{AtMost, sweepOf, readValue, lesserOf}
+use Rattle.norms.specs.Sweep.{AtMost, SameBelow, sweepOf, readValue, lesserOf}
 use Rattle.norms.proofs.Arrays.{array-at, list-at, list-back}
 use Rattle.norms.proofs.Values.{lineValue, line-other, line-own, lesser-right, best-first, lesser-cut}
 
@@ -101,20 +101,35 @@ found-end {s} {c} R w j xs z e =
 abbrev pub swept : List ℕ → ℕ → Field
 swept s d = at (cutSweeps normLimit (cardOf s) d)
 
+-- One sweep more, of any values.
+abbrev sweepMore : List ℕ → Field → Field
+sweepMore s v = at (listFrom (bestCut (cardOf s .kinds) v (cardOf s .lines)) 0 (cardOf s .kinds))
+
+swept-more : (s : List ℕ) (d : ℕ) → swept s (suc d) ≡ sweepMore s (swept s d)
+unfolding cutSweeps
+swept-more s d = refl
+
+-- Where a sweep changes nothing, no further sweep does.
+swept-stays : (s : List ℕ) (d e : ℕ) → swept s (suc d) ≡ swept s d → swept s (e + d) ≡ swept s d
+swept-stays s d zero h = let z : 0 + d ≡ d = omega arith in ap (swept s) z
+swept-stays s d (suc e) h =
+    let z : suc e + d ≡ suc (e + d) = omega arith in
+    ap (swept s) z ∙ swept-more s (e + d) ∙ ap (sweepMore s) (swept-stays s d e h) ∙ sym (swept-more s d) ∙ h
+
 module _ {s : List ℕ} {c : Card} (R : Reads s c) where
   swept-cut : (d k : ℕ) → swept s d k ≡ min (at (sweeps (cardOf s) d) k) (suc normLimit)
   swept-cut d k = cut-sweeps normLimit (cardOf s) d k
 
-  swept-past : (d k : ℕ) → mostKinds ≤ k → swept s d k ≡ 0
+  swept-past : (d k : ℕ) → c .kinds ≤ k → swept s d k ≡ 0
   swept-past d k h = go (decLt 0 (at (sweeps (cardOf s) d) k))
     where
       go : Dec (0 < at (sweeps (cardOf s) d) k) → swept s d k ≡ 0
-      go (yes p) = absurd (omega (arith, value-kind (cardOf s) d k p, card-kinds R, kinds-most R))
+      go (yes p) = absurd (omega (arith, value-kind (cardOf s) d k p, card-kinds R))
       go (no p) = omega (arith, swept-cut d k)
 
   -- The array of them is they.
   pub swept-array : (d : ℕ) → at (arrayOf (swept s d)) ≡ swept s d
-  swept-array d = array-at mostKinds (swept s d) (swept-past d)
+  swept-array d = array-at mostKinds (swept s d) (λ k h. swept-past d k (omega (arith, kinds-most R)))
 
   pub swept-most : (d : ℕ) → AtMost (suc normLimit) (arrayOf (swept s d))
   swept-most d k = omega (arith, ap (λ (f : Field). f k) (swept-array d), swept-cut d k)
@@ -133,3 +148,19 @@ module _ {s : List ℕ} {c : Card} (R : Reads s c) where
   swept-end d e =
       let z : d ≡ cardOf s .kinds = e ∙ sym (card-kinds R) in
       rw z (ap arrayOf (fun-ext (λ k. cut-norm normLimit (cardOf s) k)))
+
+  -- The norms at once, where one more sweep gives each kind the value that it has.
+  pub swept-settled : (d : ℕ) (xs ys : List ℕ) → d ≤ c .kinds → xs ≡ arrayOf (swept s d) → ys ≡ sweepOf s (at xs)
+      → SameBelow (c .kinds) (at xs) (at ys) → xs ≡ cutNorms s
+  swept-settled d xs ys h e f same =
+      e ∙ ap arrayOf (sym (swept-stays s d (c .kinds - d) (fun-ext (λ k. unchanged k (decLt k (c .kinds)))))) ∙ swept-end (c .kinds - d + d) (omega arith)
+    where
+      more : ys ≡ arrayOf (swept s (d + 1))
+      more = f ∙ ap (λ (l : List ℕ). sweepOf s (at l)) e ∙ swept-next d
+
+      held : (l : List ℕ) (i : ℕ) → l ≡ arrayOf (swept s i) → (k : ℕ) → at l k ≡ swept s i k
+      held l i q k = ap (λ (x : List ℕ). at x k) q ∙ ap (λ (v : Field). v k) (swept-array i)
+
+      unchanged : (k : ℕ) → Dec (k < c .kinds) → swept s (suc d) k ≡ swept s d k
+      unchanged k (yes l) = rw (← add-one d) (sym (held ys (d + 1) more k) ∙ sym (same k l) ∙ held xs d e k)
+      unchanged k (no l) = swept-past (suc d) k (omega arith) ∙ sym (swept-past d k (omega arith))

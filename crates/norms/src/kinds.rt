@@ -1,11 +1,13 @@
-// The norms of the kinds: as many sweeps as there are kinds, each of which finds every kind's best line by the values of the sweep before.
+// The norms of the kinds: sweeps, each of which finds every kind's best line by the values of the sweep before, until one changes nothing or there were as many as kinds.
+ghost use mathlib.Core.Bool.{true};
+ghost use mathlib.Core.Logic.{_↔_};
 ghost use mathlib.Core.Path.{_≡_};
-ghost use Prim.Native.Nat.{suc};
+ghost use Prim.Native.Nat.{suc, _≤_};
 ghost use Rattle.model.specs.Field.{at};
-ghost use Rattle.model.specs.Limits.{normLimit};
+ghost use Rattle.model.specs.Limits.{mostKinds, normLimit};
 ghost use Rattle.sheet.specs.Reader.{Reads};
 ghost use Rattle.norms.specs.Norms.{cutNorms};
-ghost use Rattle.norms.specs.Sweep.{AtMost, sweepOf};
+ghost use Rattle.norms.specs.Sweep.{AtMost, SameBelow, sweepOf};
 use crate::weights::lesser;
 use crate::weights::read_value;
 use sheet::Card;
@@ -20,6 +22,9 @@ pub fn kind_norms(s: &[u8], card: Card) -> [u32; 32]
     let mut turn = 0;
     while turn < kinds {
         let next = sweep(s, card, &values);
+        if same_values(kinds, &values, &next) {
+            return values;
+        }
         values = next;
         turn += 1;
     }
@@ -42,4 +47,21 @@ fn sweep(s: &[u8], card: Card, values: &[u32; 32]) -> [u32; 32]
         next[kind] = lesser(value, held);
     }
     next
+}
+
+// Whether two arrays hold the same values of so many kinds.
+fn same_values(kinds: usize, values: &[u32; 32], next: &[u32; 32]) -> bool
+    requires { ⌜ kinds ≤ mostKinds ⌝ }
+    ensures { λ r. ⌜ (r ≡ true) ↔ SameBelow kinds (at (now (values .entry))) (at (now (next .entry))) ⌝ }
+{
+    let mut k = 0;
+    while k < kinds {
+        let value = values[k];
+        let other = next[k];
+        if value != other {
+            return false;
+        }
+        k += 1;
+    }
+    true
 }

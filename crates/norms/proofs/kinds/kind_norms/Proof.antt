@@ -1,4 +1,4 @@
--- The values are those after so many sweeps.
+-- The values are those after so many sweeps, and the norms once a sweep changes nothing.
 use borrow.Author.Needs.{needs}
 use mathlib.Core.Path.{_≡_, _∙_, ap}
 use mathlib.Core.List.{List}
@@ -8,7 +8,7 @@ use Rattle.model.specs.Field.{at}
 use Rattle.sheet.proofs.Laws.{kinds-most}
 use Rattle.norms.specs.Norms.{arrayOf}
 use Rattle.norms.specs.Sweep.{sweepOf}
-use Rattle.norms.proofs.Sweeps.{swept, swept-most, swept-start, swept-next, swept-end}
+use Rattle.norms.proofs.Sweeps.{swept, swept-most, swept-start, swept-next, swept-end, swept-settled}
 use Rattle.norms.proofs.kinds.kind_norms.Statement.{statement}
 use Rattle.norms.proofs.kinds.kind_norms.Tie as tie
 
@@ -26,24 +26,45 @@ sweep-requires c κs =
     let R = c .before .before .before .before .pre in
     (R, rw (c .before .before .loop .inv .0) (swept-most R (c .before .before .loop .turn)))
 
+same-values-requires : tie.Need-same-values-requires Inv-loop μ-loop
+same-values-requires c κs = kinds-most (c .before .before .before .before .before .before .before .pre)
+
+returns : tie.Need-returns Inv-loop μ-loop
+returns c =
+    let w = c .before .before .before .before in
+    let l = w .before .before .before .loop in
+    swept-settled (w .before .before .before .before .before .pre) (l .turn) (l .values) (w .sweep .result) (l .inv .1) (l .inv .0) (w .sweep .ensures)
+    (c .before .same-values .ensures .0 (c .if1 .taken))
+
 add-turn : tie.Need-add-turn Inv-loop μ-loop
-add-turn c = omega (arith, kinds-most (c .before .before .before .before .before .pre))
+add-turn c = omega (arith, kinds-most (c .before .before .before .before .before .before .before .before .before .pre))
 
 loop-less : tie.Need-loop-less Inv-loop μ-loop
 loop-less c = search needs
 
 loop-again : tie.Need-loop-again Inv-loop μ-loop
 loop-again c =
-    let b = c .before .before .before .before .before in
-    let l = c .before .before .before .loop in
-    (c .sweep .ensures ∙ ap (λ (xs : List ℕ). sweepOf (b .args .s .now) (at xs)) (l .inv .0) ∙ swept-next (b .pre) (l .turn), search needs)
+    let w = c .before .before .before .before in
+    let b = w .before .before .before .before .before in
+    let l = w .before .before .before .loop in
+    (w .sweep .ensures ∙ ap (λ (xs : List ℕ). sweepOf (b .args .s .now) (at xs)) (l .inv .0) ∙ swept-next (b .pre) (l .turn), search needs)
 
-returns : tie.Need-returns Inv-loop μ-loop
-returns c =
+returns-2 : tie.Need-returns-2 Inv-loop μ-loop
+returns-2 c =
     let b = c .before .before .before in
     c .before .loop .inv .0 ∙ swept-end (b .pre) (c .before .loop .turn) (omega arith)
 
 pub kind-norms-spec : {M : Type 1} → statement M
 kind-norms-spec =
     tie.close
-    (tie.spec Inv-loop μ-loop loop-holds sweep-requires add-turn loop-less loop-again returns)
+    (tie.spec
+    Inv-loop
+    μ-loop
+    loop-holds
+    sweep-requires
+    same-values-requires
+    returns
+    add-turn
+    loop-less
+    loop-again
+    returns-2)
