@@ -1,20 +1,25 @@
 -- Lines that match, and their classes: expansion of two fields of equal forms by the lines that they may use.
 use mathlib.Core.List.{List}
 use mathlib.Core.Logic.{_↔_}
-use mathlib.Core.Path.{refl, sym, _∙_, ap, fun-ext}
-use Prim.Native.Nat.{ℕ, _<_}
+use mathlib.Core.Path.{_≡_, refl, sym, _∙_, ap, fun-ext}
+use Prim.Native.Nat.{ℕ, suc, _<_}
+use native.Mathlib.Decide.{decLt}
 use native.Mathlib.Omega.{arith}
-use lib.ListN.{getD}
-use Rattle.model.specs.Field.{Field}
+use lib.ListN.{getD, replicate}
+use Rattle.model.specs.Field.{Field, _⊕_, unit}
 use Rattle.model.specs.Card.{Line, Card, On}
 use Rattle.model.specs.Norm.{kindNorm}
 use Rattle.model.specs.Expansion.{Expands}
+use Rattle.model.specs.Base.{stageRow, stageForm}
+use Rattle.model.specs.Terms.{OfKinds}
 use Rattle.model.specs.Sheet.{lineCount, lineOf, cardOf}
 use Rattle.model.specs.Refusal.{Accepted}
 use Rattle.model.proofs.Certified.{Found}
-use Rattle.model.proofs.Program.{Equal, effects}
+use Rattle.model.proofs.Program.{Equal, effects, test-next}
 use Rattle.model.proofs.Sheets.{certified}
-use Rattle.base.specs.Stage.{Match, Classes, SameUses}
+use Rattle.base.specs.Stage.{Match, Classes, BoundsAt, SameUses}
+use Rattle.base.proofs.Tables.{zero-counts}
+use Rattle.base.proofs.Forms.{unit-kinds, form-plus, form-unit}
 use Rattle.base.proofs.Lines.{line-on, every-line, some-line}
 
 -- To match is an equivalence.
@@ -91,6 +96,35 @@ module _ (s : List ℕ) (ok : Accepted s) (q : ℕ) (a b : Field) (e : Equal (ca
           (t .0, t .1, (t .2, K (t .0) j (t .1) h .0 (t .3)))),
     )),
   )
+
+-- What line l leaves, with a token of m's kind, and its form.
+module _ (c : Card) (F : Found (c .lines) (c .kinds) (kindNorm c)) (l m : Line) (o : On c l) (p : On c m) where
+  with-kinds : OfKinds c (l .left ⊕ unit (m .kind))
+  with-kinds k h = go (decLt 0 (l .left k))
+    where
+      go : Dec (0 < l .left k) → k < c .kinds
+      go (yes i) = F .counts l o k i
+      go (no i) = unit-kinds c F (m .kind) (F .kinds m p) k (omega (arith, h))
+
+  with-form : (q : ℕ) → stageForm c (suc q) (l .left ⊕ unit (m .kind)) ≡ stageForm c (suc q) (l .left) ⊕ stageRow c (suc q) (m .kind)
+  with-form q =
+      form-plus c F q (l .left) (unit (m .kind)) ∙ ap (λ (x : Field). stageForm c (suc q) (l .left) ⊕ x) (form-unit c F q (m .kind) (F .kinds m p))
+
+-- Lines that match at a stage match at the stage before: to match is that two fields have equal forms, and a stage relates no pair that an earlier one does not.
+module _ (c : Card) (F : Found (c .lines) (c .kinds) (kindNorm c)) (l m : Line) (o : On c l) (p : On c m) where
+  pub match-before : (q : ℕ) → Match c (suc q) l m → Match c q l m
+  match-before q x =
+      let e : Equal c (kindNorm c) F (suc q) (l .left ⊕ unit (m .kind)) (m .left ⊕ unit (l .kind)) = with-form c F l m o p (suc q) ∙ x .1 ∙ sym (with-form c F m l p o (suc q)) in
+      let t = test-next c (kindNorm c) F (l .left ⊕ unit (m .kind)) (m .left ⊕ unit (l .kind)) (with-kinds c F l m o p) (with-kinds c F m l p o) q .0 e in
+      (x .0, sym (with-form c F l m o p q) ∙ t .0 ∙ with-form c F m l p o q)
+
+-- So bounds of the classes at a stage are bounds at the next. Line 0 is a bound for every line at every stage.
+pub bounds-next : (s : List ℕ) → Accepted s → (q : ℕ) (bounds : List ℕ) → BoundsAt s q bounds → BoundsAt s (suc q) bounds
+bounds-next s ok q bounds f j h =
+    (f j h .0, λ i l m. f j h .1 i l (match-before (cardOf s) (certified s ok) (lineOf s i) (lineOf s j) (line-on s i (omega (arith, f j h .0))) (line-on s j h) q m))
+
+pub bounds-first : (s : List ℕ) (q n : ℕ) → BoundsAt s q (replicate n 0)
+bounds-first s q n j h = (omega (arith, zero-counts n j), λ i l. absurd (omega (arith, zero-counts n j)))
 
 -- The least line that matches is such a number.
 module _ (s : List ℕ) (q : ℕ) (classes : List ℕ) where

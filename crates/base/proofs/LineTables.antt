@@ -19,8 +19,8 @@ use Rattle.sheet.specs.declared.reader.Card.{Card}
 use Rattle.sheet.proofs.Laws.{kinds-are, kinds-most, lines-are, lines-most, kind-under}
 use Rattle.norms.specs.Norms.{lowersNorm}
 use Rattle.base.specs.Table.{Under, rowIn}
-use Rattle.base.specs.Class.{LineTables, MatchIn, TellsMatch}
-use Rattle.base.specs.Stage.{Match, Classes, SameUses, BaseAt, LinesAre}
+use Rattle.base.specs.Class.{LineTables, MatchIn, Bounds, TellsMatch}
+use Rattle.base.specs.Stage.{Match, Classes, BoundsAt, SameUses, BaseAt, LinesAre}
 use Rattle.base.specs.Forms.{AllForms}
 use Rattle.base.specs.Settle.{Holds, RowsExpand}
 use Rattle.base.proofs.Tables.{first-below, first-past}
@@ -66,29 +66,44 @@ module _ {s : List ℕ} {c : Card} (R : Reads s c) where
             small = F .small;
           }
 
-      -- Lines match by the tables just when they match at the stage, so numbers that tell the one tell the other.
-      pub tables-classes : Accepted s → (numbers : List ℕ) → TellsMatch codes kinds rows forms numbers → (q : ℕ) → BaseAt s (suc q) rows → Classes s q numbers
-      tables-classes ok numbers tells q B i j hi hj =
-          (λ e. to i j hi hj (tells i j (in-kinds i hi) (in-kinds j hj) .0 e), λ m. tells i j (in-kinds i hi) (in-kinds j hj) .1 (back i j hi hj m))
-        where
-          in-kinds : (i : ℕ) → i < lineCount s → i < length kinds
-          in-kinds i h = omega (arith, L .kinds-long)
+      -- Lines match by the tables just when they match at the stage.
+      module _ (ok : Accepted s) (q : ℕ) (B : BaseAt s (suc q) rows) where
+        form-is : (i : ℕ) → i < lineCount s → rowIn forms i ≡ stageForm (cardOf s) (suc q) (lineOf s i .left)
+        form-is i h = forms-at s ok q rows forms B F i h
 
-          form-is : (i : ℕ) → i < lineCount s → rowIn forms i ≡ stageForm (cardOf s) (suc q) (lineOf s i .left)
-          form-is i h = forms-at s ok q rows forms B F i h
+        row-is : (i : ℕ) → i < lineCount s → rowIn rows (at kinds i) ≡ stageRow (cardOf s) (suc q) (lineOf s i .kind)
+        row-is i h = B (at kinds i) (line-kind i h) ∙ ap (stageRow (cardOf s) (suc q)) (L .kind-is i h)
 
-          row-is : (i : ℕ) → i < lineCount s → rowIn rows (at kinds i) ≡ stageRow (cardOf s) (suc q) (lineOf s i .kind)
-          row-is i h = B (at kinds i) (line-kind i h) ∙ ap (stageRow (cardOf s) (suc q)) (L .kind-is i h)
+        sum-is : (i j : ℕ) → i < lineCount s → j < lineCount s
+            → rowIn forms i ⊕ rowIn rows (at kinds j) ≡ stageForm (cardOf s) (suc q) (lineOf s i .left) ⊕ stageRow (cardOf s) (suc q) (lineOf s j .kind)
+        sum-is i j hi hj = ap₂ (λ (a b : Field). a ⊕ b) (form-is i hi) (row-is j hj)
 
-          sum-is : (i j : ℕ) → i < lineCount s → j < lineCount s
-              → rowIn forms i ⊕ rowIn rows (at kinds j) ≡ stageForm (cardOf s) (suc q) (lineOf s i .left) ⊕ stageRow (cardOf s) (suc q) (lineOf s j .kind)
-          sum-is i j hi hj = ap₂ (λ (a b : Field). a ⊕ b) (form-is i hi) (row-is j hj)
+        tables-match : (i j : ℕ) → i < lineCount s → j < lineCount s → MatchIn codes kinds rows forms i j ↔ Match (cardOf s) q (lineOf s i) (lineOf s j)
+        tables-match i j hi hj = (
+          (λ m. (sym (L .code-is j hj) ∙ m .0 ∙ L .code-is i hi, sym (sum-is i j hi hj) ∙ m .1 ∙ sum-is j i hj hi)),
+          (λ m. (L .code-is j hj ∙ m .0 ∙ sym (L .code-is i hi), sum-is i j hi hj ∙ m .1 ∙ sym (sum-is j i hj hi))),
+        )
 
-          to : (i j : ℕ) → i < lineCount s → j < lineCount s → MatchIn codes kinds rows forms i j → Match (cardOf s) q (lineOf s i) (lineOf s j)
-          to i j hi hj m = (sym (L .code-is j hj) ∙ m .0 ∙ L .code-is i hi, sym (sum-is i j hi hj) ∙ m .1 ∙ sum-is j i hj hi)
+        in-kinds : (i : ℕ) → i < lineCount s → i < length kinds
+        in-kinds i h = omega (arith, L .kinds-long)
 
-          back : (i j : ℕ) → i < lineCount s → j < lineCount s → Match (cardOf s) q (lineOf s i) (lineOf s j) → MatchIn codes kinds rows forms i j
-          back i j hi hj m = (L .code-is j hj ∙ m .0 ∙ sym (L .code-is i hi), sum-is i j hi hj ∙ m .1 ∙ sym (sum-is j i hj hi))
+        -- So numbers that tell the one tell the other, and bounds for the one are bounds for the other.
+        pub tables-classes : (numbers : List ℕ) → TellsMatch codes kinds rows forms numbers → Classes s q numbers
+        tables-classes numbers tells i j hi hj =
+            let t = tells i j (in-kinds i hi) (in-kinds j hj) in
+            let m = tables-match i j hi hj in
+            (λ e. m .0 (t .0 e), λ x. t .1 (m .1 x))
+
+        pub tables-bounds : (bounds : List ℕ) → Bounds codes kinds rows forms bounds → BoundsAt s q bounds
+        tables-bounds bounds f j h =
+            let u = f j (in-kinds j h) in
+            (u .within, λ i l m. u .none i l (tables-match i j (omega (arith, u .within)) h .1 m))
+
+        pub bounds-tables : (bounds : List ℕ) → BoundsAt s q bounds → Bounds codes kinds rows forms bounds
+        bounds-tables bounds f j h =
+            let v : j < lineCount s = omega (arith, L .kinds-long) in
+            let u = f j v in
+            record { within = u .0; none = λ i l m. u .1 i l (tables-match i j (omega (arith, u .0)) v .0 m) }
 
 -- The part of an array of classes that has the lines' own.
 module _ (n : ℕ) (classes : List ℕ) where

@@ -12,7 +12,7 @@ use lib.Seq.{getD-set-same, getD-set-other}
 use Rattle.model.specs.Field.{_⊕_, at}
 use Rattle.model.specs.Limits.{mostLines}
 use Rattle.base.specs.Table.{Under, rowPart, rowIn}
-use Rattle.base.specs.Class.{LineTables, MatchIn, LeastMatch, TellsMatch}
+use Rattle.base.specs.Class.{LineTables, MatchIn, NoneBefore, Bounds, LeastMatch, TellsMatch}
 use Rattle.base.proofs.Tables.{at-kind, zero-counts, lent-row, lent-length, lent-under}
 
 -- The tables of the lines: codes, kinds, rows of the kinds, forms of what the lines leave.
@@ -26,11 +26,6 @@ module _ (codes kinds rows forms : List ℕ) where
 
   pub match-trans : (i j k : ℕ) → MatchIn codes kinds rows forms i j → MatchIn codes kinds rows forms j k → MatchIn codes kinds rows forms i k
   match-trans i j k p q = (q .0 ∙ p .0, fun-ext (λ x. omega (arith, at-kind (p .1) x, at-kind (q .1) x)))
-
-  -- No line below i matches line j.
-  pub record NoneBelow (j i : ℕ) : Type 0 where
-    pub within : i ≤ j
-    pub other : (x : ℕ) → x < i → MatchIn codes kinds rows forms x j → ⊥
 
   -- The lines below j have their numbers, and there are no others.
   pub record Numbered (j : ℕ) (numbers : List ℕ) : Type 0 where
@@ -62,23 +57,20 @@ module _ {codes kinds rows forms : List ℕ} where
         there = rw (lent-row forms j c, lent-row rows (at kinds i) d)
 
   -- The search for the least line that matches.
-  pub none-first : {j : ℕ} → NoneBelow codes kinds rows forms j 0
-  none-first = record { within = omega arith; other = λ x l. absurd (omega arith) }
-
-  pub none-more : {j i : ℕ} → NoneBelow codes kinds rows forms j i → i < j → (MatchIn codes kinds rows forms i j → ⊥) → NoneBelow codes kinds rows forms j (i + 1)
-  none-more {j} {i} h l d = record { within = omega arith; other = λ x b. go x b (ℕ-discrete x i) }
+  pub none-more : {j i : ℕ} → NoneBefore codes kinds rows forms j i → i < j → (MatchIn codes kinds rows forms i j → ⊥) → NoneBefore codes kinds rows forms j (i + 1)
+  none-more {j} {i} h l d = record { within = omega arith; none = λ x b. go x b (ℕ-discrete x i) }
     where
       go : (x : ℕ) → x < i + 1 → Dec (x ≡ i) → MatchIn codes kinds rows forms x j → ⊥
       go x b (yes e) = subst (λ (y : ℕ). MatchIn codes kinds rows forms y j → ⊥) (sym e) d
-      go x b (no n) = h .other x (omega arith)
+      go x b (no n) = h .none x (omega arith)
 
   -- The first line that matches is the class; line j itself, if there is none before.
-  pub least-here : {j i : ℕ} → NoneBelow codes kinds rows forms j i → MatchIn codes kinds rows forms i j → LeastMatch codes kinds rows forms j i
-  least-here h m = record { within = h .within; matches = m; least = h .other }
+  pub least-here : {j i : ℕ} → NoneBefore codes kinds rows forms j i → MatchIn codes kinds rows forms i j → LeastMatch codes kinds rows forms j i
+  least-here h m = record { within = h .within; matches = m; least = h .none }
 
-  pub least-self : {j i : ℕ} → NoneBelow codes kinds rows forms j i → j ≤ i → LeastMatch codes kinds rows forms j j
+  pub least-self : {j i : ℕ} → NoneBefore codes kinds rows forms j i → j ≤ i → LeastMatch codes kinds rows forms j j
   least-self {j} {i} h l =
-      record { within = omega arith; matches = match-refl codes kinds rows forms j; least = λ x b. h .other x (omega (arith, h .within)) }
+      record { within = omega arith; matches = match-refl codes kinds rows forms j; least = λ x b. h .none x (omega (arith, h .within)) }
 
   -- Two lines have one class just when they match.
   pub least-tells : {i j r s : ℕ} → LeastMatch codes kinds rows forms i r → LeastMatch codes kinds rows forms j s → (r ≡ s) ↔ MatchIn codes kinds rows forms i j
@@ -120,6 +112,9 @@ module _ {codes kinds rows forms : List ℕ} where
 
     pub numbered-tells : length kinds ≤ j → TellsMatch codes kinds rows forms numbers
     numbered-tells l i k a b = least-tells (h .classes i (omega arith)) (h .classes k (omega arith))
+
+    pub numbered-bounds : length kinds ≤ j → Bounds codes kinds rows forms numbers
+    numbered-bounds l i a = let m = h .classes i (omega arith) in record { within = m .within; none = m .least }
 
     pub numbered-under : Under mostLines numbers
     numbered-under i = go (decLt i j)

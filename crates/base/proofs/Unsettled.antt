@@ -14,10 +14,11 @@ use Rattle.model.specs.Refusal.{Accepted}
 use Rattle.sheet.specs.Reader.{Reads}
 use Rattle.sheet.specs.declared.reader.Card.{Card}
 use Rattle.sheet.proofs.Laws.{kinds-are}
-use Rattle.base.specs.Stage.{BaseAt, LinesAre}
+use Rattle.base.specs.Stage.{BaseAt, BoundsAt, LinesAre}
 use Rattle.base.specs.Settle.{PartedAt, RowsExpand, AtStage, IsSettled}
 use Rattle.base.specs.declared.settle.Stage.{Stage}
 use Rattle.base.proofs.Settled.{settled-after, settled-most, settled-first}
+use Rattle.base.proofs.Classes.{bounds-next}
 use Rattle.base.proofs.LineTables.{expand-settled}
 
 -- Of the stages from 1 up, none before t is settled.
@@ -52,6 +53,11 @@ base-before s rows t h B = let z : t ≡ suc (t - 1) = omega arith in subst (λ 
 
 pub parted-before : (s parted : List ℕ) (first t : ℕ) → PartedAt s t first parted → PartedAt s (t + 1 - 1) first parted
 parted-before s parted first t p = let z : t ≡ t + 1 - 1 = omega arith in subst (λ (u : ℕ). PartedAt s u first parted) z p
+
+pub bounds-before : (s bounds : List ℕ) (t : ℕ) → 1 ≤ t → Accepted s → BoundsAt s (t - 1) bounds → BoundsAt s (t + 1 - 1) bounds
+bounds-before s bounds t h ok f =
+    let z : suc (t - 1) ≡ t + 1 - 1 = omega arith in
+    subst (λ (u : ℕ). BoundsAt s u bounds) z (bounds-next s ok (t - 1) bounds f)
 
 -- What is held at stage t tells whether it is settled.
 module _ {s : List ℕ} {c : Card} (R : Reads s c) (ok : Accepted s) {kinds codes : List ℕ} {lowers : List Bool} (L : LinesAre s kinds codes lowers)

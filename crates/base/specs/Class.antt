@@ -29,6 +29,15 @@ module _ (codes kinds rows forms : List ℕ) where
   abbrev pub MatchIn : ℕ → ℕ → Type 0
   MatchIn i j = (at codes j ≡ at codes i) × (rowIn forms i ⊕ rowIn rows (at kinds j) ≡ rowIn forms j ⊕ rowIn rows (at kinds i))
 
+  -- Line i is no later than line j, and no line before i matches line j.
+  pub record NoneBefore (j i : ℕ) : Type 0 where
+    pub within : i ≤ j
+    pub none : (x : ℕ) → x < i → MatchIn x j → ⊥
+
+  -- A bound for each line: no line before it matches the line.
+  abbrev pub Bounds : List ℕ → Type 0
+  Bounds bounds = (j : ℕ) → j < length kinds → NoneBefore j (at bounds j)
+
   -- r is the least line that matches line j.
   pub record LeastMatch (j r : ℕ) : Type 0 where
     pub within : r ≤ j

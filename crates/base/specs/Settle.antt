@@ -13,7 +13,7 @@ use Rattle.model.specs.Sheet.{kindCount, fieldCount, cardOf, fieldOf}
 use Rattle.model.specs.Limits.{mostLines}
 use Rattle.base.specs.Table.{Under, rowIn, formIn}
 use Rattle.base.specs.Class.{MayUseAlike}
-use Rattle.base.specs.Stage.{BaseAt, Classes}
+use Rattle.base.specs.Stage.{BaseAt, Classes, BoundsAt}
 use Rattle.base.specs.declared.settle.Stage.{Stage}
 use Rattle.base.specs.declared.settle.Settled.{Settled}
 
@@ -42,6 +42,7 @@ RowsExpand kinds classes rows n = (k : ℕ) → k < n → MayUseAlike kinds clas
 pub record AtStage (s : List ℕ) (first t : ℕ) (x : Stage) : Type 0 where
   pub base-is : BaseAt s t (x .base .rows)
   pub classes-tell : Classes s (t - 1) (x .classes)
+  pub classes-bound : BoundsAt s (t - 1) (x .classes)
   pub classes-small : Under mostLines (x .classes)
   pub parted-is : PartedAt s t first (x .parted)
 

@@ -3,7 +3,7 @@ use mathlib.Core.Bool.{Bool, false}
 use mathlib.Core.List.{List}
 use mathlib.Core.Logic.{_↔_}
 use mathlib.Core.Path.{_≡_}
-use Prim.Native.Nat.{ℕ, suc, _<_}
+use Prim.Native.Nat.{ℕ, suc, _≤_, _<_}
 use lib.ListN.{length, getD}
 use Rattle.model.specs.Field.{Field, _⊕_, unit}
 use Rattle.model.specs.Card.{Line, Card}
@@ -45,6 +45,11 @@ module _ (s : List ℕ) where
   -- A number for each line, its class, tells which lines match.
   abbrev pub Classes : ℕ → List ℕ → Type 0
   Classes q classes = (i j : ℕ) → i < lineCount s → j < lineCount s → (getD classes i 0 ≡ getD classes j 0) ↔ Match (cardOf s) q (lineOf s i) (lineOf s j)
+
+  -- A bound for each line: it is no later than the line, and no line before it matches the line.
+  abbrev pub BoundsAt : ℕ → List ℕ → Type 0
+  BoundsAt q bounds =
+      (j : ℕ) → j < lineCount s → (getD bounds j 0 ≤ j) × ((i : ℕ) → i < getD bounds j 0 → ¬ Match (cardOf s) q (lineOf s i) (lineOf s j))
 
   -- The field may use a line of class x.
   abbrev pub Uses : List ℕ → Field → ℕ → Type 0

@@ -5,11 +5,11 @@ use crate::table::row_of;
 ghost use mathlib.Core.Path.{_≡_};
 ghost use mathlib.Core.Bool.{true, false};
 ghost use mathlib.Core.Logic.{_↔_};
-ghost use Prim.Native.Nat.{ℕ, _<_};
+ghost use Prim.Native.Nat.{ℕ, _≤_, _<_};
 ghost use lib.ListN.{length, getD};
 ghost use Rattle.model.specs.Field.{at};
 ghost use Rattle.base.specs.Table.{Under};
-ghost use Rattle.base.specs.Class.{LineTables, MatchIn, LeastMatch, TellsMatch, MayUse};
+ghost use Rattle.base.specs.Class.{LineTables, MatchIn, NoneBefore, Bounds, LeastMatch, TellsMatch, MayUse};
 
 // The count of a kind: none past the kinds there are.
 fn count_of(field: &[u32], kind: usize) -> u32
@@ -82,13 +82,21 @@ pub fn lines_match(
     )
 }
 
-// The class of line j: the least line that it matches.
-pub fn class_of(codes: &[usize], kinds: &[usize], rows: &[u32], forms: &[u64], j: usize) -> usize
+// The class of line j: the least line that it matches. It is no line before `start`.
+pub fn class_of(
+    codes: &[usize],
+    kinds: &[usize],
+    rows: &[u32],
+    forms: &[u64],
+    start: usize,
+    j: usize,
+) -> usize
     requires { ⌜ LineTables (now codes) (now kinds) (now rows) (now forms) ⌝ }
     requires { ⌜ j < length (now kinds) ⌝ }
+    requires { ⌜ NoneBefore (now codes) (now kinds) (now rows) (now forms) j start ⌝ }
     ensures { λ r. ⌜ LeastMatch (now (codes .entry)) (now (kinds .entry)) (now (rows .entry)) (now (forms .entry)) j r ⌝ }
 {
-    let mut i = 0;
+    let mut i = start;
     while i < j {
         if lines_match(codes, kinds, rows, forms, i, j) {
             return i;
@@ -98,16 +106,26 @@ pub fn class_of(codes: &[usize], kinds: &[usize], rows: &[u32], forms: &[u64], j
     j
 }
 
-// The classes of all lines: two lines match just when their classes are the same number.
-pub fn classes(codes: &[usize], kinds: &[usize], rows: &[u32], forms: &[u64]) -> [usize; 256]
+// The classes of all lines: two lines match just when their classes are the same number. No class is before the bound of its line.
+pub fn classes(
+    codes: &[usize],
+    kinds: &[usize],
+    rows: &[u32],
+    forms: &[u64],
+    bounds: &[usize],
+) -> [usize; 256]
     requires { ⌜ LineTables (now codes) (now kinds) (now rows) (now forms) ⌝ }
+    requires { ⌜ length (now kinds) ≤ length (now bounds) ⌝ }
+    requires { ⌜ Bounds (now codes) (now kinds) (now rows) (now forms) (now bounds) ⌝ }
     ensures { λ r. ⌜ TellsMatch (now (codes .entry)) (now (kinds .entry)) (now (rows .entry)) (now (forms .entry)) r ⌝ }
+    ensures { λ r. ⌜ Bounds (now (codes .entry)) (now (kinds .entry)) (now (rows .entry)) (now (forms .entry)) r ⌝ }
     ensures { λ r. ⌜ Under 256 r ⌝ }
 {
     let mut numbers = [0usize; 256];
     let mut j = 0;
     while j < kinds.len() {
-        numbers[j] = class_of(codes, kinds, rows, forms, j);
+        let start = bounds[j];
+        numbers[j] = class_of(codes, kinds, rows, forms, start, j);
         j += 1;
     }
     numbers

@@ -22,7 +22,7 @@ ghost use Rattle.model.specs.Refusal.{Accepted};
 ghost use Rattle.sheet.specs.Reader.{Reads};
 ghost use Rattle.norms.specs.Norms.{Accepts};
 ghost use Rattle.base.specs.Table.{Under};
-ghost use Rattle.base.specs.Stage.{BaseAt, Classes, LinesAre};
+ghost use Rattle.base.specs.Stage.{BaseAt, Classes, BoundsAt, LinesAre};
 ghost use Rattle.base.specs.Settle.{PartedAt, RowsExpand, AtStage, IsSettled};
 
 // What is held at a stage: its base, the classes of the lines by it, and where the fields part from the first one.
@@ -51,27 +51,29 @@ fn is_settled(kinds: &[usize], n: usize, held: Stage) -> bool
     rows_expand(kinds, &classes[..lines], &rows, n)
 }
 
-// The classes of the lines by the rows of a stage. The table is used for the forms of what the lines leave.
+// The classes of the lines by the rows of a stage, none before the bound of its line. The table is used for the forms of what the lines leave.
 fn line_classes(
     s: &[u8],
     card: Card,
     kinds: &[usize],
     codes: &[usize],
     rows: &[u32],
+    bounds: &[usize],
     forms: &mut [u64],
 ) -> [usize; 256]
     requires { ⌜ Reads (now s) card ⌝ }
     requires { ⌜ Accepted (now s) ⌝ }
     requires { ⌜ ((lowers : List Bool) × LinesAre (now s) (now kinds) (now codes) lowers) ⌝ }
-    requires { ⌜ (length (now rows) ≡ 1024) × (length (now forms) ≡ 8192) ⌝ }
-    ensures { λ r. ⌜ ((q : ℕ) → BaseAt (now (s .entry)) (suc q) (now (rows .entry)) → Classes (now (s .entry)) q r) ⌝ }
+    requires { ⌜ (length (now rows) ≡ 1024) × (length (now forms) ≡ 8192) × (length (now kinds) ≤ length (now bounds)) ⌝ }
+    requires { ⌜ ((q : ℕ) × BaseAt (now s) (suc q) (now rows) × BoundsAt (now s) q (now bounds)) ⌝ }
+    ensures { λ r. ⌜ ((q : ℕ) → BaseAt (now (s .entry)) (suc q) (now (rows .entry)) → Classes (now (s .entry)) q r × BoundsAt (now (s .entry)) q r) ⌝ }
     ensures { λ r. ⌜ Under 256 r ⌝ }
 {
     all_forms(s, card, rows, forms);
-    classes(codes, kinds, rows, forms)
+    classes(codes, kinds, rows, forms, bounds)
 }
 
-// What is held at stage t, from its base. `parted` is where the fields part by the stage before.
+// What is held at stage t, from its base and from bounds of the classes. `parted` is where the fields part by the stage before.
 fn stage_of(
     s: &[u8],
     card: Card,
@@ -81,6 +83,7 @@ fn stage_of(
     base: Base,
     t: usize,
     parted: [usize; 64],
+    bounds: &[usize],
     forms: &mut [u64],
 ) -> Stage
     requires { ⌜ Reads (now s) card ⌝ }
@@ -88,10 +91,11 @@ fn stage_of(
     requires { ⌜ ((lowers : List Bool) × LinesAre (now s) (now kinds) (now codes) lowers) ⌝ }
     requires { ⌜ (length (now forms) ≡ 8192) × (1 ≤ t) × (t ≤ mostKinds) ⌝ }
     requires { ⌜ BaseAt (now s) t (base .rows) × PartedAt (now s) (t - 1) first parted ⌝ }
+    requires { ⌜ (length (now kinds) ≤ length (now bounds)) × BoundsAt (now s) (t - 1) (now bounds) ⌝ }
     ensures { λ r. ⌜ AtStage (now (s .entry)) first t r ⌝ }
 {
     let rows = base.rows;
-    let numbers = line_classes(s, card, kinds, codes, &rows, forms);
+    let numbers = line_classes(s, card, kinds, codes, &rows, bounds, forms);
     let next = parted_by_forms(s, card, &rows, first, t, parted);
     Stage {
         base,
@@ -118,7 +122,8 @@ fn first_stage(
 {
     let base = first_rows(s, card, norms, kinds, codes, lowers, forms);
     let parted = parted_by_norms(s, card, norms, first);
-    stage_of(s, card, first, kinds, codes, base, 1, parted, forms)
+    let none = [0usize; 256];
+    stage_of(s, card, first, kinds, codes, base, 1, parted, &none, forms)
 }
 
 // What is held at stage t + 1, from what is held at stage t.
@@ -157,7 +162,18 @@ fn next_stage(
         t,
         forms,
     );
-    stage_of(s, card, first, kinds, codes, next, t + 1, parted, forms)
+    stage_of(
+        s,
+        card,
+        first,
+        kinds,
+        codes,
+        next,
+        t + 1,
+        parted,
+        &numbers,
+        forms,
+    )
 }
 
 // The first stage that is settled, from stage 1 on.

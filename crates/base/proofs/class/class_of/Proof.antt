@@ -1,23 +1,24 @@
--- No line below i matches.
+-- No line before i matches.
 use borrow.Author.Needs.{needs}
 use Prim.Native.Nat.{_-_}
 use native.Mathlib.Omega.{arith}
 use Rattle.base.proofs.Tables.{told-not}
-use Rattle.base.proofs.Matching.{NoneBelow, none-first, none-more, least-here, least-self}
+use Rattle.base.specs.Class.{NoneBefore}
+use Rattle.base.proofs.Matching.{none-more, least-here, least-self}
 use Rattle.base.proofs.class.class_of.Statement.{statement}
 use Rattle.base.proofs.class.class_of.Tie as tie
 
 abbrev Inv-loop : tie.InvT-loop
-Inv-loop codes kinds rows forms j i₀ i = NoneBelow codes kinds rows forms j i
+Inv-loop codes kinds rows forms start j i₀ i = NoneBefore codes kinds rows forms j i
 
 abbrev μ-loop : tie.MeasureT-loop
-μ-loop codes kinds rows forms j i₀ i = j - i
+μ-loop codes kinds rows forms start j i₀ i = j - i
 
 loop-holds : tie.Need-loop-holds Inv-loop μ-loop
-loop-holds c = none-first
+loop-holds c = c .before .before .before .before .pre .1 .1
 
 lines-match-requires : tie.Need-lines-match-requires Inv-loop μ-loop
-lines-match-requires c κs = (c .before .before .before .before .before .before .pre .0, (omega arith, c .before .before .before .before .before .before .pre .1))
+lines-match-requires c κs = (c .before .before .before .before .before .before .pre .0, (omega arith, c .before .before .before .before .before .before .pre .1 .0))
 
 returns : tie.Need-returns Inv-loop μ-loop
 returns c = least-here (c .before .before .before .loop .inv) (c .before .lines-match .ensures .0 (c .if1 .taken))

@@ -2,6 +2,9 @@
 use borrow.Author.Needs.{needs}
 use mathlib.Core.Path.{_∙_}
 use native.Mathlib.Omega.{arith}
+use Rattle.model.specs.Limits.{mostLines}
+use Rattle.base.proofs.Classes.{bounds-first}
+use Rattle.base.proofs.LineTables.{few-lines}
 use Rattle.base.proofs.settle.first_stage.Statement.{statement}
 use Rattle.base.proofs.settle.first_stage.Tie as tie
 
@@ -11,11 +14,25 @@ first-rows-requires c κs = let b = c .before .before .before .before .before .b
 parted-by-norms-requires : tie.Need-parted-by-norms-requires
 parted-by-norms-requires c κs = c .before .before .before .before .before .before .before .before .before .pre .0
 
+slice-aggregate-stage-of : tie.Need-slice-aggregate-stage-of
+slice-aggregate-stage-of c = search needs
+
 stage-of-requires : tie.Need-stage-of-requires
 stage-of-requires c κs =
-    let b = c .before .before .before .before .before .before .before .before .before .before .before in
-    let f = c .before .before .before .before .first-rows in
-    (b .pre .0 .reads, (b .pre .0 .accepted, ((b .args .lowers .now, b .pre .1 .0), ((f .kept .1 .1 .1 .1 .1 .1 .0 ∙ b .pre .1 .1, omega arith, omega arith), (f .ensures, c .before .parted-by-norms .ensures)))))
+    let b = c .before .before .before .before .before .before .before .before .before .before .before .before in
+    let f = c .before .before .before .before .before .first-rows in (
+      b .pre .0 .reads,
+      (
+        b .pre .0 .accepted,
+        (
+          (b .args .lowers .now, b .pre .1 .0),
+          (
+            (f .kept .1 .1 .1 .1 .1 .1 .0 ∙ b .pre .1 .1, omega arith, omega arith),
+            ((f .ensures, c .before .before .parted-by-norms .ensures), (few-lines (b .pre .0 .reads) (b .pre .1 .0), bounds-first (b .args .s .now) 0 mostLines)),
+          ),
+        ),
+      ),
+    )
 
 same-length : tie.Need-same-length
 same-length c = search needs
@@ -29,6 +46,7 @@ first-stage-spec =
     (tie.spec
     first-rows-requires
     parted-by-norms-requires
+    slice-aggregate-stage-of
     stage-of-requires
     same-length
     returns)

@@ -5,7 +5,7 @@ use Prim.Native.Nat.{_-_}
 use native.Mathlib.Omega.{arith}
 use lib.ListN.{length}
 use Rattle.base.proofs.LineTables.{few-lines, classes-long, classes-under, part-classes}
-use Rattle.base.proofs.Unsettled.{parted-before}
+use Rattle.base.proofs.Unsettled.{parted-before, bounds-before}
 use Rattle.base.proofs.settle.next_stage.Statement.{statement}
 use Rattle.base.proofs.settle.next_stage.Tie as tie
 
@@ -56,10 +56,15 @@ next-rows-requires c κs =
 add-stage-of : tie.Need-add-stage-of
 add-stage-of c = search needs
 
+slice-aggregate-stage-of : tie.Need-slice-aggregate-stage-of
+slice-aggregate-stage-of c = sym (classes-all (c .before .before .before .before .before .before .before .before .before .before .before .before .before .before .before .before))
+
 stage-of-requires : tie.Need-stage-of-requires
 stage-of-requires c κs =
-    let b = c .before .before .before .before .before .before .before .before .before .before .before .before .before .before .before .before in
-    let f = c .before .before .before .next-rows in (
+    let b = c .before .before .before .before .before .before .before .before .before .before .before .before .before .before .before .before .before in
+    let e = classes-all b in
+    let H = b .pre .1 .1 .1 in
+    let f = c .before .before .before .before .next-rows in (
       b .pre .0 .reads,
       (
         b .pre .0 .accepted,
@@ -67,7 +72,10 @@ stage-of-requires c κs =
           (b .args .lowers .now, b .pre .1 .0),
           (
             (f .kept .1 .1 .1 .1 .1 .1 .1 .1 .1 .0 ∙ b .pre .1 .1 .0 .0, omega arith, omega (arith, b .pre .1 .1 .0 .2)),
-            (f .ensures, parted-before (b .args .s .now) (b .args .held .parted) (b .args .first) (b .args .t) (b .pre .1 .1 .1 .parted-is)),
+            (
+              (f .ensures, parted-before (b .args .s .now) (b .args .held .parted) (b .args .first) (b .args .t) (H .parted-is)),
+              (omega (arith, few-lines (b .pre .0 .reads) (b .pre .1 .0)), bounds-before (b .args .s .now) (b .args .held .classes) (b .args .t) (b .pre .1 .1 .0 .1) (b .pre .0 .accepted) (H .classes-bound)),
+            ),
           ),
         ),
       ),
@@ -88,6 +96,7 @@ next-stage-spec =
     slice-aggregate-next-rows-2
     next-rows-requires
     add-stage-of
+    slice-aggregate-stage-of
     stage-of-requires
     same-length
     returns)

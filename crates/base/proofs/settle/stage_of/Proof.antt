@@ -12,29 +12,32 @@ slice-aggregate-line-classes c = search needs
 
 line-classes-requires : tie.Need-line-classes-requires
 line-classes-requires c κs =
-    let b = c .before .before .before .before .before .before .before in
+    let b = c .before .before .before .before .before .before .before .before in
     let e : length (b .args .base .rows) ≡ 1024 = search needs in
-    (b .pre .0, (b .pre .1 .0, (b .pre .1 .1 .0, (e, b .pre .1 .1 .1 .0 .0))))
+    let B = base-before (b .args .s .now) (b .args .base .rows) (b .args .t) (b .pre .1 .1 .1 .0 .1) (b .pre .1 .1 .1 .1 .0 .0) in
+    (b .pre .0, (b .pre .1 .0, (b .pre .1 .1 .0, ((e, b .pre .1 .1 .1 .0 .0, b .pre .1 .1 .1 .1 .1 .0), (b .args .t - 1, B, b .pre .1 .1 .1 .1 .1 .1)))))
 
 slice-aggregate-parted-by-forms : tie.Need-slice-aggregate-parted-by-forms
 slice-aggregate-parted-by-forms c = search needs
 
 parted-by-forms-requires : tie.Need-parted-by-forms-requires
 parted-by-forms-requires c κs =
-    let b = c .before .before .before .before .before .before .before .before .before .before .before in
+    let b = c .before .before .before .before .before .before .before .before .before .before .before .before in
     let e : length (b .args .base .rows) ≡ 1024 = search needs in
-    (b .pre .0, (b .pre .1 .0, ((e, b .pre .1 .1 .1 .0 .1, b .pre .1 .1 .1 .0 .2), (b .pre .1 .1 .1 .1 .0, b .pre .1 .1 .1 .1 .1))))
+    (b .pre .0, (b .pre .1 .0, ((e, b .pre .1 .1 .1 .0 .1, b .pre .1 .1 .1 .0 .2), (b .pre .1 .1 .1 .1 .0 .0, b .pre .1 .1 .1 .1 .0 .1))))
 
 same-length : tie.Need-same-length
 same-length c = search needs
 
 returns : tie.Need-returns
 returns c =
-    let b = c .before .before .before .before .before .before .before .before .before .before .before .before in
+    let b = c .before .before .before .before .before .before .before .before .before .before .before .before .before in
+    let B = base-before (b .args .s .now) (b .args .base .rows) (b .args .t) (b .pre .1 .1 .1 .0 .1) (b .pre .1 .1 .1 .1 .0 .0) in
     let told = c .before .before .before .before .line-classes .ensures in
     record {
-      base-is = b .pre .1 .1 .1 .1 .0;
-      classes-tell = told .0 (b .args .t - 1) (base-before (b .args .s .now) (b .args .base .rows) (b .args .t) (b .pre .1 .1 .1 .0 .1) (b .pre .1 .1 .1 .1 .0));
+      base-is = b .pre .1 .1 .1 .1 .0 .0;
+      classes-tell = told .0 (b .args .t - 1) B .0;
+      classes-bound = told .0 (b .args .t - 1) B .1;
       classes-small = told .1;
       parted-is = c .parted-by-forms .ensures;
     }
