@@ -16,15 +16,9 @@ use Rattle.base.proofs.Tables.{lent-row, tells-same, tells-other}
 pub not-both : {r : Bool} → r ≡ false → r ≡ true → ⊥
 not-both e h = let z : _≡_ {A = ℕ} 0 1 = cc in omega arith
 
--- Parts that hold add nothing to a test.
+-- A part that holds adds nothing to a test.
 pub tells-second : {r : Bool} {A B : Type 0} → A → (r ≡ true) ↔ B → (r ≡ true) ↔ (A × B)
 tells-second a t = (λ e. (a, t .0 e), λ w. t .1 (w .1))
-
-pub tells-third : {r : Bool} {A B C : Type 0} → A → B → (r ≡ true) ↔ C → (r ≡ true) ↔ (A × B × C)
-tells-third a b t = (λ e. (a, b, t .0 e), λ w. t .1 (w .2))
-
-pub tells-after : {r : Bool} {A B C : Type 0} → A → B → (r ≡ true) ↔ C → (r ≡ true) ↔ (A → B → C)
-tells-after a b t = (λ e _ _. t .0 e, λ f. t .1 (f a b))
 
 -- A search for one index below n: it is found, or all are tried.
 pub some-found : {P : ℕ → Type 0} {n : ℕ} (i : ℕ) → i < n → P i → (true ≡ true) ↔ ((j : ℕ) × (j < n) × P j)

@@ -20,6 +20,7 @@ pub mod Matching
 pub mod TableRows
 pub mod LineForms
 pub mod Answers
+pub mod LineLists
 pub mod Products
 -- The row of a kind at a stage, from the tables; the loop over the kinds.
 pub mod StageRows

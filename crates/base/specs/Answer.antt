@@ -9,6 +9,26 @@ use Rattle.model.specs.Field.{Field, _⊕_, unit, at}
 use Rattle.model.specs.Limits.{mostKinds, mostLines}
 use Rattle.base.specs.Table.{Under, rowIn}
 
+-- Each entry of a list of lines, by number, satisfies P; some entry does.
+abbrev pub EachOf : List ℕ → (ℕ → Type 0) → Type 0
+EachOf xs P = (x : ℕ) → x < length xs → P (at xs x)
+
+abbrev pub SomeOf : List ℕ → (ℕ → Type 0) → Type 0
+SomeOf xs P = (x : ℕ) × (x < length xs) × P (at xs x)
+
+-- The entries of a list are the lines below n that satisfy P: each entry is one, and each of them is an entry.
+pub record Lists (P : ℕ → Type 0) (n : ℕ) (xs : List ℕ) : Type 0 where
+  pub only : EachOf xs (λ i. (i < n) × P i)
+  pub every : (i : ℕ) → i < n → P i → SomeOf xs (λ j. j ≡ i)
+
+-- Line i is of kind k and lowers the norm.
+abbrev pub OwnLine : List ℕ → List Bool → ℕ → ℕ → Type 0
+OwnLine kinds lowers k i = (getD lowers i false ≡ true) × (at kinds i ≡ k)
+
+-- Line j lowers the norm, and the product may use it.
+abbrev pub ProductLine : List ℕ → List Bool → Field → ℕ → Type 0
+ProductLine kinds lowers b j = (getD lowers j false ≡ true) × (0 < b (at kinds j))
+
 module _ (kinds codes forms : List ℕ) where
   -- The tables are whole: at most 256 lines, each with a kind of the 32 there can be, a code, and a form.
   pub record FormTables : Type 0 where
@@ -21,6 +41,17 @@ module _ (kinds codes forms : List ℕ) where
   -- Line i of the kind and line j of the product read one code and leave equal forms.
   abbrev pub Alike : Field → ℕ → ℕ → Type 0
   Alike b i j = (at codes j ≡ at codes i) × (rowIn forms i ⊕ unit (at kinds j) ≡ b ⊕ rowIn forms j)
+
+  -- Of a list of the kind's own lines and one of lines that the product may use: each of the first has one alike in the second; each of the second has
+  -- one in the first; both.
+  abbrev pub OwnAnswered : Field → List ℕ → List ℕ → Type 0
+  OwnAnswered b own usable = EachOf own (λ i. SomeOf usable (λ j. Alike b i j))
+
+  abbrev pub ProductAnswered : Field → List ℕ → List ℕ → Type 0
+  ProductAnswered b own usable = EachOf usable (λ j. SomeOf own (λ i. Alike b i j))
+
+  abbrev pub BothAnswer : Field → List ℕ → List ℕ → Type 0
+  BothAnswer b own usable = OwnAnswered b own usable × ProductAnswered b own usable
 
   module _ (lowers : List Bool) where
     pub record LoweringTables : Type 0 where

@@ -1,66 +1,58 @@
--- Every challenge by a line below i has a reply.
-use borrow.Author.Count.{below-more}
+-- Every challenge and every reply is in one of the lists.
 use borrow.Author.Needs.{needs}
-use Prim.Native.Nat.{ℕ, _-_, _≤_, _<_}
+use mathlib.Core.Path.{sym}
 use native.Mathlib.Omega.{arith}
-use lib.ListN.{length}
-use Rattle.model.specs.Field.{at}
-use Rattle.base.specs.Answer.{ProductAnswers, KindAnswers}
-use Rattle.base.proofs.Tables.{tells-same, tells-other, told-not}
-use Rattle.base.proofs.Answers.{all-below}
+use lib.Seq.{length-take-le}
+use Rattle.base.proofs.LineLists.{lists-lines, answered-tells}
 use Rattle.base.proofs.answer.all_answered.Statement.{statement}
 use Rattle.base.proofs.answer.all_answered.Tie as tie
 
-abbrev Inv-loop : tie.InvT-loop
-Inv-loop kinds codes forms lowers k b i₀ i =
-    (i ≤ length kinds)
-    × ((x : ℕ) → x < i → ProductAnswers kinds codes forms lowers k (at b) x)
-    × ((x : ℕ) → x < i → KindAnswers kinds codes forms lowers k (at b) x)
+slice-aggregate-own-lines : tie.Need-slice-aggregate-own-lines
+slice-aggregate-own-lines c = search needs
 
-abbrev μ-loop : tie.MeasureT-loop
-μ-loop kinds codes forms lowers k b i₀ i = length kinds - i
+own-lines-requires : tie.Need-own-lines-requires
+own-lines-requires c κs = search needs
 
-loop-holds : tie.Need-loop-holds Inv-loop μ-loop
-loop-holds c = (omega arith, λ x h. absurd (omega arith), λ x h. absurd (omega arith))
+slice-aggregate-product-lines : tie.Need-slice-aggregate-product-lines
+slice-aggregate-product-lines c = search needs
 
-product-answers-requires : tie.Need-product-answers-requires Inv-loop μ-loop
-product-answers-requires c κs = search needs
+product-lines-requires : tie.Need-product-lines-requires
+product-lines-requires c κs =
+    let p = c .before .before .before .before .before .before .before .before .before .pre in
+    let t = p .0 .tables in
+    (p .0 .marked, (λ j l. omega (arith, t .kinds-under j l, p .1), (t .few, t .few)))
 
-kind-answers-requires : tie.Need-kind-answers-requires Inv-loop μ-loop
-kind-answers-requires c κs = search needs
+array-share-prefix-own : tie.Need-array-share-prefix-own
+array-share-prefix-own c = search needs
 
-add-i : tie.Need-add-i Inv-loop μ-loop
-add-i c = search needs
+slice-aggregate-both-answer : tie.Need-slice-aggregate-both-answer
+slice-aggregate-both-answer c = sym (length-take-le _ _ (array-share-prefix-own (c .before)))
 
-loop-less : tie.Need-loop-less Inv-loop μ-loop
-loop-less c = search needs
+array-share-prefix-usable : tie.Need-array-share-prefix-usable
+array-share-prefix-usable c = search needs
 
-loop-again : tie.Need-loop-again Inv-loop μ-loop
-loop-again c =
-    let h = c .before .before .before .before .before .loop .inv in
-    (omega arith, below-more _ _ (h .1) (c .before .before .before .product-answers .ensures .0 (c .before .before .if1 .taken)), below-more _ _ (h .2) (c .before .kind-answers .ensures .0 (c .if2 .taken)))
+slice-aggregate-both-answer-2 : tie.Need-slice-aggregate-both-answer-2
+slice-aggregate-both-answer-2 c = sym (length-take-le _ _ (array-share-prefix-usable (c .before)))
 
-returns : tie.Need-returns Inv-loop μ-loop
-returns c = tells-other (λ w. told-not (c .before .kind-answers .ensures) (c .if2 .left) (w .by-kind (c .before .before .before .before .before .loop .i) (c .before .before .before .before .loop-test .taken)))
+both-answer-requires : tie.Need-both-answer-requires
+both-answer-requires c κs =
+    let p = c .before .before .before .before .before .before .before .before .before .before .before .before .before .pre in
+    (p .0 .tables, (p .1, (lists-lines (c .before .before .before .before .before .before .own-lines .ensures .1), lists-lines (c .before .before .before .product-lines .ensures .1))))
 
-returns-2 : tie.Need-returns-2 Inv-loop μ-loop
-returns-2 c = tells-other (λ w. told-not (c .before .product-answers .ensures) (c .if1 .left) (w .by-product (c .before .before .before .loop .i) (c .before .before .loop-test .taken)))
-
-returns-3 : tie.Need-returns-3 Inv-loop μ-loop
-returns-3 c = tells-same (record { by-product = all-below (c .loop-test .left) (c .before .loop .inv .1); by-kind = all-below (c .loop-test .left) (c .before .loop .inv .2) })
+returns : tie.Need-returns
+returns c = answered-tells (c .before .before .before .before .before .before .before .own-lines .ensures .1) (c .before .before .before .before .product-lines .ensures .1) (c .both-answer .ensures)
 
 pub all-answered-spec : {M : Type 1} → statement M
 all-answered-spec =
     tie.close
     (tie.spec
-    Inv-loop
-    μ-loop
-    loop-holds
-    product-answers-requires
-    kind-answers-requires
-    add-i
-    loop-less
-    loop-again
-    returns
-    returns-2
-    returns-3)
+    slice-aggregate-own-lines
+    own-lines-requires
+    slice-aggregate-product-lines
+    product-lines-requires
+    array-share-prefix-own
+    slice-aggregate-both-answer
+    array-share-prefix-usable
+    slice-aggregate-both-answer-2
+    both-answer-requires
+    returns)

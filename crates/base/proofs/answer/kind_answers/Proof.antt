@@ -1,48 +1,63 @@
--- A line that is no challenge by the product needs no reply.
-use native.Mathlib.Omega.{arith}
-use Rattle.base.proofs.Tables.{tells-same}
-use Rattle.base.proofs.Answers.{not-both, tells-after}
+-- The lines of the list before place x have replies.
+use borrow.Author.Count.{below-more}
 use borrow.Author.Needs.{needs}
+use Prim.Native.Nat.{ℕ, _-_, _≤_, _<_}
+use native.Mathlib.Omega.{arith}
+use lib.ListN.{length}
+use Rattle.model.specs.Field.{at}
+use Rattle.base.specs.Answer.{SomeOf, Alike}
+use Rattle.base.proofs.Tables.{tells-same, tells-other, told-not}
+use Rattle.base.proofs.Answers.{all-below}
 use Rattle.base.proofs.answer.kind_answers.Statement.{statement}
 use Rattle.base.proofs.answer.kind_answers.Tie as tie
 
-shared-slice-read-if1 : tie.Need-shared-slice-read-if1
-shared-slice-read-if1 c = search needs
+abbrev Inv-loop : tie.InvT-loop
+Inv-loop kinds codes forms b own usable x₀ x = (x ≤ length usable) × ((y : ℕ) → y < x → SomeOf own (λ i. Alike kinds codes forms (at b) i (at usable y)))
 
-mul-kind : tie.Need-mul-kind
-mul-kind c = search needs
+abbrev μ-loop : tie.MeasureT-loop
+μ-loop kinds codes forms b own usable x₀ x = length usable - x
 
-shared-slice-read-kind : tie.Need-shared-slice-read-kind
-shared-slice-read-kind c = search needs
+loop-holds : tie.Need-loop-holds Inv-loop μ-loop
+loop-holds c = (omega arith, λ x h. absurd (omega arith))
 
-mul-count : tie.Need-mul-count
-mul-count c = let b = c .before .before .before .before .before .before .before .before in omega (arith, b .pre .0 .tables .kinds-under (b .args .j) (b .pre .1 .1))
+shared-slice-read-j : tie.Need-shared-slice-read-j Inv-loop μ-loop
+shared-slice-read-j c = search needs
 
-shared-slice-read-count : tie.Need-shared-slice-read-count
-shared-slice-read-count c = let b = c .before .before .before .before .before .before .before .before .before in omega (arith, b .pre .0 .tables .kinds-under (b .args .j) (b .pre .1 .1))
+cast-j : tie.Need-cast-j Inv-loop μ-loop
+cast-j c = omega (arith, c .shared-slice-known7 .given (c .before .before .loop .x))
 
-kind-replies-requires : tie.Need-kind-replies-requires
-kind-replies-requires c κs = search needs
+kind-replies-requires : tie.Need-kind-replies-requires Inv-loop μ-loop
+kind-replies-requires c κs =
+    let b = c .before .before .before .before .before .before .before .before .before in
+    (b .pre .0, (b .pre .1 .0, (b .pre .1 .1 .0, b .pre .1 .1 .1 (c .before .before .loop .x) (c .before .loop-test .taken))))
 
-returns : tie.Need-returns
-returns c = tells-after (c .before .before .before .before .if1 .taken) (c .before .if2 .taken) (c .kind-replies .ensures)
+add-x : tie.Need-add-x Inv-loop μ-loop
+add-x c = search needs
 
-returns-2 : tie.Need-returns-2
-returns-2 c = tells-same (λ _ p. absurd (omega (arith, c .if2 .left)))
+loop-less : tie.Need-loop-less Inv-loop μ-loop
+loop-less c = search needs
 
-returns-3 : tie.Need-returns-3
-returns-3 c = tells-same (λ e. absurd (not-both (c .if1 .left) e))
+loop-again : tie.Need-loop-again Inv-loop μ-loop
+loop-again c = (omega arith, below-more _ _ (c .before .before .before .before .loop .inv .1) (c .before .kind-replies .ensures .0 (c .if1 .taken)))
+
+returns : tie.Need-returns Inv-loop μ-loop
+returns c = tells-other (λ w. told-not (c .before .kind-replies .ensures) (c .if1 .left) (w (c .before .before .before .before .loop .x) (c .before .before .before .loop-test .taken)))
+
+returns-2 : tie.Need-returns-2 Inv-loop μ-loop
+returns-2 c = tells-same (all-below (c .loop-test .left) (c .before .loop .inv .1))
 
 pub kind-answers-spec : {M : Type 1} → statement M
 kind-answers-spec =
     tie.close
     (tie.spec
-    shared-slice-read-if1
-    mul-kind
-    shared-slice-read-kind
-    mul-count
-    shared-slice-read-count
+    Inv-loop
+    μ-loop
+    loop-holds
+    shared-slice-read-j
+    cast-j
     kind-replies-requires
+    add-x
+    loop-less
+    loop-again
     returns
-    returns-2
-    returns-3)
+    returns-2)
