@@ -105,6 +105,21 @@ module _ {p : Line → Bool} {h : Bool} {one : Line → Seen} {run : List Line �
         ∙ ap (λ (ls : List Line). f j ∷ ls) (joined-lines (suc j) m n)
         ∙ ap (λ (i : ℕ). f j ∷ (listFrom f (suc j) m ++ listFrom f i n)) d
 
+    -- A first line is passed over, or the others follow it.
+    module _ (line to v : ℕ) (inside : line < to) where
+      one-more : listFrom f line (to - line) ≡ f line ∷ linesBetween f (line + 1) to
+      unfolding listFrom
+      one-more =
+          let d : to - line ≡ suc (to - (line + 1)) = omega arith in
+          let z : suc line ≡ line + 1 = omega arith in
+          ap (listFrom f line) d ∙ ap (λ (i : ℕ). f line ∷ listFrom f i (to - (line + 1))) z
+
+      pub run-pass : p (f line) ≡ false → run (linesBetween f line to) ≡ run (linesBetween f (line + 1) to)
+      run-pass e = ap run one-more ∙ runs .pass (f line) (linesBetween f (line + 1) to) e
+
+      pub run-first : p (f line) ≡ true → examined v (run (linesBetween f line to)) ≡ follow h (examined v (one (f line))) (run (linesBetween f (line + 1) to))
+      run-first e = ap (λ (ls : List Line). examined v (run ls)) one-more ∙ runs .step v (f line) (linesBetween f (line + 1) to) e
+
     module _ (from to v : ℕ) (fits : from ≤ to) where
       split : run (linesBetween f from to) ≡ run (linesBetween f (nextLine p f from to) to)
       split =
@@ -122,15 +137,11 @@ module _ {p : Line → Bool} {h : Bool} {one : Line → Seen} {run : List Line �
       -- The next line that passes, and then the others.
       pub run-next : (k : ℕ) → k ≡ nextLine p f from to → ¬ (k ≡ to)
           → examined v (run (linesBetween f from to)) ≡ follow h (examined v (one (f k))) (run (linesBetween f (k + 1) to))
-      unfolding listFrom
       run-next k e n =
           let t = next-within p f from to fits in
           let l : k < to = omega (arith, t .1) in
-          let d : to - k ≡ suc (to - (k + 1)) = omega arith in
-          let z : suc k ≡ k + 1 = omega arith in
-          ap (examined v) (split ∙ ap (λ (i : ℕ). run (linesBetween f i to)) (sym e) ∙ ap (λ (m : ℕ). run (listFrom f k m)) d)
-          ∙ runs .step v (f k) (listFrom f (suc k) (to - (k + 1))) (rw e (next-test p f from to fits (rw e at l)))
-          ∙ ap (λ (i : ℕ). follow h (examined v (one (f k))) (run (listFrom f i (to - (k + 1))))) z
+          ap (examined v) (split ∙ ap (λ (i : ℕ). run (linesBetween f i to)) (sym e))
+          ∙ run-first k to v l (rw e (next-test p f from to fits (rw e at l)))
 
       -- The lines up to a middle, and then the others.
       pub run-halves : (middle : ℕ) → from ≤ middle → middle ≤ to

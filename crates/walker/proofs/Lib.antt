@@ -6,5 +6,6 @@ pub mod Cuts  -- what the allowance cuts off, one part of the walk after another
 pub mod Challenges  -- challenges and replies by lines in order
 pub mod Pairs  -- a pair that is examined
 pub mod Steps  -- the steps of a pair's examination, in the words of the contracts
+pub mod LastRound  -- the challenges at one round
 pub mod Tries  -- the numbers of rounds tried one after another
 pub mod Refusals  -- the checks of the call

@@ -60,14 +60,6 @@ module _ (xs : List Line) (a b : Field) where
 
 -- The pair that is left, whoever challenged.
 module _ (xs : List Line) (r v : ℕ) (second : Bool) (x y : Field) where
-  pub left-holds : r ≡ 0 → within v true 1 ≡ examined v (leaves second xs r x y)
-  unfolding leaves
-  left-holds e = go second
-    where
-      go : (b : Bool) → within v true 1 ≡ examined v (leaves b xs r x y)
-      go true = pair-holds xs y x v r e
-      go false = pair-holds xs x y v r e
-
   module _ (found : Examined) (p q : Field) (e : p ≡ x) (d : q ≡ y) where
     pub left-first : second ≡ false → found ≡ examined v (examine xs r p q) → found ≡ examined v (leaves second xs r x y)
     unfolding leaves

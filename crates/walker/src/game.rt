@@ -5,6 +5,7 @@
 // the frame of examine_left, which exists once a round. So 8 rounds have at most 8 × (10 + 10 + 2) = 176 calls at once. Measured on the deepest sheet
 // (`deep` of crates/walks: 256 lines of one code, and the last line of 256 goes on in each round): 124 KB in the program walking, of which
 // it needs 55 KB for a walk of no rounds, 33 KB of them for the table.
+use crate::lines::may_use;
 use crate::lines::next_challenge;
 use crate::lines::next_reply;
 use crate::moves::use_line;
@@ -28,6 +29,41 @@ pub enum Examined {
     Spent,
 }
 
+// The challenges at one round, of the field a by the lines from `from` up to `to`: the pair that a reply of the field b leaves holds at 0 rounds, and its fields are not wanted.
+fn challenge_last(
+    card: Card,
+    s: &[u8],
+    t: &[u16],
+    from: usize,
+    to: usize,
+    a: &[u32; 32],
+    b: &[u32; 32],
+    allowance: u32,
+) -> Examined
+    requires { ⌜ Reads (now s) card × Follows (now s) (now t) ⌝ }
+    requires { ⌜ (from ≤ to) × (to ≤ card .lines) ⌝ }
+    ensures { λ r. ⌜
+        r ≡ examined allowance (tryChallenges (examine (cardOf (now (s .entry)) .lines) 0) (cardOf (now (s .entry)) .lines)
+        (at (now (a .entry))) (at (now (b .entry))) (linesBetween (lineOf (now (s .entry))) from to)) ⌝ }
+{
+    let lines = card.lines;
+    let mut left = allowance;
+    let mut line = from;
+    while line < to {
+        if may_use(card, s, line, a) {
+            if next_reply(card, s, t, 0, lines, line, b) == lines {
+                return Examined::Fails(left);
+            }
+            if left == 0 {
+                return Examined::Spent;
+            }
+            left -= 1;
+        }
+        line += 1;
+    }
+    Examined::Holds(left)
+}
+
 // A challenge at `rounds` rounds: those of the field a by the lines from `from` up to `to`, against replies of the field b.
 fn challenge(
     card: Card,
@@ -48,6 +84,9 @@ fn challenge(
         r ≡ examined allowance (tryChallenges (leaves second (cardOf (now (s .entry)) .lines) (rounds - 1)) (cardOf (now (s .entry)) .lines)
         (at (now (a .entry))) (at (now (b .entry))) (linesBetween (lineOf (now (s .entry))) from to)) ⌝ }
 {
+    if rounds == 1 {
+        return challenge_last(card, s, t, from, to, a, b, allowance);
+    }
     let line = next_challenge(card, s, from, to, a);
     if line == to {
         return Examined::Holds(allowance);
@@ -138,7 +177,7 @@ fn hold(allowance: u32) -> Examined
     }
 }
 
-// The pair that a challenge of the field a by `line` and the reply of the field b by `answer` leave. At 0 rounds its fields are not wanted.
+// The pair that a challenge of the field a by `line` and the reply of the field b by `answer` leave.
 fn examine_left(
     card: Card,
     s: &[u8],
@@ -158,9 +197,6 @@ fn examine_left(
         r ≡ examined allowance (leaves second (cardOf (now (s .entry)) .lines) rounds
         (fire (lineOf (now (s .entry)) line) (at (now (a .entry)))) (fire (lineOf (now (s .entry)) answer) (at (now (b .entry))))) ⌝ }
 {
-    if rounds == 0 {
-        return hold(allowance);
-    }
     let x = use_line(card, s, line, a);
     let y = use_line(card, s, answer, b);
     if second {

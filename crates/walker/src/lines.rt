@@ -10,7 +10,7 @@ ghost use Rattle.walker.specs.Rounds.{usable, answers, nextLine};
 ghost use Rattle.walker.specs.Following.{Follows};
 
 // Whether the field may use line j.
-fn may_use(card: Card, s: &[u8], j: usize, a: &[u32; 32]) -> bool
+pub fn may_use(card: Card, s: &[u8], j: usize, a: &[u32; 32]) -> bool
     requires { ⌜ Reads (now s) card ⌝ }
     requires { ⌜ j < card .lines ⌝ }
     ensures { λ r. ⌜ r ≡ usable (at (now (a .entry))) (lineOf (now (s .entry)) j) ⌝ }

@@ -12,10 +12,11 @@ use Rattle.sheet.proofs.Laws.{lines-most, left-under}
 use Rattle.walker.specs.declared.game.Examined.{Examined}
 use Rattle.walker.specs.declared.game.Examined.the-variants.{Holds, Fails, Spent}
 use Rattle.walker.proofs.Cuts.{follow}
-use Rattle.walker.specs.Rounds.{Bounded, examined, usable, answers, leaves}
+use Rattle.walker.specs.Rounds.{Bounded, examined, usable, answers, leaves, linesBetween}
 use Rattle.walker.proofs.Fields.{fire-bounded, bounded-less}
 use Rattle.walker.proofs.Challenges.{next-within}
-use Rattle.walker.proofs.Pairs.{pair-spent, pair-holds, left-holds, left-first, left-second}
+use Rattle.walker.proofs.Pairs.{pair-spent, pair-holds, left-first, left-second}
+use Rattle.walker.proofs.LastRound.{last-round}
 use Rattle.walker.proofs.Steps.{Challenged, Replied, challenge-none, challenge-next, challenge-half, reply-none, reply-next, reply-half, sides-next}
 use Prim.Native.Nat.{ℕ, _+_, _*_, _-_, _/_, _≤_, _<_}
 use borrow.Fn.Kinds.{In}
@@ -32,6 +33,7 @@ use Rattle.walker.proofs.game.+challenge+examine_left+examine_pair+repl
 use Rattle.walker.proofs.game.reply.Reads as reply
 use Rattle.walker.proofs.game.reply.Kinds as reply-kinds
 use Rattle.walker.proofs.game.+challenge+examine_left+examine_pair+reply.Lts-reply as reply-lts
+use Rattle.walker.proofs.game.challenge_last.Reads as challenge-last-reads
 use Rattle.walker.proofs.game.hold.Reads as hold-reads
 use Rattle.walker.proofs.lines.next_challenge.Reads as next-challenge-reads
 use Rattle.walker.proofs.lines.next_reply.Reads as next-reply-reads
@@ -90,11 +92,11 @@ reply-below t = and 4 reply-kinds.ps (falls 4 reply-kinds.ps _<_ μ-reply t) rep
 
 -- what challenge calls
 abbrev challenge-calls : ℕ → challenge-lts.Claims
-challenge-calls t = (next-challenge-reads.Asked, next-challenge-reads.Learnt, reply-below t, reply.Post, challenge-below t, challenge.Post)
+challenge-calls t = (challenge-last-reads.Asked, challenge-last-reads.Learnt, next-challenge-reads.Asked, next-challenge-reads.Learnt, reply-below t, reply.Post, challenge-below t, challenge.Post)
 
 -- what examine-left calls
 abbrev examine-left-calls : ℕ → examine-left-lts.Claims
-examine-left-calls t = (hold-reads.Asked, hold-reads.Learnt, use-line-reads.Asked, use-line-reads.Learnt, examine-pair-below t, examine-pair.Post)
+examine-left-calls t = (use-line-reads.Asked, use-line-reads.Learnt, examine-pair-below t, examine-pair.Post)
 
 -- what examine-pair calls
 abbrev examine-pair-calls : ℕ → examine-pair-lts.Claims
@@ -104,22 +106,30 @@ examine-pair-calls t = (hold-reads.Asked, hold-reads.Learnt, challenge-below t, 
 abbrev reply-calls : ℕ → reply-lts.Claims
 reply-calls t = (next-reply-reads.Asked, next-reply-reads.Learnt, examine-left-below t, examine-left.Post, reply-below t, reply.Post)
 
-challenge-next-challenge-requires : (t : ℕ) → challenge-lts.Need-next-challenge-requires (challenge-calls t) (challenge-at t) challenge.Post
-challenge-next-challenge-requires t c κs = search needs
+challenge-challenge-last-requires : (t : ℕ) → challenge-lts.Need-challenge-last-requires (challenge-calls t) (challenge-at t) challenge.Post
+challenge-challenge-last-requires t c κs = search needs
 
 challenge-returns : (t : ℕ) → challenge-lts.Need-returns (challenge-calls t) (challenge-at t) challenge.Post
 challenge-returns t c =
     let a = c .before .before .before .before .args in
-    let p = c .before .before .before .before .pre .1 in
+    c .challenge-last .ensures ∙ last-round (cardOf (a .s .now) .lines) (a .rounds) (a .second) (at (a .a .now)) (at (a .b .now)) (a .allowance) (linesBetween (lineOf (a .s .now)) (a .from) (a .to)) (c .before .if1 .taken)
+
+challenge-next-challenge-requires : (t : ℕ) → challenge-lts.Need-next-challenge-requires (challenge-calls t) (challenge-at t) challenge.Post
+challenge-next-challenge-requires t c κs = search needs
+
+challenge-returns-2 : (t : ℕ) → challenge-lts.Need-returns-2 (challenge-calls t) (challenge-at t) challenge.Post
+challenge-returns-2 t c =
+    let a = c .before .before .before .before .before .args in
+    let p = c .before .before .before .before .before .pre .1 in
     challenge-none (p .0 .0) (a .rounds - 1) (a .second) (at (a .a .now)) (at (a .b .now)) (a .from) (a .to) (a .allowance) (p .1 .0 .2) (c .before .next-challenge .result)
-    (c .before .next-challenge .ensures) (c .if1 .taken)
+    (c .before .next-challenge .ensures) (c .if2 .taken)
 
 -- The line is one of those given.
-challenge-line : (t : ℕ) (c : challenge-lts.Else1 (challenge-calls t) (challenge-at t) challenge.Post) → (c .before .before .before .before .args .from ≤ c .before .next-challenge .result) × (c .before .next-challenge .result < c .before .before .before .before .args .to)
+challenge-line : (t : ℕ) (c : challenge-lts.Else2 (challenge-calls t) (challenge-at t) challenge.Post) → (c .before .before .before .before .before .args .from ≤ c .before .next-challenge .result) × (c .before .next-challenge .result < c .before .before .before .before .before .args .to)
 challenge-line t c =
-    let a = c .before .before .before .before .args in
-    let n : (c .before .next-challenge .result ≡ a .to) → ⊥ = c .if1 .left in
-    let w = next-within (usable (at (a .a .now))) (lineOf (a .s .now)) (a .from) (a .to) (c .before .before .before .before .pre .1 .1 .0 .2) in
+    let a = c .before .before .before .before .before .args in
+    let n : (c .before .next-challenge .result ≡ a .to) → ⊥ = c .if2 .left in
+    let w = next-within (usable (at (a .a .now))) (lineOf (a .s .now)) (a .from) (a .to) (c .before .before .before .before .before .pre .1 .1 .0 .2) in
     (omega (arith, w .0, c .before .next-challenge .ensures), omega (arith, w .1, c .before .next-challenge .ensures))
 
 challenge-add-next : (t : ℕ) → challenge-lts.Need-add-next (challenge-calls t) (challenge-at t) challenge.Post
@@ -136,8 +146,8 @@ challenge-sub-reply t c = search needs
 
 challenge-reply-requires : (t : ℕ) → challenge-lts.Need-reply-requires (challenge-calls t) (challenge-at t) challenge.Post
 challenge-reply-requires t c κs =
-    let p = c .before .before .before .before .pre in
-    let z : c .before .before .before .before .args .rounds - 1 + 1 ≡ c .before .before .before .before .args .rounds = omega (arith, p .1 .1 .0) in
+    let p = c .before .before .before .before .before .pre in
+    let z : c .before .before .before .before .before .args .rounds - 1 + 1 ≡ c .before .before .before .before .before .args .rounds = omega (arith, p .1 .1 .0) in
     let w = challenge-line t c in
     let m = lines-most (p .1 .0 .0) in
     (omega (arith, p .0, p .1 .1 .0, m), (p .1 .0, (omega (arith, p .1 .1 .0, w), (rw z (p .1 .1 .1 .0), rw z (p .1 .1 .1 .1)))))
@@ -147,7 +157,7 @@ challenge-enum-known-answered t c = search needs
 
 challenge-challenge-requires : (t : ℕ) → challenge-lts.Need-challenge-requires (challenge-calls t) (challenge-at t) challenge.Post
 challenge-challenge-requires t c κs =
-    let p = c .before .before .before .before .before .before .before .before .pre in
+    let p = c .before .before .before .before .before .before .before .before .before .pre in
     let w = challenge-line t (c .before .before .before .before) in
     (omega (arith, p .0, p .1 .1 .0, w), (p .1 .0, (omega (arith, p .1 .1 .0, w), p .1 .1 .1)))
 
@@ -156,7 +166,7 @@ challenge-enum-known-half t c = search needs
 
 challenge-challenge-requires-2 : (t : ℕ) → challenge-lts.Need-challenge-requires-2 (challenge-calls t) (challenge-at t) challenge.Post
 challenge-challenge-requires-2 t c κs =
-    let p = c .before .before .before .before .before .before .before .before .before .before .before .before .pre in
+    let p = c .before .before .before .before .before .before .before .before .before .before .before .before .before .pre in
     let w = challenge-line t (c .before .before .before .before .before .before .before .before) in
     (omega (arith, p .0, p .1 .1 .0, w), (p .1 .0, (omega (arith, p .1 .1 .0, w), p .1 .1 .1)))
 
@@ -174,95 +184,86 @@ challenge-enum-told-2 t c = search needs
 
 -- What the lines after the first come to, by what is known of the first.
 challenge-after : (t : ℕ) (c : challenge-lts.After-reply (challenge-calls t) (challenge-at t) challenge.Post) (known : Examined) → c .reply .result ≡ known
-    → follow true known (Challenged (c .before .before .before .before .before .pre .1 .0 .0) (c .before .before .before .before .before .args .rounds - 1) (c .before .before .before .before .before .args .second) (at (c .before .before .before .before .before .args .a .now)) (at (c .before .before .before .before .before .args .b .now)) (c .before .before .next-challenge .result + 1) (c .before .before .before .before .before .args .to))
-    ≡ examined (c .before .before .before .before .before .args .allowance) (Challenged (c .before .before .before .before .before .pre .1 .0 .0) (c .before .before .before .before .before .args .rounds - 1) (c .before .before .before .before .before .args .second) (at (c .before .before .before .before .before .args .a .now)) (at (c .before .before .before .before .before .args .b .now)) (c .before .before .before .before .before .args .from) (c .before .before .before .before .before .args .to))
+    → follow true known (Challenged (c .before .before .before .before .before .before .pre .1 .0 .0) (c .before .before .before .before .before .before .args .rounds - 1) (c .before .before .before .before .before .before .args .second) (at (c .before .before .before .before .before .before .args .a .now)) (at (c .before .before .before .before .before .before .args .b .now)) (c .before .before .next-challenge .result + 1) (c .before .before .before .before .before .before .args .to))
+    ≡ examined (c .before .before .before .before .before .before .args .allowance) (Challenged (c .before .before .before .before .before .before .pre .1 .0 .0) (c .before .before .before .before .before .before .args .rounds - 1) (c .before .before .before .before .before .before .args .second) (at (c .before .before .before .before .before .before .args .a .now)) (at (c .before .before .before .before .before .before .args .b .now)) (c .before .before .before .before .before .before .args .from) (c .before .before .before .before .before .before .args .to))
 challenge-after t c known m =
-    let a = c .before .before .before .before .before .args in
-    let p = c .before .before .before .before .before .pre .1 in
+    let a = c .before .before .before .before .before .before .args in
+    let p = c .before .before .before .before .before .before .pre .1 in
     challenge-next (p .0 .0) (a .rounds - 1) (a .second) (at (a .a .now)) (at (a .b .now)) (a .from) (a .to) (a .allowance) (p .1 .0 .2) (c .before .before .next-challenge .result)
-    (c .before .before .next-challenge .ensures) (c .before .if1 .left) (c .reply .result) known (c .reply .ensures) m
+    (c .before .before .next-challenge .ensures) (c .before .if2 .left) (c .reply .result) known (c .reply .ensures) m
 
 -- The same of the second half of them, by what is known of the first half.
 challenge-middle : (t : ℕ) (c : challenge-lts.After-challenge (challenge-calls t) (challenge-at t) challenge.Post) (known : Examined) → c .challenge .result ≡ known
-    → follow true known (Challenged (c .before .before .before .before .before .before .before .before .before .pre .1 .0 .0) (c .before .before .before .before .before .before .before .before .before .args .rounds - 1) (c .before .before .before .before .before .before .before .before .before .args .second) (at (c .before .before .before .before .before .before .before .before .before .args .a .now)) (at (c .before .before .before .before .before .before .before .before .before .args .b .now)) (c .before .before .before .before .before .before .next-challenge .result + 1 + (c .before .before .before .before .before .before .before .before .before .args .to - (c .before .before .before .before .before .before .next-challenge .result + 1)) / 2) (c .before .before .before .before .before .before .before .before .before .args .to))
-    ≡ examined (c .before .before .before .before .before .before .before .before .before .args .allowance) (Challenged (c .before .before .before .before .before .before .before .before .before .pre .1 .0 .0) (c .before .before .before .before .before .before .before .before .before .args .rounds - 1) (c .before .before .before .before .before .before .before .before .before .args .second) (at (c .before .before .before .before .before .before .before .before .before .args .a .now)) (at (c .before .before .before .before .before .before .before .before .before .args .b .now)) (c .before .before .before .before .before .before .before .before .before .args .from) (c .before .before .before .before .before .before .before .before .before .args .to))
+    → follow true known (Challenged (c .before .before .before .before .before .before .before .before .before .before .pre .1 .0 .0) (c .before .before .before .before .before .before .before .before .before .before .args .rounds - 1) (c .before .before .before .before .before .before .before .before .before .before .args .second) (at (c .before .before .before .before .before .before .before .before .before .before .args .a .now)) (at (c .before .before .before .before .before .before .before .before .before .before .args .b .now)) (c .before .before .before .before .before .before .next-challenge .result + 1 + (c .before .before .before .before .before .before .before .before .before .before .args .to - (c .before .before .before .before .before .before .next-challenge .result + 1)) / 2) (c .before .before .before .before .before .before .before .before .before .before .args .to))
+    ≡ examined (c .before .before .before .before .before .before .before .before .before .before .args .allowance) (Challenged (c .before .before .before .before .before .before .before .before .before .before .pre .1 .0 .0) (c .before .before .before .before .before .before .before .before .before .before .args .rounds - 1) (c .before .before .before .before .before .before .before .before .before .before .args .second) (at (c .before .before .before .before .before .before .before .before .before .before .args .a .now)) (at (c .before .before .before .before .before .before .before .before .before .before .args .b .now)) (c .before .before .before .before .before .before .before .before .before .before .args .from) (c .before .before .before .before .before .before .before .before .before .before .args .to))
 challenge-middle t c known m =
-    let a = c .before .before .before .before .before .before .before .before .before .args in
-    let p = c .before .before .before .before .before .before .before .before .before .pre .1 in
+    let a = c .before .before .before .before .before .before .before .before .before .before .args in
+    let p = c .before .before .before .before .before .before .before .before .before .before .pre .1 in
     let next = c .before .before .before .before .before .before .next-challenge .result + 1 in
     let w = challenge-line t (c .before .before .before .before .before) in
     challenge-half (p .0 .0) (a .rounds - 1) (a .second) (at (a .a .now)) (at (a .b .now)) next (a .to) (c .before .before .answered .given .0 .0) (omega (arith, w)) (next + (a .to - next) / 2) (omega (arith, w)) (omega (arith, w))
     (c .challenge .result) known (c .challenge .ensures) m
     ∙ challenge-after t (c .before .before .before .before) (Holds (c .before .before .answered .given .0 .0)) (c .before .before .answered .given .1)
 
-challenge-returns-2 : (t : ℕ) → challenge-lts.Need-returns-2 (challenge-calls t) (challenge-at t) challenge.Post
-challenge-returns-2 t c = c .challenge2 .ensures ∙ challenge-middle t (c .before .before .before .before) (Holds (c .before .before .half .given .0 .0)) (c .before .before .half .given .1)
-
 challenge-returns-3 : (t : ℕ) → challenge-lts.Need-returns-3 (challenge-calls t) (challenge-at t) challenge.Post
-challenge-returns-3 t c = challenge-middle t (c .before .before .before) (Fails (c .before .half2 .given .0 .0)) (c .before .half2 .given .1)
+challenge-returns-3 t c = c .challenge2 .ensures ∙ challenge-middle t (c .before .before .before .before) (Holds (c .before .before .half .given .0 .0)) (c .before .before .half .given .1)
 
 challenge-returns-4 : (t : ℕ) → challenge-lts.Need-returns-4 (challenge-calls t) (challenge-at t) challenge.Post
-challenge-returns-4 t c = challenge-middle t (c .before .before) Spent (c .enum-told .given .1)
+challenge-returns-4 t c = challenge-middle t (c .before .before .before) (Fails (c .before .half2 .given .0 .0)) (c .before .half2 .given .1)
 
 challenge-returns-5 : (t : ℕ) → challenge-lts.Need-returns-5 (challenge-calls t) (challenge-at t) challenge.Post
-challenge-returns-5 t c = challenge-after t (c .before .before .before) (Fails (c .before .answered2 .given .0 .0)) (c .before .answered2 .given .1)
+challenge-returns-5 t c = challenge-middle t (c .before .before) Spent (c .enum-told .given .1)
 
 challenge-returns-6 : (t : ℕ) → challenge-lts.Need-returns-6 (challenge-calls t) (challenge-at t) challenge.Post
-challenge-returns-6 t c = challenge-after t (c .before .before) Spent (c .enum-told2 .given .1)
+challenge-returns-6 t c = challenge-after t (c .before .before .before) (Fails (c .before .answered2 .given .0 .0)) (c .before .answered2 .given .1)
 
-examine-left-hold-requires : (t : ℕ) → examine-left-lts.Need-hold-requires (examine-left-calls t) (examine-left-at t) examine-left.Post
-examine-left-hold-requires t c κs = search needs
-
-examine-left-returns : (t : ℕ) → examine-left-lts.Need-returns (examine-left-calls t) (examine-left-at t) examine-left.Post
-examine-left-returns t c =
-    let a = c .before .before .before .before .args in
-    c .hold .ensures ∙ left-holds (cardOf (a .s .now) .lines) (a .rounds) (a .allowance) (a .second) (fire (lineOf (a .s .now) (a .line)) (at (a .a .now))) (fire (lineOf (a .s .now) (a .answer)) (at (a .b .now)))
-    (c .before .if1 .taken)
+challenge-returns-7 : (t : ℕ) → challenge-lts.Need-returns-7 (challenge-calls t) (challenge-at t) challenge.Post
+challenge-returns-7 t c = challenge-after t (c .before .before) Spent (c .enum-told2 .given .1)
 
 examine-left-use-line-requires : (t : ℕ) → examine-left-lts.Need-use-line-requires (examine-left-calls t) (examine-left-at t) examine-left.Post
 examine-left-use-line-requires t c κs =
-    let p = c .before .before .before .pre .1 in
-    (p .0 .0, (p .1 .0 .1, bounded-less (c .before .before .before .args .rounds + 1) 1 (c .before .before .before .args .a .now) (omega arith) (p .1 .1 .0)))
+    let p = c .before .before .pre .1 in
+    (p .0 .0, (p .1 .0 .1, bounded-less (c .before .before .args .rounds + 1) 1 (c .before .before .args .a .now) (omega arith) (p .1 .1 .0)))
 
 examine-left-use-line-requires-2 : (t : ℕ) → examine-left-lts.Need-use-line-requires-2 (examine-left-calls t) (examine-left-at t) examine-left.Post
 examine-left-use-line-requires-2 t c κs =
-    let p = c .before .before .before .before .pre .1 in
-    (p .0 .0, (p .1 .0 .2, bounded-less (c .before .before .before .before .args .rounds + 1) 1 (c .before .before .before .before .args .b .now) (omega arith) (p .1 .1 .1)))
+    let p = c .before .before .before .pre .1 in
+    (p .0 .0, (p .1 .0 .2, bounded-less (c .before .before .before .args .rounds + 1) 1 (c .before .before .before .args .b .now) (omega arith) (p .1 .1 .1)))
 
 -- The counts of the two fields left.
-left-bounded : (t : ℕ) (c : examine-left-lts.After-use-line2 (examine-left-calls t) (examine-left-at t) examine-left.Post) → Bounded (c .before .before .before .before .before .args .rounds) (c .before .use-line .result) × Bounded (c .before .before .before .before .before .args .rounds) (c .use-line2 .result)
+left-bounded : (t : ℕ) (c : examine-left-lts.After-use-line2 (examine-left-calls t) (examine-left-at t) examine-left.Post) → Bounded (c .before .before .before .before .args .rounds) (c .before .use-line .result) × Bounded (c .before .before .before .before .args .rounds) (c .use-line2 .result)
 left-bounded t c =
-    let a = c .before .before .before .before .before .args in
-    let p = c .before .before .before .before .before .pre .1 in (
-      fire-bounded (a .rounds) (lineOf (a .s .now) (a .line)) (a .a .now) (c .before .use-line .result) (p .1 .0 .0) (left-under (a .s .now) (a .line) (λ k. omega (arith, c .before .before .before .before .shared-slice-known .given k)))
+    let a = c .before .before .before .before .args in
+    let p = c .before .before .before .before .pre .1 in (
+      fire-bounded (a .rounds) (lineOf (a .s .now) (a .line)) (a .a .now) (c .before .use-line .result) (p .1 .0 .0) (left-under (a .s .now) (a .line) (λ k. omega (arith, c .before .before .before .shared-slice-known .given k)))
           (c .before .use-line .ensures) (p .1 .1 .0),
-      fire-bounded (a .rounds) (lineOf (a .s .now) (a .answer)) (a .b .now) (c .use-line2 .result) (p .1 .0 .0) (left-under (a .s .now) (a .answer) (λ k. omega (arith, c .before .before .before .before .shared-slice-known .given k)))
+      fire-bounded (a .rounds) (lineOf (a .s .now) (a .answer)) (a .b .now) (c .use-line2 .result) (p .1 .0 .0) (left-under (a .s .now) (a .answer) (λ k. omega (arith, c .before .before .before .shared-slice-known .given k)))
           (c .use-line2 .ensures) (p .1 .1 .1),
     )
 
 examine-left-examine-pair-requires : (t : ℕ) → examine-left-lts.Need-examine-pair-requires (examine-left-calls t) (examine-left-at t) examine-left.Post
 examine-left-examine-pair-requires t c κs =
-    let p = c .before .before .before .before .before .before .before .before .pre in
+    let p = c .before .before .before .before .before .before .before .pre in
     let w = left-bounded t (c .before .before .before) in
     (omega (arith, p .0), (p .1 .0, (omega (arith, p .1 .1 .0), (w .1, w .0))))
 
 examine-left-examine-pair-requires-2 : (t : ℕ) → examine-left-lts.Need-examine-pair-requires-2 (examine-left-calls t) (examine-left-at t) examine-left.Post
 examine-left-examine-pair-requires-2 t c κs =
-    let p = c .before .before .before .before .before .before .before .before .pre in
+    let p = c .before .before .before .before .before .before .before .pre in
     let w = left-bounded t (c .before .before .before) in
     (omega (arith, p .0), (p .1 .0, (omega (arith, p .1 .1 .0), (w .0, w .1))))
 
+examine-left-returns : (t : ℕ) → examine-left-lts.Need-returns (examine-left-calls t) (examine-left-at t) examine-left.Post
+examine-left-returns t c =
+    let a = c .before .before .before .before .before .before .before .before .args in
+    left-second (cardOf (a .s .now) .lines) (a .rounds) (a .allowance) (a .second) (fire (lineOf (a .s .now) (a .line)) (at (a .a .now))) (fire (lineOf (a .s .now) (a .answer)) (at (a .b .now)))
+    (c .examine-pair .result) (at (c .before .before .before .before .before .use-line .result)) (at (c .before .before .before .before .use-line2 .result)) (c .before .before .before .before .before .use-line .ensures) (c .before .before .before .before .use-line2 .ensures) (c .before .before .before .if1 .taken) (c .examine-pair .ensures)
+
 examine-left-returns-2 : (t : ℕ) → examine-left-lts.Need-returns-2 (examine-left-calls t) (examine-left-at t) examine-left.Post
 examine-left-returns-2 t c =
-    let a = c .before .before .before .before .before .before .before .before .before .args in
-    left-second (cardOf (a .s .now) .lines) (a .rounds) (a .allowance) (a .second) (fire (lineOf (a .s .now) (a .line)) (at (a .a .now))) (fire (lineOf (a .s .now) (a .answer)) (at (a .b .now)))
-    (c .examine-pair .result) (at (c .before .before .before .before .before .use-line .result)) (at (c .before .before .before .before .use-line2 .result)) (c .before .before .before .before .before .use-line .ensures) (c .before .before .before .before .use-line2 .ensures) (c .before .before .before .if2 .taken) (c .examine-pair .ensures)
-
-examine-left-returns-3 : (t : ℕ) → examine-left-lts.Need-returns-3 (examine-left-calls t) (examine-left-at t) examine-left.Post
-examine-left-returns-3 t c =
-    let a = c .before .before .before .before .before .before .before .before .before .args in
+    let a = c .before .before .before .before .before .before .before .before .args in
     left-first (cardOf (a .s .now) .lines) (a .rounds) (a .allowance) (a .second) (fire (lineOf (a .s .now) (a .line)) (at (a .a .now))) (fire (lineOf (a .s .now) (a .answer)) (at (a .b .now)))
-    (c .examine-pair2 .result) (at (c .before .before .before .before .before .use-line .result)) (at (c .before .before .before .before .use-line2 .result)) (c .before .before .before .before .before .use-line .ensures) (c .before .before .before .before .use-line2 .ensures) (c .before .before .before .if2 .left) (c .examine-pair2 .ensures)
+    (c .examine-pair2 .result) (at (c .before .before .before .before .before .use-line .result)) (at (c .before .before .before .before .use-line2 .result)) (c .before .before .before .before .before .use-line .ensures) (c .before .before .before .before .use-line2 .ensures) (c .before .before .before .if1 .left) (c .examine-pair2 .ensures)
 
 examine-pair-hold-requires : (t : ℕ) → examine-pair-lts.Need-hold-requires (examine-pair-calls t) (examine-pair-at t) examine-pair.Post
 examine-pair-hold-requires t c κs = search needs
@@ -426,8 +427,10 @@ pub +challenge+examine-left+examine-pair+reply-spec : {M : Type 1} → statement
     close μ-challenge μ-examine-left μ-examine-pair μ-reply (λ t. challenge-lts.spec (challenge-calls t)
     (challenge-at t)
     challenge.Post
-    (challenge-next-challenge-requires t)
+    (challenge-challenge-last-requires t)
     (challenge-returns t)
+    (challenge-next-challenge-requires t)
+    (challenge-returns-2 t)
     (challenge-add-next t)
     (challenge-sub-middle t)
     (challenge-add-middle t)
@@ -441,22 +444,20 @@ pub +challenge+examine-left+examine-pair+reply-spec : {M : Type 1} → statement
     (challenge-enum-told t)
     (challenge-enum-known-answered-2 t)
     (challenge-enum-told-2 t)
-    (challenge-returns-2 t)
     (challenge-returns-3 t)
     (challenge-returns-4 t)
     (challenge-returns-5 t)
-    (challenge-returns-6 t))
+    (challenge-returns-6 t)
+    (challenge-returns-7 t))
     (λ t. examine-left-lts.spec (examine-left-calls t)
     (examine-left-at t)
     examine-left.Post
-    (examine-left-hold-requires t)
-    (examine-left-returns t)
     (examine-left-use-line-requires t)
     (examine-left-use-line-requires-2 t)
     (examine-left-examine-pair-requires t)
     (examine-left-examine-pair-requires-2 t)
-    (examine-left-returns-2 t)
-    (examine-left-returns-3 t))
+    (examine-left-returns t)
+    (examine-left-returns-2 t))
     (λ t. examine-pair-lts.spec (examine-pair-calls t)
     (examine-pair-at t)
     examine-pair.Post
