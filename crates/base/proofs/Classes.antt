@@ -1,7 +1,7 @@
--- Lines that match, and their classes: expansion of two fields of equal forms by the lines that they may use.
+-- Lines that match, and their classes: expansion of two fields of equal forms by the lines that they may use; bounds of the classes from stage to stage.
 use mathlib.Core.List.{List}
 use mathlib.Core.Logic.{_↔_}
-use mathlib.Core.Path.{_≡_, refl, sym, _∙_, ap, fun-ext}
+use mathlib.Core.Path.{_≡_, refl, sym, _∙_, ap}
 use Prim.Native.Nat.{ℕ, suc, _<_}
 use native.Mathlib.Decide.{decLt}
 use native.Mathlib.Omega.{arith}
@@ -21,17 +21,6 @@ use Rattle.base.specs.Stage.{Match, Classes, BoundsAt, SameUses}
 use Rattle.base.proofs.Tables.{zero-counts}
 use Rattle.base.proofs.Forms.{unit-kinds, form-plus, form-unit}
 use Rattle.base.proofs.Lines.{line-on, every-line, some-line}
-
--- To match is an equivalence.
-module _ (c : Card) (q : ℕ) where
-  pub match-refl : (l : Line) → Match c q l l
-  match-refl l = (refl, refl)
-
-  pub match-sym : (l m : Line) → Match c q l m → Match c q m l
-  match-sym l m x = (sym (x .0), sym (x .1))
-
-  pub match-trans : (l m p : Line) → Match c q l m → Match c q m p → Match c q l p
-  match-trans l m p x y = (y .0 ∙ x .0, fun-ext (λ j. omega (arith, ap (λ (f : Field). f j) (x .1), ap (λ (f : Field). f j) (y .1))))
 
 module _ (c : Card) (F : Found (c .lines) (c .kinds) (kindNorm c)) (q : ℕ) (a b : Field) (e : Equal c (kindNorm c) F q a b) where
   -- Two fields of equal forms satisfy expansion just when each line of either has a line of the other that matches it.
@@ -125,24 +114,3 @@ bounds-next s ok q bounds f j h =
 
 pub bounds-first : (s : List ℕ) (q n : ℕ) → BoundsAt s q (replicate n 0)
 bounds-first s q n j h = (omega (arith, zero-counts n j), λ i l. absurd (omega (arith, zero-counts n j)))
-
--- The least line that matches is such a number.
-module _ (s : List ℕ) (q : ℕ) (classes : List ℕ) where
-  pub least-classes : ((i : ℕ) → i < lineCount s
-      → (getD classes i 0 < lineCount s) × Match (cardOf s) q (lineOf s i) (lineOf s (getD classes i 0))
-      × ((j : ℕ) → j < getD classes i 0 → ¬ Match (cardOf s) q (lineOf s i) (lineOf s j))) → Classes s q classes
-  least-classes f i j h u = (
-    (λ e.
-        let x : Match (cardOf s) q (lineOf s i) (lineOf s (getD classes j 0)) = rw e at (f i h .1) in
-        trans (lineOf s i) (lineOf s (getD classes j 0)) (lineOf s j) x (match-sym (cardOf s) q (lineOf s j) (lineOf s (getD classes j 0)) (f j u .1))),
-    (λ x.
-        let y : ¬ (getD classes j 0 < getD classes i 0) = below i j h u x in
-        let z : ¬ (getD classes i 0 < getD classes j 0) = below j i u h (match-sym (cardOf s) q (lineOf s i) (lineOf s j) x) in
-        omega arith),
-  )
-    where
-      trans : (l m p : Line) → Match (cardOf s) q l m → Match (cardOf s) q m p → Match (cardOf s) q l p
-      trans = match-trans (cardOf s) q
-
-      below : (i j : ℕ) → i < lineCount s → j < lineCount s → Match (cardOf s) q (lineOf s i) (lineOf s j) → ¬ (getD classes j 0 < getD classes i 0)
-      below i j h u x r = f i h .2 (getD classes j 0) r (trans (lineOf s i) (lineOf s j) (lineOf s (getD classes j 0)) x (f j u .1))
