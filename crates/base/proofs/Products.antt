@@ -40,6 +40,10 @@ module _ {r : Bool} {own other : List Bool} (kinds classes : List ℕ) (token f 
       m : (own ≡ other) ↔ MayUseAlike kinds classes token g
       m = marks-tell long p q
 
+-- A kind that is its own row may use the lines that its row may.
+pub atom-uses : (kinds classes : List ℕ) (k : ℕ) {f : Field} → f ≡ unit k → MayUseAlike kinds classes (unit k) f
+atom-uses kinds classes k e = rw e (λ x. ((λ u. u), (λ u. u)))
+
 -- The form of the first n counts.
 pub form-first : (n : ℕ) (rows b : List ℕ) → formIn n rows (at (take n b)) ≡ formIn n rows (at b)
 unfolding formIn
@@ -62,12 +66,9 @@ own-one rows k h =
     (λ t. row-at rows k k h ∙ eqb-true (at rows (k * mostKinds + k)) 1 t, λ e. eq-eqb (at rows (k * mostKinds + k)) 1 (sym (row-at rows k k h) ∙ e))
 
 -- A line suits just when the last of the tests holds, where the others do.
-pub suits-last : {norms kinds codes : List ℕ} {lowers : List Bool} {rows : List ℕ} {k l m : ℕ} → at kinds m < mostKinds → getD lowers m false ≡ true
-    → at codes m ≡ at codes l → earlier (at norms) k (at kinds m) ≡ true
-    → (eqb (at rows (at kinds m * mostKinds + at kinds m)) 1 ≡ true) ↔ Suits norms kinds codes lowers rows k l m
-suits-last {norms} {kinds} {codes} {lowers} {rows} {k} {l} {m} u a e o =
-    let one = own-one rows (at kinds m) u in
-    (λ t. record { lowering = a; code = e; before = o; own = one .0 t }, λ w. one .1 (w .own))
+pub suits-last : {r : Bool} {norms kinds codes : List ℕ} {lowers : List Bool} {rows : List ℕ} {k l m : ℕ} → getD lowers m false ≡ true → at codes m ≡ at codes l
+    → earlier (at norms) k (at kinds m) ≡ true → (r ≡ true) ↔ (rowIn rows (at kinds m) (at kinds m) ≡ 1) → (r ≡ true) ↔ Suits norms kinds codes lowers rows k l m
+suits-last a e o one = (λ t. record { lowering = a; code = e; before = o; own = one .0 t }, λ w. one .1 (w .own))
 
 -- The candidate of the rows that hold two lines' forms.
 module _ {norms kinds codes forms : List ℕ} {lowers : List Bool} {rows : List ℕ} {k l m : ℕ} {found : Bool} {counts : List ℕ} where

@@ -24,7 +24,7 @@ use Rattle.sheet.specs.declared.reader.Card.{Card}
 use Rattle.sheet.proofs.Laws.{kinds-are, kinds-most, lines-are, lines-most, kind-under}
 use Rattle.norms.specs.Norms.{Accepts, lowersNorm}
 use Rattle.norms.proofs.Laws.{norms-at}
-use Rattle.base.specs.Table.{Under, rowIn, formIn, withRow}
+use Rattle.base.specs.Table.{Under, rowIn, Atoms, formIn, withRow}
 use Rattle.base.specs.Class.{MayUse, MayUseAlike}
 use Rattle.base.specs.Stage.{Told, Leave, LowersAt, ProductReplies, KindReplies, LowersAlike, Classes, Uses, SameUses, BaseAt, FormsAt, LinesAre}
 use Rattle.base.specs.Answer.{FormTables, LoweringTables, AllAnswered}
@@ -114,14 +114,19 @@ previous-fits s ok k h zero previous classes f b u e z x = absurd (omega arith)
 previous-fits s ok k h (suc p) previous classes f b u e z x =
     omega (arith, ap (λ (g : Field). g x) (base-form s ok p previous (f p refl .0) b), form-count (cardOf s) (certified s ok) p b u x, limit-of s ok k h)
 
+-- A kind whose own count in its row is 1 is an atom.
+pub base-atoms : (s : List ℕ) → Accepted s → (p : ℕ) (rows : List ℕ) → BaseAt s (suc p) rows → Atoms rows (kindCount s)
+base-atoms s ok p rows B k h e =
+    let i = B k h in
+    i ∙ row-own (cardOf s) (certified s ok) p k (kind-of s k h) .0 (ap (λ (g : Field). g k) (sym i) ∙ e)
+
 -- An atom of the stage before stays one.
 pub atom-kept : (s : List ℕ) → Accepted s → (k : ℕ) → k < kindCount s → (t : ℕ) (previous classes : List ℕ) → Follows s t previous classes
     → 0 < t → rowIn previous k k ≡ 1 → unit k ≡ stageRow (cardOf s) (suc t) k
 atom-kept s ok k h zero previous classes f z e = absurd (omega arith)
 atom-kept s ok k h (suc p) previous classes f z e =
-    let F = certified s ok in
-    let i = kind-of s k h in
-    sym (atom-stays (cardOf s) F p k i (row-own (cardOf s) F p k i .0 (ap (λ (g : Field). g k) (sym (f p refl .0 k h)) ∙ e)))
+    let B = f p refl .0 in
+    sym (atom-stays (cardOf s) (certified s ok) p k (kind-of s k h) (sym (B k h) ∙ base-atoms s ok p previous B k h e))
 
 -- A candidate is the row just when it passes.
 pub passes-iff : {s kinds codes : List ℕ} {lowers : List Bool} (L : LinesAre s kinds codes lowers) (ok : Accepted s) (k : ℕ) → k < kindCount s

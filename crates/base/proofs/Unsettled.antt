@@ -14,11 +14,13 @@ use Rattle.model.specs.Refusal.{Accepted}
 use Rattle.sheet.specs.Reader.{Reads}
 use Rattle.sheet.specs.declared.reader.Card.{Card}
 use Rattle.sheet.proofs.Laws.{kinds-are}
+use Rattle.base.specs.Table.{Atoms}
 use Rattle.base.specs.Stage.{BaseAt, BoundsAt, LinesAre}
 use Rattle.base.specs.Settle.{PartedAt, RowsExpand, AtStage, IsSettled}
 use Rattle.base.specs.declared.settle.Stage.{Stage}
 use Rattle.base.proofs.Settled.{settled-after, settled-most, settled-first}
 use Rattle.base.proofs.Classes.{bounds-next}
+use Rattle.base.proofs.StageRows.{base-atoms}
 use Rattle.base.proofs.LineTables.{expand-settled}
 
 -- Of the stages from 1 up, none before t is settled.
@@ -66,6 +68,11 @@ module _ {s : List ℕ} {c : Card} (R : Reads s c) (ok : Accepted s) {kinds code
   passes =
       let z : suc (t - 1) ≡ t = omega (arith, u .from) in
       rw (kinds-are R, ← z) (expand-settled L (x .classes) ok (t - 1) (x .base .rows) (base-before s (x .base .rows) t (u .from) (H .base-is)) (H .classes-tell))
+
+  -- Its kinds whose own count is 1 are atoms.
+  pub held-atoms : Atoms (x .base .rows) (c .kinds)
+  held-atoms =
+      rw (kinds-are R) (base-atoms s ok (t - 1) (x .base .rows) (base-before s (x .base .rows) t (u .from) (H .base-is)))
 
   -- It is the settled stage, or the next one is the present.
   pub held-end : RowsExpand kinds (take (length kinds) (x .classes)) (x .base .rows) (c .kinds) → IsSettled s first (record { base = x .base; stage = t; parted = x .parted })

@@ -19,6 +19,10 @@ rowPart t k = take mostKinds (drop (k * mostKinds) t)
 unfoldable pub rowIn : List ℕ → ℕ → Field
 rowIn t k = at (rowPart t k)
 
+-- Of n kinds, one whose own count in its row is 1 is an atom: its row is the kind itself.
+abbrev pub Atoms : List ℕ → ℕ → Type 0
+Atoms t n = (k : ℕ) → k < n → rowIn t k k ≡ 1 → rowIn t k ≡ unit k
+
 -- The decomposition of a field of n kinds by the rows of a table.
 unfoldable pub formIn : ℕ → List ℕ → Field → Field
 formIn n t a j = weigh n (λ k. rowIn t k j) a

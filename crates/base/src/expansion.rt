@@ -9,7 +9,7 @@ ghost use Prim.Native.Nat.{_≤_, _<_};
 ghost use lib.ListN.{length};
 ghost use Rattle.model.specs.Field.{unit, at};
 ghost use Rattle.model.specs.Limits.{mostKinds};
-ghost use Rattle.base.specs.Table.{Under, rowIn};
+ghost use Rattle.base.specs.Table.{Under, rowIn, Atoms};
 ghost use Rattle.base.specs.Class.{MayUseAlike};
 ghost use Rattle.base.specs.Settle.{RowsExpand};
 
@@ -21,6 +21,16 @@ pub fn one_token(k: usize) -> [u32; 32]
     let mut counts = [0u32; 32];
     counts[k] = 1;
     counts
+}
+
+// Whether a kind's own count in its row is 1: whether the kind is an atom.
+pub fn is_atom(rows: &[u32], k: usize) -> bool
+    requires { ⌜ (k < mostKinds) × (length (now rows) ≡ 1024) ⌝ }
+    ensures { λ r. ⌜ (r ≡ true) ↔ (rowIn (now (rows .entry)) k k ≡ 1) ⌝ }
+{
+    let own = k * 32 + k;
+    let count = rows[own];
+    count == 1
 }
 
 // Whether kind k and a field may use lines of the same classes.
@@ -35,12 +45,16 @@ pub fn uses_alike(kinds: &[usize], classes: &[usize], k: usize, field: &[u32]) -
     same_marks(&own, &other)
 }
 
-// Whether kind k and its row may use lines of the same classes.
+// Whether kind k and its row may use lines of the same classes. An atom is its own row.
 fn row_expands(kinds: &[usize], classes: &[usize], rows: &[u32], k: usize) -> bool
     requires { ⌜ (length (now classes) ≡ length (now kinds)) × Under 256 (now classes) ⌝ }
     requires { ⌜ (length (now rows) ≡ 1024) × (k < mostKinds) ⌝ }
+    requires { ⌜ (rowIn (now rows) k k ≡ 1 → rowIn (now rows) k ≡ unit k) ⌝ }
     ensures { λ r. ⌜ (r ≡ true) ↔ MayUseAlike (now (kinds .entry)) (now (classes .entry)) (unit k) (rowIn (now (rows .entry)) k) ⌝ }
 {
+    if is_atom(rows, k) {
+        return true;
+    }
     uses_alike(kinds, classes, k, row_of(rows, k))
 }
 
@@ -48,6 +62,7 @@ fn row_expands(kinds: &[usize], classes: &[usize], rows: &[u32], k: usize) -> bo
 pub fn rows_expand(kinds: &[usize], classes: &[usize], rows: &[u32], n: usize) -> bool
     requires { ⌜ (length (now classes) ≡ length (now kinds)) × Under 256 (now classes) ⌝ }
     requires { ⌜ (length (now rows) ≡ 1024) × (n ≤ mostKinds) ⌝ }
+    requires { ⌜ Atoms (now rows) n ⌝ }
     ensures { λ r. ⌜ (r ≡ true) ↔ RowsExpand (now (kinds .entry)) (now (classes .entry)) (now (rows .entry)) n ⌝ }
 {
     let mut k = 0;

@@ -1,6 +1,7 @@
 // The row of a kind at stage t + 1: the first candidate that passes, or the kind itself.
 use crate::effect::RowCandidate;
 use crate::effect::candidate;
+use crate::expansion::is_atom;
 use crate::expansion::one_token;
 use crate::product::passes;
 use crate::table::form_of;
@@ -60,9 +61,7 @@ fn suits(
         if other == code {
             let kind = kinds[m];
             if earlier(&norms, k, kind) {
-                let own = kind * 32 + kind;
-                let count = rows[own];
-                return count == 1;
+                return is_atom(rows, kind);
             }
         }
     }
@@ -149,9 +148,7 @@ fn was_atom(t: usize, previous: &[u32], k: usize) -> bool
     ensures { λ r. ⌜ (r ≡ true) ↔ ((0 < t) × (rowIn (now (previous .entry)) k k ≡ 1)) ⌝ }
 {
     if 0 < t {
-        let own = k * 32 + k;
-        let count = previous[own];
-        return count == 1;
+        return is_atom(previous, k);
     }
     false
 }

@@ -21,7 +21,7 @@ ghost use Rattle.model.specs.Limits.{mostKinds};
 ghost use Rattle.model.specs.Refusal.{Accepted};
 ghost use Rattle.sheet.specs.Reader.{Reads};
 ghost use Rattle.norms.specs.Norms.{Accepts};
-ghost use Rattle.base.specs.Table.{Under};
+ghost use Rattle.base.specs.Table.{Under, Atoms};
 ghost use Rattle.base.specs.Stage.{BaseAt, Classes, BoundsAt, LinesAre};
 ghost use Rattle.base.specs.Settle.{PartedAt, RowsExpand, AtStage, IsSettled};
 
@@ -42,6 +42,7 @@ pub struct Settled {
 // Whether the stage that is held is settled.
 fn is_settled(kinds: &[usize], n: usize, held: Stage) -> bool
     requires { ⌜ (length (now kinds) ≤ 256) × Under 256 (held .classes) × (n ≤ mostKinds) ⌝ }
+    requires { ⌜ Atoms (held .base .rows) n ⌝ }
     ensures { λ r. ⌜ (r ≡ true) ↔ RowsExpand (now (kinds .entry)) (take (length (now (kinds .entry))) (held .classes)) (held .base .rows) n ⌝ }
 {
     let base = held.base;

@@ -1,13 +1,22 @@
--- The row is the part of the table that holds it.
+-- An atom is its own row; else the row is the part of the table that holds it.
 use mathlib.Core.Bool.{true}
 use mathlib.Core.Logic.{_↔_}
 use mathlib.Core.Path.{_≡_, subst}
 use Rattle.model.specs.Field.{Field, unit}
 use Rattle.base.specs.Class.{MayUseAlike}
-use Rattle.base.proofs.Tables.{lent-row}
+use Rattle.base.proofs.Tables.{tells-same, lent-row}
+use Rattle.base.proofs.Products.{atom-uses}
 use borrow.Author.Needs.{needs}
 use Rattle.base.proofs.expansion.row_expands.Statement.{statement}
 use Rattle.base.proofs.expansion.row_expands.Tie as tie
+
+is-atom-requires : tie.Need-is-atom-requires
+is-atom-requires c κs = search needs
+
+returns : tie.Need-returns
+returns c =
+    let b = c .before .before .before .before .before in
+    tells-same (atom-uses (b .args .kinds .now) (b .args .classes .now) (b .args .k) (b .pre .1 .1 (c .before .is-atom .ensures .0 (c .if1 .taken))))
 
 row-of-requires : tie.Need-row-of-requires
 row-of-requires c κs = search needs
@@ -15,10 +24,12 @@ row-of-requires c κs = search needs
 uses-alike-requires : tie.Need-uses-alike-requires
 uses-alike-requires c κs = search needs
 
-returns : tie.Need-returns
-returns c =
-    let b = c .before .before .before .before .before .args in
+returns-2 : tie.Need-returns-2
+returns-2 c =
+    let b = c .before .before .before .before .before .before .before .args in
     subst (λ (f : Field). (c .uses-alike .result ≡ true) ↔ MayUseAlike (b .kinds .now) (b .classes .now) (unit (b .k)) f) (lent-row (b .rows .now) (b .k) (c .before .row-of .ensures)) (c .uses-alike .ensures)
 
 pub row-expands-spec : {M : Type 1} → statement M
-row-expands-spec = tie.close (tie.spec row-of-requires uses-alike-requires returns)
+row-expands-spec =
+    tie.close
+    (tie.spec is-atom-requires returns row-of-requires uses-alike-requires returns-2)

@@ -18,7 +18,9 @@ loop-holds : tie.Need-loop-holds Inv-loop μ-loop
 loop-holds c = (omega arith, λ k h. absurd (omega arith))
 
 row-expands-requires : tie.Need-row-expands-requires Inv-loop μ-loop
-row-expands-requires c κs = search needs
+row-expands-requires c κs =
+    let b = c .before .before .before .before .before in
+    (b .pre .0, ((b .pre .1 .0 .0, omega (arith, b .pre .1 .0 .1, c .loop-test .taken)), b .pre .1 .1 (c .before .loop .k) (c .loop-test .taken)))
 
 add-k : tie.Need-add-k Inv-loop μ-loop
 add-k c = search needs

@@ -1,6 +1,5 @@
 -- The last of four tests decides.
 use mathlib.Core.Path.{_∙_, sym}
-use native.Mathlib.Omega.{arith}
 use Rattle.base.proofs.Tables.{tells-other}
 use Rattle.base.proofs.Answers.{not-both}
 use Rattle.base.proofs.Products.{suits-last}
@@ -32,20 +31,11 @@ shared-slice-read-kind c = search needs
 earlier-requires : tie.Need-earlier-requires
 earlier-requires c κs = let b = c .before .before .before .before .before .before .before .before .before .before .before in (b .pre .1 .1 .0, b .pre .1 .0 (b .args .m) (b .pre .1 .1 .2))
 
-mul-own : tie.Need-mul-own
-mul-own c = let b = c .before .before .before .before .before .before .before .before .before .before .before .before .before in omega (arith, b .pre .1 .0 (b .args .m) (b .pre .1 .1 .2))
-
-add-own : tie.Need-add-own
-add-own c = let b = c .before .before .before .before .before .before .before .before .before .before .before .before .before in omega (arith, b .pre .1 .0 (b .args .m) (b .pre .1 .1 .2))
-
-mul-count : tie.Need-mul-count
-mul-count c = let b = c .before .before .before .before .before .before .before .before .before .before .before .before .before in omega (arith, b .pre .1 .0 (b .args .m) (b .pre .1 .1 .2))
-
-shared-slice-read-count : tie.Need-shared-slice-read-count
-shared-slice-read-count c = let b = c .before .before .before .before .before .before .before .before .before .before .before .before .before .before in omega (arith, b .pre .1 .0 (b .args .m) (b .pre .1 .1 .2), b .pre .0 .2)
+is-atom-requires : tie.Need-is-atom-requires
+is-atom-requires c κs = let b = c .before .before .before .before .before .before .before .before .before .before .before .before .before in (b .pre .1 .0 (b .args .m) (b .pre .1 .1 .2), b .pre .0 .2)
 
 returns : tie.Need-returns
-returns c = let b = c .before .before .before .before .before .before .before .before .before .before .before .before .before .before in suits-last (b .pre .1 .0 (b .args .m) (b .pre .1 .1 .2)) (c .before .before .before .before .before .before .before .before .if1 .taken) (c .before .before .before .before .before .if2 .taken) (sym (c .before .before .earlier .ensures) ∙ c .before .if3 .taken)
+returns c = suits-last (c .before .before .before .before .before .before .before .before .if1 .taken) (c .before .before .before .before .before .if2 .taken) (sym (c .before .before .earlier .ensures) ∙ c .before .if3 .taken) (c .is-atom .ensures)
 
 returns-2 : tie.Need-returns-2
 returns-2 c = tells-other (λ w. not-both (sym (c .before .earlier .ensures) ∙ c .if3 .left) (w .before))
@@ -68,10 +58,7 @@ suits-spec =
     mul-kind
     shared-slice-read-kind
     earlier-requires
-    mul-own
-    add-own
-    mul-count
-    shared-slice-read-count
+    is-atom-requires
     returns
     returns-2
     returns-3

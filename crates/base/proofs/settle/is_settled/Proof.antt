@@ -11,13 +11,13 @@ array-share-prefix-classes : tie.Need-array-share-prefix-classes
 array-share-prefix-classes c =
     let b = c .before .before .before .before in
     let e : length (b .args .held .classes) ≡ 256 = search needs in
-    omega (arith, b .pre .0)
+    omega (arith, b .pre .0 .0)
 
 slice-aggregate-rows-expand : tie.Need-slice-aggregate-rows-expand
 slice-aggregate-rows-expand c =
     let b = c .before .before .before .before .before in
     let e : length (b .args .held .classes) ≡ 256 = search needs in
-    sym (classes-long (length (b .args .kinds .now)) (b .args .held .classes) (omega (arith, b .pre .0)))
+    sym (classes-long (length (b .args .kinds .now)) (b .args .held .classes) (omega (arith, b .pre .0 .0)))
 
 slice-aggregate-rows-expand-2 : tie.Need-slice-aggregate-rows-expand-2
 slice-aggregate-rows-expand-2 c = search needs
@@ -27,7 +27,7 @@ rows-expand-requires c κs =
     let b = c .before .before .before .before .before .before in
     let e : length (b .args .held .classes) ≡ 256 = search needs in
     let n = length (b .args .kinds .now) in
-    ((classes-long n (b .args .held .classes) (omega (arith, b .pre .0)), classes-under n (b .args .held .classes) (b .pre .1)), (search needs, b .pre .2))
+    ((classes-long n (b .args .held .classes) (omega (arith, b .pre .0 .0)), classes-under n (b .args .held .classes) (b .pre .0 .1)), ((search needs, b .pre .0 .2), b .pre .1))
 
 returns : tie.Need-returns
 returns c = search needs

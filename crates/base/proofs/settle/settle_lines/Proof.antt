@@ -7,7 +7,7 @@ use Rattle.sheet.proofs.Laws.{kinds-are, kinds-most}
 use Rattle.base.specs.Settle.{AtStage}
 use Rattle.base.proofs.Tables.{told-not}
 use Rattle.base.proofs.LineTables.{few-lines}
-use Rattle.base.proofs.Unsettled.{Unsettled, unsettled-start, unsettled-most, held-end, held-more}
+use Rattle.base.proofs.Unsettled.{Unsettled, unsettled-start, unsettled-most, held-atoms, held-end, held-more}
 use Rattle.base.proofs.settle.settle_lines.Statement.{statement}
 use Rattle.base.proofs.settle.settle_lines.Tie as tie
 
@@ -28,7 +28,8 @@ loop-holds c =
 is-settled-requires : tie.Need-is-settled-requires Inv-loop μ-loop
 is-settled-requires c κs =
     let b = c .before .before .before .before .before .before .before .before .before .before in
-    (few-lines (b .pre .0 .reads) (b .pre .1 .0), c .loop .inv .0 .classes-small, kinds-most (b .pre .0 .reads))
+    let l = c .loop in
+    ((few-lines (b .pre .0 .reads) (b .pre .1 .0), l .inv .0 .classes-small, kinds-most (b .pre .0 .reads)), held-atoms (b .pre .0 .reads) (b .pre .0 .accepted) (b .pre .1 .0) (l .held) (l .inv .0) (l .inv .1))
 
 same-length : tie.Need-same-length Inv-loop μ-loop
 same-length c = omega (arith, c .before .before .before .before .loop .inv .2, c .before .before .before .before .before .before .before .before .before .before .before .before .before .before .pre .1 .1)
