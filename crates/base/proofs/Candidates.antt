@@ -2,7 +2,7 @@
 use mathlib.Core.List.{List}
 use mathlib.Core.Logic.{_↔_, _⊎_, inl, inr}
 use mathlib.Core.Path.{_≡_, refl, sym, _∙_, ap, fun-ext}
-use Prim.Native.Nat.{ℕ, suc, _≤_, _<_}
+use Prim.Native.Nat.{ℕ, suc, _+_, _≤_, _<_}
 use native.Mathlib.Decide.{decLt}
 use native.Mathlib.Omega.{arith}
 use Rattle.model.specs.Field.{Field, unit}
@@ -19,8 +19,8 @@ use Rattle.model.proofs.Base.{unit-some}
 use Rattle.model.proofs.Certified.{Found}
 use Rattle.model.proofs.Program.{Equal, Candidate, row-candidate, test-one, test-next}
 use Rattle.model.proofs.Sheets.{certified}
-use Rattle.base.proofs.Forms.{earlier-iff, earlier-not, lowers-before, lowers-norm, left-kinds, unit-kinds, count-most, form-unit, form-self, form-before, form-atoms, form-norm, row-sort}
-use Rattle.base.specs.Stage.{LowersAt, Told}
+use Rattle.base.proofs.Forms.{earlier-iff, earlier-not, lowers-before, lowers-norm, left-kinds, unit-kinds, count-most, form-unit, form-self, form-before, form-atoms, form-norm, form-next, form-plus, row-sort}
+use Rattle.base.specs.Stage.{LowersAt, Told, Match}
 use Rattle.base.proofs.Lines.{line-lowers, every-lowering, kind-of}
 
 -- A product of atoms of stage q + 1 earlier than kind k, of k's norm. It is its own form, and none of its counts passes the norm.
@@ -118,6 +118,29 @@ module _ (c : Card) (F : Found (c .lines) (c .kinds) (kindNorm c)) (k : ℕ) (h 
       let t = test-next c (kindNorm c) F (unit k) b (unit-kinds c F k h) (P .kinds) q in
       let r = equal-row c F (suc q) k h b P in
       ((λ x. r .0 (t .1 x)), (λ x. t .0 (r .1 x)))
+
+-- What lines l and m tell at stage q + 2 has the row of l's kind for its form at stage q + 1 just when the two lines match there.
+module _ (c : Card) (F : Found (c .lines) (c .kinds) (kindNorm c)) (q k : ℕ) (l m : Line) (o : On c l) (p : On c m) (e : l .kind ≡ k) (d : m .code ≡ l .code)
+    (b : Field) (t : Told c (suc q) l m b) where
+  -- Both sides of what tells it, by the rows of stage q + 1.
+  told-before : (j : ℕ) → stageForm c (suc q) b j + stageForm c (suc q) (m .left) j ≡ stageRow c (suc q) (m .kind) j + stageForm c (suc q) (l .left) j
+  told-before j =
+      let s = stageForm c (suc q) in
+      omega (
+        arith,
+        ap (λ (f : Field). s f j) t,
+        ap (λ (f : Field). f j) (form-plus c F q b (stageForm c (suc (suc q)) (m .left))),
+        ap (λ (f : Field). f j) (form-plus c F q (unit (m .kind)) (stageForm c (suc (suc q)) (l .left))),
+        ap (λ (f : Field). f j) (form-unit c F q (m .kind) (F .kinds m p)),
+        ap (λ (f : Field). f j) (form-next c F q (m .left) (F .counts m p)),
+        ap (λ (f : Field). f j) (form-next c F q (l .left) (F .counts l o)),
+      )
+
+  pub told-kept : (stageRow c (suc q) k ≡ stageForm c (suc q) b) ↔ Match c q l m
+  told-kept = (
+    (λ x. (d, fun-ext (λ j. omega (arith, told-before j, ap (λ (f : Field). f j) x, ap (λ i. stageRow c (suc q) i j) e)))),
+    (λ x. fun-ext (λ j. omega (arith, told-before j, ap (λ (f : Field). f j) (x .1), ap (λ i. stageRow c (suc q) i j) e))),
+  )
 
 -- The same of an accepted sheet, with its lines by number.
 module _ (s : List ℕ) (ok : Accepted s) (q k : ℕ) (h : k < kindCount s) where

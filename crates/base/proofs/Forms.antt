@@ -24,7 +24,7 @@ use Rattle.model.proofs.Certified.{Found}
 use Rattle.model.proofs.Rows.{finite, order-iff, tells-earlier}
 use Rattle.model.proofs.Plain.{plain, tidy, tells-equal, stages}
 use Rattle.model.proofs.Settling.{base, row-of, within, before}
-use Rattle.model.proofs.Program.{theirs}
+use Rattle.model.proofs.Program.{theirs, test-next}
 
 -- Rows count only where the field has tokens: tables that agree on the kinds that the field holds give it one form.
 pub form-rows : (n : ℕ) (rows others : ℕ → Field) (a : Field) → ((k : ℕ) → k < n → 0 < a k → rows k ≡ others k)
@@ -232,3 +232,11 @@ module _ (c : Card) (F : Found (c .lines) (c .kinds) (kindNorm c)) where
         go : Dec (0 < weigh (c .kinds) (λ k. stageRow c (suc q) k j) a) → weigh (c .kinds) (λ k. stageRow c (suc q) k j) a ≡ 0
         go (yes p) = let t = weigh-some (c .kinds) (λ k. stageRow c (suc q) k j) a p in absurd (omega (arith, row-kinds (t .0) (t .1) j (t .3)))
         go (no p) = none-of _ p
+
+-- A later stage relates no more than an earlier one: a field and its form at the next stage have one form at this one.
+module _ (c : Card) (F : Found (c .lines) (c .kinds) (kindNorm c)) (q : ℕ) (a : Field) (u : OfKinds c a) where
+  pub form-next : stageForm c (suc q) (stageForm c (suc (suc q)) a) ≡ stageForm c (suc q) a
+  form-next =
+      let f = form-kinds c F (suc q) a u in
+      let e = form-self c F (suc q) (stageForm c (suc (suc q)) a) f (λ j i. form-atoms c F (suc q) a u j i .1) in
+      test-next c (kindNorm c) F (stageForm c (suc (suc q)) a) a f u q .0 e .0

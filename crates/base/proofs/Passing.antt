@@ -1,17 +1,18 @@
--- The tests of a candidate as the code makes them: from the new forms of lines, and from the rows, the forms and the classes of the stage before.
+-- The tests of a candidate as the code makes them: from the forms of lines, and from the classes of the stage before.
 use mathlib.Core.List.{List}
 use mathlib.Core.Logic.{_↔_}
 use mathlib.Core.Path.{_≡_, sym, _∙_}
 use Prim.Native.Nat.{ℕ, suc, _<_}
+use lib.ListN.{getD}
 use Rattle.model.specs.Field.{Field, unit}
 use Rattle.model.specs.Base.{stageRow, stageForm}
-use Rattle.model.specs.Sheet.{kindCount, cardOf}
+use Rattle.model.specs.Sheet.{kindCount, lineCount, lineOf, cardOf}
 use Rattle.model.specs.Refusal.{Accepted}
 use Rattle.model.proofs.Sheets.{certified}
-use Rattle.base.specs.Stage.{LowersAlike, Classes, SameUses}
+use Rattle.base.specs.Stage.{Told, LowersAlike, Classes, SameUses}
 use Rattle.base.proofs.Forms.{form-unit}
-use Rattle.base.proofs.Lines.{kind-of}
-use Rattle.base.proofs.Candidates.{Product, row-one, row-next}
+use Rattle.base.proofs.Lines.{line-on, kind-of}
+use Rattle.base.proofs.Candidates.{Product, row-one, row-next, told-kept}
 use Rattle.base.proofs.Lowering.{lines-lowering}
 use Rattle.base.proofs.Classes.{classes-expand}
 
@@ -33,3 +34,11 @@ module _ (s : List ℕ) (ok : Accepted s) (k : ℕ) (h : k < kindCount s) where
         (λ z. x .0 (e ∙ z .0, classes-expand s ok q (unit k) b (e ∙ z .0) classes K .1 (z .1), y .1 (z .2))),
         (λ z. let u = x .1 z in (sym e ∙ u .0, classes-expand s ok q (unit k) b (u .0) classes K .0 (u .1), y .0 (u .2))),
       )
+
+  -- What lines i and j tell has the kind's row for its form at the stage before just when the two lines have one class there.
+  pub told-class : (q : ℕ) (classes : List ℕ) → Classes s q classes → (i j : ℕ) → i < lineCount s → j < lineCount s → lineOf s i .kind ≡ k → lineOf s j .code ≡ lineOf s i .code
+      → (b : Field) → Told (cardOf s) (suc q) (lineOf s i) (lineOf s j) b
+      → (stageRow (cardOf s) (suc q) k ≡ stageForm (cardOf s) (suc q) b) ↔ (getD classes j 0 ≡ getD classes i 0)
+  told-class q classes K i j hi hj e d b t =
+      let x = told-kept (cardOf s) (certified s ok) q k (lineOf s i) (lineOf s j) (line-on s i hi) (line-on s j hj) e d b t in
+      ((λ y. sym (K i j hi hj .1 (x .0 y))), (λ y. x .1 (K i j hi hj .0 (sym y))))

@@ -1,7 +1,7 @@
 -- The row of a kind at a stage, from plain tables that hold the rows and the forms known so far.
 use mathlib.Core.Bool.{Bool, true, false}
 use mathlib.Core.List.{List}
-use mathlib.Core.Logic.{_↔_, _⊎_, inl, inr}
+use mathlib.Core.Logic.{_↔_, inl}
 use mathlib.Core.Path.{_≡_, refl, sym, ap, _∙_, subst, fun-ext}
 use Prim.Native.Nat.{ℕ, zero, suc, _+_, _*_, _-_, _^_, _≤_, _<_}
 use native.Mathlib.Decide.{decLt}
@@ -13,30 +13,29 @@ use lib.ListN.{length, getD, take, replicate, length-replicate}
 use lib.Seq.{length-take-le}
 use Rattle.model.specs.Field.{Field, _⊕_, unit, at}
 use Rattle.model.specs.Base.{earlier, stageRow, stageForm}
-use Rattle.model.specs.Limits.{mostKinds, mostLines, normLimit}
+use Rattle.model.specs.Limits.{mostKinds, mostLines}
 use Rattle.model.specs.Norm.{kindNorm, norm}
 use Rattle.model.specs.Refusal.{Accepted}
 use Rattle.model.specs.Sheet.{kindCount, lineCount, lineOf, cardOf}
-use Rattle.model.specs.Terms.{OfKinds, Earlier}
-use Rattle.model.proofs.Limits.{limit-of}
+use Rattle.model.specs.Terms.{Earlier}
 use Rattle.model.proofs.Sheets.{certified}
 use Rattle.sheet.specs.declared.reader.Card.{Card}
 use Rattle.sheet.proofs.Laws.{kinds-are, kinds-most, lines-are, lines-most, kind-under}
 use Rattle.norms.specs.Norms.{Accepts, lowersNorm}
 use Rattle.norms.proofs.Laws.{norms-at}
-use Rattle.base.specs.Table.{Under, rowIn, Atoms, formIn, withRow}
+use Rattle.base.specs.Table.{Under, rowIn, Atoms, formIn, withRow, IsCandidate}
 use Rattle.base.specs.Class.{MayUse, MayUseAlike}
 use Rattle.base.specs.Stage.{Told, Leave, LowersAt, ProductReplies, KindReplies, LowersAlike, Classes, Uses, SameUses, BaseAt, FormsAt, LinesAre}
-use Rattle.base.specs.Answer.{FormTables, LoweringTables, AllAnswered}
+use Rattle.base.specs.Answer.{LoweringTables, AllAnswered}
 use Rattle.base.specs.Forms.{AllForms, KindForms}
-use Rattle.base.specs.Row.{LowersKind, Suits, ToldBy, IsTold, Kept, Passes}
+use Rattle.base.specs.Row.{LowersKind, Suits, ToldBy, Passes}
 use Rattle.base.specs.StageRows.{Follows, StageGiven, EarlierSet, OwnForms, RowSought, KindSet}
 use Rattle.base.proofs.Answers.{not-both}
 use Rattle.base.proofs.Tables.{first-below, first-past, zero-counts, with-row, with-others}
 use Rattle.base.proofs.Lines.{line-lowers, some-line, kind-of}
-use Rattle.base.proofs.Forms.{earlier-iff, earlier-not, row-own, form-table, form-count, form-earlier, atom-stays}
+use Rattle.base.proofs.Forms.{earlier-iff, earlier-not, row-own, form-table, form-earlier, atom-stays}
 use Rattle.base.proofs.Candidates.{Product, lines-product, no-line-tells}
-use Rattle.base.proofs.Passing.{passes-one, passes-next}
+use Rattle.base.proofs.Passing.{passes-one, passes-next, told-class}
 use Rattle.base.proofs.Sizes.{product-limit}
 
 -- Tests as types.
@@ -107,13 +106,6 @@ module _ (s : List ℕ) (ok : Accepted s) (p : ℕ) (previous : List ℕ) (B : B
 pub forms-at : (s : List ℕ) → Accepted s → (p : ℕ) (rows forms : List ℕ) → BaseAt s (suc p) rows → AllForms s rows forms → FormsAt s (suc p) forms
 forms-at s ok p rows forms B all j h = all .forms-are j h ∙ base-form s ok p rows B (lineOf s j .left)
 
--- The form of a product of kind k's norm, by the rows of the stage before, fits 64 bits.
-pub previous-fits : (s : List ℕ) → Accepted s → (k : ℕ) → k < kindCount s → (t : ℕ) (previous classes : List ℕ) → Follows s t previous classes
-    → (b : Field) → OfKinds (cardOf s) b → norm (cardOf s) b ≡ kindNorm (cardOf s) k → 0 < t → (x : ℕ) → formIn (kindCount s) previous b x < 2 ^ 64
-previous-fits s ok k h zero previous classes f b u e z x = absurd (omega arith)
-previous-fits s ok k h (suc p) previous classes f b u e z x =
-    omega (arith, ap (λ (g : Field). g x) (base-form s ok p previous (f p refl .0) b), form-count (cardOf s) (certified s ok) p b u x, limit-of s ok k h)
-
 -- A kind whose own count in its row is 1 is an atom.
 pub base-atoms : (s : List ℕ) → Accepted s → (p : ℕ) (rows : List ℕ) → BaseAt s (suc p) rows → Atoms rows (kindCount s)
 base-atoms s ok p rows B k h e =
@@ -128,27 +120,40 @@ atom-kept s ok k h (suc p) previous classes f z e =
     let B = f p refl .0 in
     sym (atom-stays (cardOf s) (certified s ok) p k (kind-of s k h) (sym (B k h) ∙ base-atoms s ok p previous B k h e))
 
--- A candidate is the row just when it passes.
+-- A candidate that has the kind's row for its form at the stage before is the row just when it passes.
 pub passes-iff : {s kinds codes : List ℕ} {lowers : List Bool} (L : LinesAre s kinds codes lowers) (ok : Accepted s) (k : ℕ) → k < kindCount s
     → (t : ℕ) (previous classes forms : List ℕ) → Follows s t previous classes → (b : Field) → Product (cardOf s) t k b
-    → AllAnswered kinds codes forms lowers k b ↔ LowersAlike s t k b
-    → Passes kinds codes forms lowers (kindCount s) t previous classes k b ↔ (stageRow (cardOf s) (suc t) k ≡ b)
-passes-iff {s} L ok k h zero previous classes forms f b P a =
+    → ((p : ℕ) → t ≡ suc p → stageRow (cardOf s) (suc p) k ≡ stageForm (cardOf s) (suc p) b)
+    → AllAnswered kinds codes forms lowers k b ↔ LowersAlike s t k b → Passes kinds codes forms lowers t classes k b ↔ (stageRow (cardOf s) (suc t) k ≡ b)
+passes-iff {s} L ok k h zero previous classes forms f b P g a =
     let x = passes-one s ok k h b P in
-    (λ w. x .0 (a .0 (w .answered)), λ e. record { kept = λ z. absurd (omega arith); answered = a .1 (x .1 e) })
-passes-iff {s} L ok k h (suc p) previous classes forms f b P a =
-    let B = f p refl .0 in
-    let e = base-form s ok p previous B b in
+    (λ w. x .0 (a .0 (w .answered)), λ e. record { uses = λ z. absurd (omega arith); answered = a .1 (x .1 e) })
+passes-iff {s} L ok k h (suc p) previous classes forms f b P g a =
     let u = same-uses L classes (unit k) b in
     let x = passes-next s ok k h p b P classes (f p refl .1) in (
-      λ w. let v = w .kept (omega arith) in x .0 (sym (B k h) ∙ v .form ∙ e, u .0 (v .uses), a .0 (w .answered)),
-      λ r. let y = x .1 r in record { kept = λ z. record { form = B k h ∙ y .0 ∙ sym e; uses = u .1 (y .1) }; answered = a .1 (y .2) },
+      λ w. x .0 (g p refl, u .0 (w .uses (omega arith)), a .0 (w .answered)),
+      λ r. let y = x .1 r in record { uses = λ z. u .1 (y .1); answered = a .1 (y .2) },
     )
 
+-- What lines i and j of one class tell has that form, and where it is the row the two lines have one class.
+module _ (s : List ℕ) (ok : Accepted s) (k : ℕ) (h : k < kindCount s) (i j : ℕ) (hi : i < lineCount s) (hj : j < lineCount s)
+    (e : lineOf s i .kind ≡ k) (d : lineOf s j .code ≡ lineOf s i .code) where
+  pub class-form : (t : ℕ) (previous classes : List ℕ) → Follows s t previous classes → (b : Field) → Told (cardOf s) t (lineOf s i) (lineOf s j) b → at classes j ≡ at classes i
+      → (p : ℕ) → t ≡ suc p → stageRow (cardOf s) (suc p) k ≡ stageForm (cardOf s) (suc p) b
+  class-form t previous classes f b q x p z =
+      told-class s ok k h p classes (f p z .1) i j hi hj e d b (subst (λ (u : ℕ). Told (cardOf s) u (lineOf s i) (lineOf s j) b) z q) .1 x
+
+  pub row-class : (t : ℕ) (previous classes : List ℕ) → Follows s t previous classes → (t ≡ 0 → (x : ℕ) → at classes x ≡ 0) → (b : Field)
+      → Told (cardOf s) t (lineOf s i) (lineOf s j) b → Product (cardOf s) t k b → stageRow (cardOf s) (suc t) k ≡ b → at classes j ≡ at classes i
+  row-class zero previous classes f one b q P r = one refl j ∙ sym (one refl i)
+  row-class (suc p) previous classes f one b q P r =
+      let K = f p refl .1 in
+      told-class s ok k h p classes K i j hi hj e d b q .0 (passes-next s ok k h p b P classes K .1 r .0)
+
 -- Line m tells no candidate that is the row.
-abbrev pub TellsNone : (s : List ℕ) (t : ℕ) (norms kinds codes forms : List ℕ) (lowers : List Bool) (rows : List ℕ) (k l m : ℕ) → Type 0
-TellsNone s t norms kinds codes forms lowers rows k l m =
-    Suits norms kinds codes lowers rows k l m → (b : Field) → ToldBy kinds forms l m b → stageRow (cardOf s) (suc t) k ≡ b → ⊥
+abbrev pub TellsNone : (s : List ℕ) (t : ℕ) (norms kinds codes forms : List ℕ) (lowers : List Bool) (classes rows : List ℕ) (k l m : ℕ) → Type 0
+TellsNone s t norms kinds codes forms lowers classes rows k l m =
+    Suits norms kinds codes lowers classes rows k l m → (b : Field) → ToldBy kinds forms l m b → stageRow (cardOf s) (suc t) k ≡ b → ⊥
 
 -- Of kind k, where the rows and the forms of earlier kinds and the forms of its own lines are known.
 module _ {s : List ℕ} {c : Card} {norms kinds codes : List ℕ} {lowers : List Bool} {t : ℕ} {previous classes : List ℕ}
@@ -198,7 +203,7 @@ module _ {s : List ℕ} {c : Card} {norms kinds codes : List ℕ} {lowers : List
     told-is m w e b = rw (K .earlier-set .forms-known m w e, K .own-forms l ll lk, L .kind-is m (w .0)) ((λ h. h), (λ h. h))
 
     -- What a line that suits tells is a product of earlier atoms.
-    pub suits-product : (m : ℕ) → m < length kinds → Suits norms kinds codes lowers rows k l m → (b : Field) → ToldBy kinds forms l m b → Product (cardOf s) t k b
+    pub suits-product : (m : ℕ) → m < length kinds → Suits norms kinds codes lowers classes rows k l m → (b : Field) → ToldBy kinds forms l m b → Product (cardOf s) t k b
     suits-product m h S b e =
         let w = lowers-at L m h (S .lowering) in
         let i = earlier-told m w .0 (S .before) in
@@ -207,8 +212,15 @@ module _ {s : List ℕ} {c : Card} {norms kinds codes : List ℕ} {lowers : List
     pub product-narrow : (b : Field) → Product (cardOf s) t k b → (j : ℕ) → b j < 2 ^ 32
     product-narrow b P j = omega (arith, product-limit s ok t k kind b P j)
 
-    pub product-fits : (b : Field) → Product (cardOf s) t k b → 0 < t → (x : ℕ) → formIn (c .kinds) previous b x < 2 ^ 64
-    product-fits b P = rw (kinds-are (A .reads)) (previous-fits s ok k kind t previous classes (G .follows) b (P .kinds) (P .norms))
+    code-told : (m : ℕ) → LowersAt s m → at codes m ≡ at codes l → lineOf s m .code ≡ lineOf s l .code
+    code-told m w e = sym (L .code-is m (w .0)) ∙ e ∙ L .code-is l (ll .0)
+
+    -- It has the row of kind k for its form at the stage before.
+    pub suits-form : (m : ℕ) → m < length kinds → Suits norms kinds codes lowers classes rows k l m → (b : Field) → ToldBy kinds forms l m b
+        → (p : ℕ) → t ≡ suc p → stageRow (cardOf s) (suc p) k ≡ stageForm (cardOf s) (suc p) b
+    suits-form m h S b e =
+        let w = lowers-at L m h (S .lowering) in
+        class-form s ok k kind l m (ll .0) (w .0) lk (code-told m w (S .code)) t previous classes (G .follows) b (told-is m w (earlier-told m w .0 (S .before)) b .0 e) (S .class)
 
   -- The tests over the tables are those over the sheet.
   answered-is : (b : Field) → Product (cardOf s) t k b → AllAnswered kinds codes forms lowers k b ↔ LowersAlike s t k b
@@ -256,31 +268,38 @@ module _ {s : List ℕ} {c : Card} {norms kinds codes : List ℕ} {lowers : List
           let r = w .1 j u q in
           (r .0, line-of L (r .0) (r .1), (lowers-told L (r .0) (r .1), L .kind-is (r .0) (r .1 .0) ∙ r .2 .0, leave-is (r .0) j (r .1) (r .2 .0) u q .1 (r .2 .1)))
 
-  pub passes-row : (b : Field) → Product (cardOf s) t k b → Passes kinds codes forms lowers (c .kinds) t previous classes k b ↔ (stageRow (cardOf s) (suc t) k ≡ b)
-  passes-row b P = rw (kinds-are (A .reads)) (passes-iff L ok k kind t previous classes forms (G .follows) b P (answered-is b P))
+  module _ {l : ℕ} (lw : LowersKind kinds lowers k l) {m : ℕ} (hm : m < length kinds) where
+    pub not-suited : {r : Bool} → (r ≡ true) ↔ Suits norms kinds codes lowers classes rows k l m → r ≡ false → TellsNone s t norms kinds codes forms lowers classes rows k l m
+    not-suited t e S b q r = not-both e (t .1 S)
 
-  module _ {l : ℕ} (lw : LowersKind kinds lowers k l) {m : ℕ} (hm : m < length kinds) {found : Bool} {counts : List ℕ}
-      (I : IsTold norms kinds codes forms lowers rows k l m found counts) where
-    pub not-found : found ≡ false → TellsNone s t norms kinds codes forms lowers rows k l m
-    not-found e S b q r = not-both e (I .only S b (product-narrow lw b (suits-product lw m hm S b q)) q .0)
+    -- The candidate that l and a line that suits tell.
+    module _ (S : Suits norms kinds codes lowers classes rows k l m) {found : Bool} {counts : List ℕ} (I : IsCandidate (rowIn forms l) (rowIn forms m) (at kinds m) found counts) where
+      only-told : (b : Field) → ToldBy kinds forms l m b → (found ≡ true) × (b ≡ at counts)
+      only-told b q = I .only b (product-narrow lw b (suits-product lw m hm S b q)) q
 
-    pub found-product : found ≡ true → Product (cardOf s) t k (at counts)
-    found-product e = suits-product lw m hm (I .suits e) (at counts) (I .gives e)
+      pub not-found : found ≡ false → TellsNone s t norms kinds codes forms lowers classes rows k l m
+      not-found e _ b q r = not-both e (only-told b q .0)
 
-    pub not-passed : found ≡ true → (Passes kinds codes forms lowers (c .kinds) t previous classes k (at counts) → ⊥) → TellsNone s t norms kinds codes forms lowers rows k l m
-    not-passed e n S b q r =
-        let i = I .only S b (product-narrow lw b (suits-product lw m hm S b q)) q .1 in
-        n (passes-row (at counts) (found-product e) .1 (r ∙ i))
+      passes-row : found ≡ true → Passes kinds codes forms lowers t classes k (at counts) ↔ (stageRow (cardOf s) (suc t) k ≡ at counts)
+      passes-row e =
+          let b = at counts in
+          let P = suits-product lw m hm S b (I .gives e) in
+          passes-iff L ok k kind t previous classes forms (G .follows) b P (suits-form lw m hm S b (I .gives e)) (answered-is b P)
 
-    pub passed : found ≡ true → Passes kinds codes forms lowers (c .kinds) t previous classes k (at counts) → at counts ≡ stageRow (cardOf s) (suc t) k
-    passed e p = sym (passes-row (at counts) (found-product e) .0 p)
+      pub not-passed : found ≡ true → (Passes kinds codes forms lowers t classes k (at counts) → ⊥) → TellsNone s t norms kinds codes forms lowers classes rows k l m
+      not-passed e n _ b q r = n (passes-row e .1 (r ∙ only-told b q .1))
+
+      pub passed : found ≡ true → Passes kinds codes forms lowers t classes k (at counts) → at counts ≡ stageRow (cardOf s) (suc t) k
+      passed e p = sym (passes-row e .0 p)
 
   -- Where no line tells the row, the kind is an atom.
-  pub none-tells : {l : ℕ} → LowersKind kinds lowers k l → ((m : ℕ) → m < length kinds → TellsNone s t norms kinds codes forms lowers rows k l m) → unit k ≡ stageRow (cardOf s) (suc t) k
+  pub none-tells : {l : ℕ} → LowersKind kinds lowers k l → ((m : ℕ) → m < length kinds → TellsNone s t norms kinds codes forms lowers classes rows k l m)
+      → unit k ≡ stageRow (cardOf s) (suc t) k
   none-tells {l} lw f =
       sym (no-line-tells s ok t k kind l (ll lw) (lk lw) (λ m w e i own b q r.
       f m (line-of L m w)
       (record {
+        class = row-class s ok k kind l m (ll lw .0) (w .0) (lk lw) e t previous classes (G .follows) (G .one-class) b q (lines-product s ok t k kind l m (ll lw) w (lk lw) i own b q) r;
         lowering = lowers-told L m w;
         code = L .code-is m (w .0) ∙ e ∙ sym (L .code-is l (ll lw .0));
         before = earlier-told m w .1 i;
@@ -325,18 +344,19 @@ follows-next s t previous classes base tells p e =
 pub base-next : (s : List ℕ) (t : ℕ) (rows : List ℕ) → BaseAt s (suc t) rows → BaseAt s (t + 1) rows
 base-next s t rows base = subst (λ (x : ℕ). BaseAt s x rows) (sym (add-one t)) base
 
--- At stage 1 the rows and the classes that are lent may be any.
+-- At stage 1 the rows that are lent may be any, and all lines have one class.
 pub given-one : {s : List ℕ} {c : Card} {norms kinds codes : List ℕ} {lowers : List Bool} {previous classes : List ℕ} → Accepts s c norms
-    → LinesAre s kinds codes lowers → length previous ≡ 1024 → length classes ≡ length kinds → Under 256 classes → StageGiven s c norms kinds codes lowers 0 previous classes
-given-one A L long same under =
-    record { accepts = A; lines = L; previous-long = long; classes-long = same; classes-under = under; follows = λ p e. absurd (omega arith) }
+    → LinesAre s kinds codes lowers → length previous ≡ 1024 → length classes ≡ length kinds → Under 256 classes → ((j : ℕ) → at classes j ≡ 0)
+    → StageGiven s c norms kinds codes lowers 0 previous classes
+given-one A L long same under one =
+    record { accepts = A; lines = L; previous-long = long; classes-long = same; classes-under = under; follows = λ p e. absurd (omega arith); one-class = λ _. one }
 
--- Classes that stand where there is no stage before.
-pub no-classes : (n m : ℕ) → n ≤ m → 0 < m → (length {A = ℕ} (take (n - 0) (replicate m 0)) ≡ n) × Under m (take (n - 0) (replicate m 0))
-no-classes n m h p =
+-- One class for all lines, where there is no stage before.
+pub no-classes : (n m : ℕ) → n ≤ m → (length {A = ℕ} (take (n - 0) (replicate m 0)) ≡ n) × ((j : ℕ) → at (take (n - 0) (replicate m 0)) j ≡ 0)
+no-classes n m h =
     let z : n - 0 ≡ n = omega arith in
     rw z (length-take-le n (replicate m 0) (omega (arith, length-replicate {A = ℕ} m 0)), λ j. go j (decLt j n))
   where
-    go : (j : ℕ) → Dec (j < n) → at (take n (replicate m 0)) j < m
-    go j (yes l) = rw (first-below (replicate m 0) n j l, zero-counts m j) p
-    go j (no l) = rw (first-past (replicate m 0) n j (omega arith)) p
+    go : (j : ℕ) → Dec (j < n) → at (take n (replicate m 0)) j ≡ 0
+    go j (yes l) = first-below (replicate m 0) n j l ∙ zero-counts m j
+    go j (no l) = first-past (replicate m 0) n j (omega arith)

@@ -4,6 +4,7 @@ use mathlib.Core.List.{List}
 use mathlib.Core.Path.{_≡_}
 use Prim.Native.Nat.{ℕ, suc, _^_, _<_}
 use lib.ListN.{length}
+use Rattle.model.specs.Field.{at}
 use Rattle.model.specs.Base.{stageRow, stageForm}
 use Rattle.model.specs.Sheet.{kindCount, lineCount, lineOf, cardOf}
 use Rattle.model.specs.Terms.{Earlier}
@@ -16,7 +17,7 @@ use Rattle.base.specs.Stage.{LowersAt, Classes, BaseAt, LinesAre}
 abbrev pub Follows : List ℕ → ℕ → List ℕ → List ℕ → Type 0
 Follows s t previous classes = (p : ℕ) → t ≡ suc p → BaseAt s (suc p) previous × Classes s p classes
 
--- The sheet with its card and norms, its lines, and the base and the classes of the stage before.
+-- The sheet with its card and norms, its lines, and the base and the classes of the stage before. Where there is none, all lines have one class.
 pub record StageGiven (s : List ℕ) (c : Card) (norms kinds codes : List ℕ) (lowers : List Bool) (t : ℕ) (previous classes : List ℕ) : Type 0 where
   pub accepts : Accepts s c norms
   pub lines : LinesAre s kinds codes lowers
@@ -24,6 +25,7 @@ pub record StageGiven (s : List ℕ) (c : Card) (norms kinds codes : List ℕ) (
   pub classes-long : length classes ≡ length kinds
   pub classes-under : Under 256 classes
   pub follows : Follows s t previous classes
+  pub one-class : t ≡ 0 → (j : ℕ) → at classes j ≡ 0
 
 -- Before kind k is set: the rows of the earlier kinds, and the forms of what their lowering lines leave, are the stage's.
 pub record EarlierSet (s : List ℕ) (t k : ℕ) (rows forms : List ℕ) : Type 0 where

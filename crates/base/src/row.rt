@@ -10,14 +10,13 @@ use sheet::Card;
 ghost use mathlib.Core.Path.{_≡_};
 ghost use mathlib.Core.Bool.{true};
 ghost use mathlib.Core.Logic.{_↔_};
-ghost use Prim.Native.Nat.{ℕ, suc, _^_, _<_};
+ghost use Prim.Native.Nat.{ℕ, suc, _*_, _^_, _≤_, _<_};
 ghost use lib.ListN.{length};
 ghost use Rattle.model.specs.Field.{at};
 ghost use Rattle.model.specs.Base.{stageRow};
 ghost use Rattle.model.specs.Sheet.{cardOf};
-ghost use Rattle.base.specs.Table.{Under, rowIn};
-ghost use Rattle.base.specs.Answer.{LoweringTables};
-ghost use Rattle.base.specs.Row.{LowersKind, Suits, IsTold};
+ghost use Rattle.base.specs.Table.{Under, rowIn, IsCandidate};
+ghost use Rattle.base.specs.Row.{LowersKind, Suits};
 ghost use Rattle.base.specs.StageRows.{StageGiven, RowSought};
 
 // A line of kind k that lowers the norm; there is one.
@@ -39,22 +38,29 @@ fn lowering_line(kinds: &[usize], lowers: &[bool], k: usize) -> usize
     l
 }
 
-// Whether line m lowers the norm, reads line l's code, and is of an atom earlier than k.
+// Whether line m has line l's class, lowers the norm, reads line l's code, and is of an atom earlier than k.
 fn suits(
     norms: [u32; 32],
     kinds: &[usize],
     codes: &[usize],
     lowers: &[bool],
+    classes: &[usize],
     rows: &[u32],
     k: usize,
     l: usize,
     m: usize,
 ) -> bool
     requires { ⌜ (length (now codes) ≡ length (now kinds)) × (length (now lowers) ≡ length (now kinds)) × (length (now rows) ≡ 1024) ⌝ }
+    requires { ⌜ length (now classes) ≡ length (now kinds) ⌝ }
     requires { ⌜ ((j : ℕ) → j < length (now kinds) → at (now kinds) j < 32) ⌝ }
     requires { ⌜ (k < 32) × (l < length (now kinds)) × (m < length (now kinds)) ⌝ }
-    ensures { λ r. ⌜ (r ≡ true) ↔ Suits norms (now (kinds .entry)) (now (codes .entry)) (now (lowers .entry)) (now (rows .entry)) k l m ⌝ }
+    ensures { λ r. ⌜ (r ≡ true) ↔ Suits norms (now (kinds .entry)) (now (codes .entry)) (now (lowers .entry)) (now (classes .entry)) (now (rows .entry)) k l m ⌝ }
 {
+    let class = classes[l];
+    let its = classes[m];
+    if its != class {
+        return false;
+    }
     if lowers[m] {
         let code = codes[l];
         let other = codes[m];
@@ -68,31 +74,14 @@ fn suits(
     false
 }
 
-// The candidate that lines l and m tell, where m suits.
-fn told(
-    norms: [u32; 32],
-    kinds: &[usize],
-    codes: &[usize],
-    forms: &[u64],
-    lowers: &[bool],
-    rows: &[u32],
-    k: usize,
-    l: usize,
-    m: usize,
-) -> RowCandidate
-    requires { ⌜ LoweringTables (now kinds) (now codes) (now forms) (now lowers) ⌝ }
-    requires { ⌜ length (now rows) ≡ 1024 ⌝ }
-    requires { ⌜ (k < 32) × (l < length (now kinds)) × (m < length (now kinds)) ⌝ }
-    ensures { λ r. ⌜ IsTold norms (now (kinds .entry)) (now (codes .entry)) (now (forms .entry)) (now (lowers .entry)) (now (rows .entry)) k l m (r .found) (r .counts) ⌝ }
+// The candidate that lines l and m tell: m's kind with what l leaves, less what m leaves, in atoms.
+fn told(kinds: &[usize], forms: &[u64], l: usize, m: usize) -> RowCandidate
+    requires { ⌜ (length (now kinds) * 32 ≤ length (now forms)) × Under (2 ^ 63) (now forms) ⌝ }
+    requires { ⌜ (l < length (now kinds)) × (m < length (now kinds)) × (at (now kinds) m < 32) ⌝ }
+    ensures { λ r. ⌜ IsCandidate (rowIn (now (forms .entry)) l) (rowIn (now (forms .entry)) m) (at (now (kinds .entry)) m) (r .found) (r .counts) ⌝ }
 {
-    if suits(norms, kinds, codes, lowers, rows, k, l, m) {
-        let kind = kinds[m];
-        return candidate(form_of(forms, l), form_of(forms, m), kind);
-    }
-    RowCandidate {
-        found: false,
-        counts: [0u32; 32],
-    }
+    let kind = kinds[m];
+    candidate(form_of(forms, l), form_of(forms, m), kind)
 }
 
 // The row of kind k, of those that its lines tell.
@@ -115,26 +104,16 @@ fn told_row(
     requires { ⌜ RowSought (now s) t k (now rows) (now forms) ⌝ }
     ensures { λ r. ⌜ at r ≡ stageRow (cardOf (now (s .entry))) (suc t) k ⌝ }
 {
-    let n = card.kinds;
     let l = lowering_line(kinds, lowers, k);
     let mut m = 0;
     while m < kinds.len() {
-        let x = told(norms, kinds, codes, forms, lowers, rows, k, l, m);
-        if x.found {
-            let counts = x.counts;
-            if passes(
-                kinds,
-                codes,
-                forms,
-                lowers,
-                n,
-                t,
-                previous,
-                classes,
-                k,
-                &counts,
-            ) {
-                return counts;
+        if suits(norms, kinds, codes, lowers, classes, rows, k, l, m) {
+            let x = told(kinds, forms, l, m);
+            if x.found {
+                let counts = x.counts;
+                if passes(kinds, codes, forms, lowers, t, classes, k, &counts) {
+                    return counts;
+                }
             }
         }
         m += 1;

@@ -1,4 +1,4 @@
--- The last of four tests decides.
+-- The last of five tests decides.
 use mathlib.Core.Path.{_∙_, sym}
 use Rattle.base.proofs.Tables.{tells-other}
 use Rattle.base.proofs.Answers.{not-both}
@@ -7,8 +7,23 @@ use borrow.Author.Needs.{needs}
 use Rattle.base.proofs.row.suits.Statement.{statement}
 use Rattle.base.proofs.row.suits.Tie as tie
 
-shared-slice-read-if1 : tie.Need-shared-slice-read-if1
-shared-slice-read-if1 c = search needs
+mul-class : tie.Need-mul-class
+mul-class c = search needs
+
+shared-slice-read-class : tie.Need-shared-slice-read-class
+shared-slice-read-class c = search needs
+
+mul-its : tie.Need-mul-its
+mul-its c = search needs
+
+shared-slice-read-its : tie.Need-shared-slice-read-its
+shared-slice-read-its c = search needs
+
+returns : tie.Need-returns
+returns c = tells-other (λ w. c .if1 .taken (w .class))
+
+shared-slice-read-if2 : tie.Need-shared-slice-read-if2
+shared-slice-read-if2 c = search needs
 
 mul-code : tie.Need-mul-code
 mul-code c = search needs
@@ -29,28 +44,37 @@ shared-slice-read-kind : tie.Need-shared-slice-read-kind
 shared-slice-read-kind c = search needs
 
 earlier-requires : tie.Need-earlier-requires
-earlier-requires c κs = let b = c .before .before .before .before .before .before .before .before .before .before .before in (b .pre .1 .1 .0, b .pre .1 .0 (b .args .m) (b .pre .1 .1 .2))
+earlier-requires c κs =
+    let b = c .before .before .before .before .before .before .before .before .before .before .before .before .before .before .before in
+    (b .pre .1 .1 .1 .0, b .pre .1 .1 .0 (b .args .m) (b .pre .1 .1 .1 .2))
 
 is-atom-requires : tie.Need-is-atom-requires
-is-atom-requires c κs = let b = c .before .before .before .before .before .before .before .before .before .before .before .before .before in (b .pre .1 .0 (b .args .m) (b .pre .1 .1 .2), b .pre .0 .2)
-
-returns : tie.Need-returns
-returns c = suits-last (c .before .before .before .before .before .before .before .before .if1 .taken) (c .before .before .before .before .before .if2 .taken) (sym (c .before .before .earlier .ensures) ∙ c .before .if3 .taken) (c .is-atom .ensures)
+is-atom-requires c κs =
+    let b = c .before .before .before .before .before .before .before .before .before .before .before .before .before .before .before .before .before in
+    (b .pre .1 .1 .0 (b .args .m) (b .pre .1 .1 .1 .2), b .pre .0 .2)
 
 returns-2 : tie.Need-returns-2
-returns-2 c = tells-other (λ w. not-both (sym (c .before .earlier .ensures) ∙ c .if3 .left) (w .before))
+returns-2 c = suits-last (c .before .before .before .before .before .before .before .before .before .before .if1 .left) (c .before .before .before .before .before .before .before .before .if2 .taken) (c .before .before .before .before .before .if3 .taken) (sym (c .before .before .earlier .ensures) ∙ c .before .if4 .taken) (c .is-atom .ensures)
 
 returns-3 : tie.Need-returns-3
-returns-3 c = tells-other (λ w. c .if2 .left (w .code))
+returns-3 c = tells-other (λ w. not-both (sym (c .before .earlier .ensures) ∙ c .if4 .left) (w .before))
 
 returns-4 : tie.Need-returns-4
-returns-4 c = tells-other (λ w. not-both (c .if1 .left) (w .lowering))
+returns-4 c = tells-other (λ w. c .if3 .left (w .code))
+
+returns-5 : tie.Need-returns-5
+returns-5 c = tells-other (λ w. not-both (c .if2 .left) (w .lowering))
 
 pub suits-spec : {M : Type 1} → statement M
 suits-spec =
     tie.close
     (tie.spec
-    shared-slice-read-if1
+    mul-class
+    shared-slice-read-class
+    mul-its
+    shared-slice-read-its
+    returns
+    shared-slice-read-if2
     mul-code
     shared-slice-read-code
     mul-other
@@ -59,7 +83,7 @@ suits-spec =
     shared-slice-read-kind
     earlier-requires
     is-atom-requires
-    returns
     returns-2
     returns-3
-    returns-4)
+    returns-4
+    returns-5)

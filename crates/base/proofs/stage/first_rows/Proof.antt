@@ -23,8 +23,8 @@ stage-rows-requires : tie.Need-stage-rows-requires
 stage-rows-requires c κs =
     let b = c .before .before .before .before .before .before .before .before .before in
     let R = b .pre .0 .reads in
-    let no = no-classes (b .args .card .lines) 256 (lines-most R) (omega arith) in
-    (given-one (b .pre .0) (b .pre .1 .0) refl (no .0 ∙ lines-are R ∙ sym (b .pre .1 .0 .kinds-long)) (no .1), b .pre .1 .1)
+    let no = no-classes (b .args .card .lines) 256 (lines-most R) in
+    (given-one (b .pre .0) (b .pre .1 .0) refl (no .0 ∙ lines-are R ∙ sym (b .pre .1 .0 .kinds-long)) (λ j. omega (arith, no .1 j)) (no .1), b .pre .1 .1)
 
 same-length : tie.Need-same-length
 same-length c = search needs

@@ -1,4 +1,5 @@
 -- The stage before is stage t.
+use native.Mathlib.Omega.{arith}
 use Rattle.base.proofs.StageRows.{follows-next, base-next}
 use borrow.Author.Needs.{needs}
 use Rattle.base.proofs.stage.next_rows.Statement.{statement}
@@ -15,6 +16,7 @@ stage-rows-requires c κs =
         classes-long = p .0 .1;
         classes-under = p .0 .2;
         follows = follows-next (b .args .s .now) (b .args .t) (b .args .previous .now) (b .args .classes .now) (p .1 .1) (p .1 .2);
+        one-class = λ z. absurd (omega (arith, p .1 .0));
       },
       b .pre .1 .1 .0,
     )
