@@ -40,7 +40,7 @@ fn lowering_line(kinds: &[usize], lowers: &[bool], k: usize) -> usize
 
 // Whether line m has line l's class, lowers the norm, reads line l's code, and is of an atom earlier than k.
 fn suits(
-    norms: [u32; 32],
+    norms: &[u32; 32],
     kinds: &[usize],
     codes: &[usize],
     lowers: &[bool],
@@ -54,7 +54,7 @@ fn suits(
     requires { ⌜ length (now classes) ≡ length (now kinds) ⌝ }
     requires { ⌜ ((j : ℕ) → j < length (now kinds) → at (now kinds) j < 32) ⌝ }
     requires { ⌜ (k < 32) × (l < length (now kinds)) × (m < length (now kinds)) ⌝ }
-    ensures { λ r. ⌜ (r ≡ true) ↔ Suits norms (now (kinds .entry)) (now (codes .entry)) (now (lowers .entry)) (now (classes .entry)) (now (rows .entry)) k l m ⌝ }
+    ensures { λ r. ⌜ (r ≡ true) ↔ Suits (now (norms .entry)) (now (kinds .entry)) (now (codes .entry)) (now (lowers .entry)) (now (classes .entry)) (now (rows .entry)) k l m ⌝ }
 {
     let class = classes[l];
     let its = classes[m];
@@ -66,7 +66,7 @@ fn suits(
         let other = codes[m];
         if other == code {
             let kind = kinds[m];
-            if earlier(&norms, k, kind) {
+            if earlier(norms, k, kind) {
                 return is_atom(rows, kind);
             }
         }
@@ -107,7 +107,7 @@ fn told_row(
     let l = lowering_line(kinds, lowers, k);
     let mut m = 0;
     while m < kinds.len() {
-        if suits(norms, kinds, codes, lowers, classes, rows, k, l, m) {
+        if suits(&norms, kinds, codes, lowers, classes, rows, k, l, m) {
             let x = told(kinds, forms, l, m);
             if x.found {
                 let counts = x.counts;

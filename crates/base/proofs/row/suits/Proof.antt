@@ -45,16 +45,16 @@ shared-slice-read-kind c = search needs
 
 earlier-requires : tie.Need-earlier-requires
 earlier-requires c κs =
-    let b = c .before .before .before .before .before .before .before .before .before .before .before .before .before .before .before in
+    let b = c .before .before .before .before .before .before .before .before .before .before .before .before .before .before in
     (b .pre .1 .1 .1 .0, b .pre .1 .1 .0 (b .args .m) (b .pre .1 .1 .1 .2))
 
 is-atom-requires : tie.Need-is-atom-requires
 is-atom-requires c κs =
-    let b = c .before .before .before .before .before .before .before .before .before .before .before .before .before .before .before .before .before in
+    let b = c .before .before .before .before .before .before .before .before .before .before .before .before .before .before .before .before in
     (b .pre .1 .1 .0 (b .args .m) (b .pre .1 .1 .1 .2), b .pre .0 .2)
 
 returns-2 : tie.Need-returns-2
-returns-2 c = suits-last (c .before .before .before .before .before .before .before .before .before .before .if1 .left) (c .before .before .before .before .before .before .before .before .if2 .taken) (c .before .before .before .before .before .if3 .taken) (sym (c .before .before .earlier .ensures) ∙ c .before .if4 .taken) (c .is-atom .ensures)
+returns-2 c = suits-last (c .before .before .before .before .before .before .before .before .before .if1 .left) (c .before .before .before .before .before .before .before .if2 .taken) (c .before .before .before .before .if3 .taken) (sym (c .before .before .earlier .ensures) ∙ c .before .if4 .taken) (c .is-atom .ensures)
 
 returns-3 : tie.Need-returns-3
 returns-3 c = tells-other (λ w. not-both (sym (c .before .earlier .ensures) ∙ c .if4 .left) (w .before))
