@@ -4,7 +4,7 @@ use mathlib.Core.List.{List}
 use mathlib.Core.Logic.{_↔_, inl}
 use mathlib.Core.Path.{_≡_, refl, sym, ap, _∙_, subst, fun-ext}
 use Prim.Native.Nat.{ℕ, zero, suc, _+_, _*_, _-_, _^_, _≤_, _<_}
-use native.Mathlib.Decide.{decLt}
+use native.Mathlib.Decide.{ℕ-discrete, decLt}
 use native.Mathlib.Numerals.{add-one}
 use native.Mathlib.Omega.{arith}
 use borrow.Author.Tests.{ltb-true, lt-ltb}
@@ -111,6 +111,15 @@ pub base-atoms : (s : List ℕ) → Accepted s → (p : ℕ) (rows : List ℕ) �
 base-atoms s ok p rows B k h e =
     let i = B k h in
     i ∙ row-own (cardOf s) (certified s ok) p k (kind-of s k h) .0 (ap (λ (g : Field). g k) (sym i) ∙ e)
+
+-- It stays so where the stage's row of a kind is set.
+pub atoms-more : (s : List ℕ) → Accepted s → (p k : ℕ) (rows new : List ℕ) → k < kindCount s → Atoms rows (kindCount s) → rowIn new k ≡ stageRow (cardOf s) (suc p) k
+    → ((j : ℕ) → ¬ (j ≡ k) → rowIn new j ≡ rowIn rows j) → Atoms new (kindCount s)
+atoms-more s ok p k rows new kind atoms row others j h = go (ℕ-discrete j k)
+  where
+    go : Dec (j ≡ k) → rowIn new j j ≡ 1 → rowIn new j ≡ unit j
+    go (yes e) = rw (e, row) (row-own (cardOf s) (certified s ok) p k (kind-of s k kind) .0)
+    go (no e) = rw (others j e) (atoms j h)
 
 -- An atom of the stage before stays one.
 pub atom-kept : (s : List ℕ) → Accepted s → (k : ℕ) → k < kindCount s → (t : ℕ) (previous classes : List ℕ) → Follows s t previous classes
@@ -326,6 +335,7 @@ module _ {s : List ℕ} {c : Card} {norms kinds codes : List ℕ} {lowers : List
         earlier-set = record {
           rows-known = E .rows-known;
           forms-known = λ j w r. kept-form j (w .0) (λ e. earlier-not (cardOf s) (certified s (G .accepts .accepted)) k (rw e at r)) ∙ E .forms-known j w r;
+          atoms = E .atoms;
         };
         own-forms = own-form;
       }

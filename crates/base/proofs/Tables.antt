@@ -14,7 +14,7 @@ use lib.Seq.{getD-set-same, getD-set-other, getD-take, getD-drop, getD-append-ad
 use Rattle.model.specs.Field.{Field, none, _⊕_, times, unit, at, weigh}
 use Rattle.model.specs.Limits.{mostKinds}
 use Rattle.model.proofs.Field.{unit-same, unit-other, weigh-next, weigh-weights}
-use Rattle.base.specs.Table.{Under, rowPart, rowIn, formIn, withRow, IsCandidate}
+use Rattle.base.specs.Table.{Under, rowPart, rowIn, Atoms, formIn, withRow, IsCandidate}
 
 -- Equal fields have equal counts.
 pub at-kind : {a b : Field} → a ≡ b → (j : ℕ) → a j ≡ b j
@@ -70,6 +70,14 @@ module _ {count : ℕ} {old sum row : List ℕ} {i : ℕ} (h : Added count old s
 
 pub added-zero : {count : ℕ} (sum row : List ℕ) → count ≡ 0 → at sum ≡ at sum ⊕ times count (at row)
 added-zero sum row e = fun-ext (λ j. rw e (omega (arith, zero-mul (at row j))))
+
+-- Count tokens of a kind are added.
+pub added-tokens : (count : ℕ) (sum : List ℕ) (k : ℕ) → k < length sum → at (set sum k (at sum k + count)) ≡ at sum ⊕ times count (unit k)
+added-tokens count sum k l = fun-ext (λ j. go j (ℕ-discrete j k))
+  where
+    go : (j : ℕ) → Dec (j ≡ k) → at (set sum k (at sum k + count)) j ≡ at sum j + count * unit k j
+    go j (yes p) = rw (p, getD-set-same sum k (at sum k + count) 0 l, unit-same k) (omega arith)
+    go j (no p) = rw (getD-set-other sum k j (at sum k + count) 0 p, unit-other k j p) (omega arith)
 
 -- The first i counts are 0.
 pub record Cleared (old xs : List ℕ) (i : ℕ) : Type 0 where
@@ -138,6 +146,27 @@ lent-under {xs} {bound} t k e f j = go (decLt j mostKinds)
     go : Dec (j < mostKinds) → at xs j < bound
     go (yes l) = rw (at-kind (lent-row t k e) j, row-at t k j l) (f (k * mostKinds + j))
     go (no l) = rw (at-kind (lent-row t k e) j, row-past t k j (omega arith)) (omega (arith, f 0))
+
+-- Count times row k are added, where there is no count, where the row is the kind itself, and by the row as a list.
+pub row-added-none : {count : ℕ} (sum rows : List ℕ) (k : ℕ) → count ≡ 0 → at sum ≡ at sum ⊕ times count (rowIn rows k)
+unfolding rowIn
+row-added-none sum rows k e = added-zero sum (rowPart rows k) e
+
+module _ (count : ℕ) (sum rows : List ℕ) (k : ℕ) (kind : k < mostKinds) (one : at rows (k * mostKinds + k) ≡ 1) where
+  own-count : rowIn rows k k ≡ 1
+  own-count = row-at rows k k kind ∙ one
+
+  pub row-added-atom : (rowIn rows k k ≡ 1 → rowIn rows k ≡ unit k) → mostKinds ≤ length sum → at (set sum k (at sum k + count)) ≡ at sum ⊕ times count (rowIn rows k)
+  row-added-atom atom room = rw (atom own-count) (added-tokens count sum k (omega arith))
+
+  pub atom-bound : {bound : ℕ} → ((j : ℕ) → at sum j + count * rowIn rows k j < bound) → at sum k + count < bound
+  atom-bound f = omega (arith, rw own-count at (f k))
+
+pub row-bound : {row : List ℕ} {bound : ℕ} (count : ℕ) (sum rows : List ℕ) (k : ℕ) → row ≡ rowPart rows k → ((j : ℕ) → at sum j + count * rowIn rows k j < bound) → (j : ℕ) → at sum j + count * at row j < bound
+row-bound count sum rows k r f j = rw (at-kind (lent-row rows k r) j) (f j)
+
+pub row-added : {row : List ℕ} (count : ℕ) (sum new rows : List ℕ) (k : ℕ) → row ≡ rowPart rows k → at new ≡ at sum ⊕ times count (at row) → at new ≡ at sum ⊕ times count (rowIn rows k)
+row-added count sum new rows k r e = rw (← lent-row rows k r) e
 
 -- A sum over fewer kinds is at most the sum over all.
 pub weigh-fewer : (k n : ℕ) (w : ℕ → ℕ) (a : Field) → k ≤ n → weigh k w a ≤ weigh n w a
@@ -338,6 +367,10 @@ module _ (t r : List ℕ) (k : ℕ) (wide : length r ≡ mostKinds) (fits : k * 
 -- A table of zeros has no counts.
 pub zero-row : (n k : ℕ) → rowIn (replicate n 0) k ≡ none
 zero-row n k = row-same _ k (λ j _. zero-counts n (k * mostKinds + j)) (λ j _. refl)
+
+-- So it tells no atom.
+pub zero-atoms : (n m : ℕ) (t : List ℕ) → t ≡ replicate n 0 → Atoms t m
+zero-atoms n m t e k _ one = absurd (omega (arith, at-kind (zero-row n k) k, rw e at one))
 
 -- The first i counts of a row are copied to a table, from an index on.
 pub record Copied (old row rows : List ℕ) (start i : ℕ) : Type 0 where

@@ -10,7 +10,7 @@ use Rattle.model.specs.Sheet.{kindCount, lineCount, lineOf, cardOf}
 use Rattle.model.specs.Terms.{Earlier}
 use Rattle.sheet.specs.declared.reader.Card.{Card}
 use Rattle.norms.specs.Norms.{Accepts}
-use Rattle.base.specs.Table.{Under, rowIn}
+use Rattle.base.specs.Table.{Under, rowIn, Atoms}
 use Rattle.base.specs.Stage.{LowersAt, Classes, BaseAt, LinesAre}
 
 -- If stage t is one from 1 up, the rows and the classes are that stage's.
@@ -27,10 +27,11 @@ pub record StageGiven (s : List ℕ) (c : Card) (norms kinds codes : List ℕ) (
   pub follows : Follows s t previous classes
   pub one-class : t ≡ 0 → (j : ℕ) → at classes j ≡ 0
 
--- Before kind k is set: the rows of the earlier kinds, and the forms of what their lowering lines leave, are the stage's.
+-- Before kind k is set: the rows of the earlier kinds, and the forms of what their lowering lines leave, are the stage's; the atoms that the table tells are its own.
 pub record EarlierSet (s : List ℕ) (t k : ℕ) (rows forms : List ℕ) : Type 0 where
   pub rows-known : (j : ℕ) → j < kindCount s → Earlier (cardOf s) j k → rowIn rows j ≡ stageRow (cardOf s) (suc t) j
   pub forms-known : (j : ℕ) → LowersAt s j → Earlier (cardOf s) (lineOf s j .kind) k → rowIn forms j ≡ stageForm (cardOf s) (suc t) (lineOf s j .left)
+  pub atoms : Atoms rows (kindCount s)
 
 -- So are the forms of what k's own lowering lines leave.
 abbrev pub OwnForms : List ℕ → ℕ → ℕ → List ℕ → Type 0

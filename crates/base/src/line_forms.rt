@@ -7,13 +7,14 @@ ghost use Prim.Native.Nat.{_^_, _<_};
 ghost use lib.ListN.{length};
 ghost use Rattle.model.specs.Sheet.{kindCount, lineOf};
 ghost use Rattle.sheet.specs.Reader.{Reads};
-ghost use Rattle.base.specs.Table.{Under, formIn};
+ghost use Rattle.base.specs.Table.{Under, Atoms, formIn};
 ghost use Rattle.base.specs.Forms.{RowSet, AllForms, KindForms};
 
 // The form of what line j leaves.
 fn line_form(s: &[u8], card: Card, rows: &[u32], forms: &mut [u64], j: usize)
     requires { ⌜ Reads (now s) card ⌝ }
     requires { ⌜ (length (now rows) ≡ 1024) × (length (now forms) ≡ 8192) ⌝ }
+    requires { ⌜ Atoms (now rows) (kindCount (now s)) ⌝ }
     requires { ⌜ j < card .lines ⌝ }
     requires { ⌜ Under (2 ^ 63) (now forms) ⌝ }
     ensures { λ _. ⌜ RowSet (formIn (kindCount (now (s .entry))) (now (rows .entry)) (lineOf (now (s .entry)) j .left)) j (now (forms .entry)) (now (forms .exit)) ⌝ }
@@ -28,6 +29,7 @@ fn line_form(s: &[u8], card: Card, rows: &[u32], forms: &mut [u64], j: usize)
 pub fn all_forms(s: &[u8], card: Card, rows: &[u32], forms: &mut [u64])
     requires { ⌜ Reads (now s) card ⌝ }
     requires { ⌜ (length (now rows) ≡ 1024) × (length (now forms) ≡ 8192) ⌝ }
+    requires { ⌜ Atoms (now rows) (kindCount (now s)) ⌝ }
     ensures { λ _. ⌜ AllForms (now (s .entry)) (now (rows .entry)) (now (forms .exit)) ⌝ }
 {
     clear(forms);
@@ -52,6 +54,7 @@ pub fn kind_forms(
     requires { ⌜ Reads (now s) card ⌝ }
     requires { ⌜ (length (now kinds) ≡ card .lines) × (length (now lowers) ≡ card .lines) ⌝ }
     requires { ⌜ (length (now rows) ≡ 1024) × (length (now forms) ≡ 8192) ⌝ }
+    requires { ⌜ Atoms (now rows) (kindCount (now s)) ⌝ }
     requires { ⌜ Under (2 ^ 63) (now forms) ⌝ }
     ensures { λ _. ⌜ KindForms (now (s .entry)) (now (rows .entry)) (now (kinds .entry)) (now (lowers .entry)) k (now (forms .entry)) (now (forms .exit)) ⌝ }
 {

@@ -2,8 +2,8 @@
 ghost use mathlib.Core.Path.{_≡_};
 ghost use Prim.Native.Nat.{ℕ, _+_, _*_, _^_, _≤_, _<_};
 ghost use lib.ListN.{length, replicate};
-ghost use Rattle.model.specs.Field.{none, _⊕_, times, at};
-ghost use Rattle.base.specs.Table.{rowPart, formIn, withRow};
+ghost use Rattle.model.specs.Field.{none, _⊕_, times, unit, at};
+ghost use Rattle.base.specs.Table.{rowPart, rowIn, Atoms, formIn, withRow};
 
 // A count of 32 bits as one of 64.
 pub fn wide(x: u32) -> u64
@@ -47,6 +47,26 @@ pub fn row_of(rows: &[u32], k: usize) -> &[u32]
     &rows[start..end]
 }
 
+// Adds count times row k of a table to the sum.
+fn add_row(sum: &mut [u64], rows: &[u32], k: usize, count: u64)
+    requires { ⌜ (k < 32) × (k * 32 + 32 ≤ length (now rows)) × (32 ≤ length (now sum)) ⌝ }
+    requires { ⌜ (rowIn (now rows) k k ≡ 1 → rowIn (now rows) k ≡ unit k) ⌝ }
+    requires { ⌜ ((j : ℕ) → at (now sum) j + count * rowIn (now rows) k j < 2 ^ 64) ⌝ }
+    ensures { λ _. ⌜ at (now (sum .exit)) ≡ at (now (sum .entry)) ⊕ times count (rowIn (now (rows .entry)) k) ⌝ }
+{
+    if count == 0 {
+        return;
+    }
+    let own = k * 32 + k;
+    let tokens = rows[own];
+    if tokens == 1 {
+        let old = sum[k];
+        sum[k] = old + count;
+        return;
+    }
+    add_times(sum, row_of(rows, k), count);
+}
+
 // Row j of a table of counts of 64 bits, as a part of it: the form of what line j leaves.
 pub fn form_of(forms: &[u64], j: usize) -> &[u64]
     requires { ⌜ j * 32 + 32 ≤ length (now forms) ⌝ }
@@ -70,7 +90,8 @@ pub fn clear(out: &mut [u64])
 
 // The decomposition of the counts of a line, by the rows of a table.
 pub fn form_of_counts(counts: &[u8], rows: &[u32], out: &mut [u64])
-    requires { ⌜ (length (now counts) * 32 ≤ length (now rows)) × (32 ≤ length (now out)) ⌝ }
+    requires { ⌜ (length (now counts) ≤ 32) × (length (now counts) * 32 ≤ length (now rows)) × (32 ≤ length (now out)) ⌝ }
+    requires { ⌜ Atoms (now rows) (length (now counts)) ⌝ }
     requires { ⌜ ((j : ℕ) → formIn (length (now counts)) (now rows) (at (now counts)) j < 2 ^ 64) ⌝ }
     ensures { λ _. ⌜ at (now (out .exit)) ≡ formIn (length (now (counts .entry))) (now (rows .entry)) (at (now (counts .entry))) ⌝ }
 {
@@ -78,7 +99,7 @@ pub fn form_of_counts(counts: &[u8], rows: &[u32], out: &mut [u64])
     let mut k = 0;
     while k < counts.len() {
         let count = wide_byte(counts[k]);
-        add_times(out, row_of(rows, k), count);
+        add_row(out, rows, k, count);
         k += 1;
     }
 }

@@ -23,7 +23,7 @@ line-form-requires : tie.Need-line-form-requires Inv-loop μ-loop
 line-form-requires c κs =
     let b = c .before .before .before .before .before .before .before .before .before .before in
     let h = c .before .before .loop .inv in
-    (b .pre .0, ((b .pre .1 .0, h .kept ∙ c .before .before .before .before .before .clear .kept .0 ∙ b .pre .1 .1), (c .before .loop-test .taken, h .small)))
+    (b .pre .0, ((b .pre .1 .0 .0, h .kept ∙ c .before .before .before .before .before .clear .kept .0 ∙ b .pre .1 .0 .1), (b .pre .1 .1, (c .before .loop-test .taken, h .small))))
 
 add-j : tie.Need-add-j Inv-loop μ-loop
 add-j c = omega arith

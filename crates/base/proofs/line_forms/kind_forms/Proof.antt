@@ -16,7 +16,7 @@ abbrev μ-loop : tie.MeasureT-loop
 μ-loop s card kinds lowers rows forms₀ k lines j₀ forms j = lines - j
 
 loop-holds : tie.Need-loop-holds Inv-loop μ-loop
-loop-holds c = record { kept = refl; small = c .before .before .before .before .before .pre .1 .1 .1; done = λ i l. absurd (omega arith); others = λ i n. refl }
+loop-holds c = record { kept = refl; small = c .before .before .before .before .before .pre .1 .1 .1 .1; done = λ i l. absurd (omega arith); others = λ i n. refl }
 
 mul-kind : tie.Need-mul-kind Inv-loop μ-loop
 mul-kind c = search needs
@@ -31,7 +31,7 @@ line-form-requires : tie.Need-line-form-requires Inv-loop μ-loop
 line-form-requires c κs =
     let b = c .before .before .before .before .before .before .before .before .before .before .before .before in
     let h = c .before .before .before .before .before .before .loop .inv in
-    (b .pre .0, ((b .pre .1 .1 .0 .0, h .kept ∙ b .pre .1 .1 .0 .1), (c .before .before .before .before .before .loop-test .taken, h .small)))
+    (b .pre .0, ((b .pre .1 .1 .0 .0, h .kept ∙ b .pre .1 .1 .0 .1), (b .pre .1 .1 .1 .0, (c .before .before .before .before .before .loop-test .taken, h .small))))
 
 add-j : tie.Need-add-j Inv-loop μ-loop
 add-j c = omega arith

@@ -3,7 +3,7 @@ use mathlib.Core.Path.{_∙_}
 use Prim.Native.Nat.{_+_, _*_, _≤_}
 use native.Mathlib.Omega.{arith}
 use lib.ListN.{length}
-use Rattle.sheet.proofs.Laws.{kinds-most, lines-most}
+use Rattle.sheet.proofs.Laws.{kinds-are, kinds-most, lines-most}
 use Rattle.norms.proofs.Laws.{part-long}
 use Rattle.base.proofs.Tables.{at-kind, part-is, lent-length}
 use Rattle.base.proofs.TableRows.{row-set, row-set-under}
@@ -41,7 +41,7 @@ form-of-counts-requires c κs =
     let p = c .before .line-counts .ensures in
     let e = part-form R j _ p (b .args .rows .now) in
     let small = left-form-small R (λ y. c .before .before .before .before .shared-slice-known .given y .fits) (b .args .rows .now) (λ y. c .before .before .before .shared-slice-known2 .given y .fits) j in
-    ((omega (arith, part-long R j _ p, kinds-most R), omega (arith, lent-length (b .args .forms .now) j (omega (arith, lines-most R)) (part-is (b .args .forms .now) j))), λ x. omega (arith, at-kind e x, small x))
+    ((omega (arith, part-long R j _ p, kinds-most R), omega (arith, part-long R j _ p, kinds-most R), omega (arith, lent-length (b .args .forms .now) j (omega (arith, lines-most R)) (part-is (b .args .forms .now) j))), (λ k h. b .pre .1 .1 .0 k (omega (arith, part-long R j _ p, kinds-are R)), λ x. omega (arith, at-kind e x, small x)))
 
 same-length : tie.Need-same-length
 same-length c = search needs
@@ -56,7 +56,7 @@ returns c =
     let room : j * 32 + 32 ≤ length forms = omega (arith, lines-most R) in
     let long = c .before .before .form-of-counts .kept .1 .1 .0 ∙ lent-length forms j room (part-is forms j) in
     let small = left-form-small R (λ y. c .before .before .before .before .before .before .before .shared-slice-known .given y .fits) (b .args .rows .now) (λ y. c .before .before .before .before .before .before .shared-slice-known2 .given y .fits) j in
-    (row-set forms (c .before .before .form-of-counts .last .1 .1 .0) j long room _ e, row-set-under forms (c .before .before .form-of-counts .last .1 .1 .0) j long room (b .pre .1 .1 .1) (λ x. omega (arith, at-kind e x, small x)))
+    (row-set forms (c .before .before .form-of-counts .last .1 .1 .0) j long room _ e, row-set-under forms (c .before .before .form-of-counts .last .1 .1 .0) j long room (b .pre .1 .1 .1 .1) (λ x. omega (arith, at-kind e x, small x)))
 
 pub line-form-spec : {M : Type 1} → statement M
 line-form-spec =

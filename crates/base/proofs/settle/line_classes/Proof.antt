@@ -1,12 +1,16 @@
 -- The forms and the rows tell which lines match.
 use borrow.Author.Needs.{needs}
+use Rattle.base.proofs.StageRows.{base-atoms}
 use Rattle.base.proofs.LineTables.{whole-tables, tables-classes, tables-bounds, bounds-tables}
 use mathlib.Core.Path.{_∙_}
 use Rattle.base.proofs.settle.line_classes.Statement.{statement}
 use Rattle.base.proofs.settle.line_classes.Tie as tie
 
 all-forms-requires : tie.Need-all-forms-requires
-all-forms-requires c κs = search needs
+all-forms-requires c κs =
+    let b = c .before .before .before .before .before .before .before in
+    let g = b .pre .1 .1 .1 .1 in
+    (b .pre .0, ((b .pre .1 .1 .1 .0 .0, b .pre .1 .1 .1 .0 .1), base-atoms (b .args .s .now) (b .pre .1 .0) (g .0) (b .args .rows .now) (g .1)))
 
 classes-requires : tie.Need-classes-requires
 classes-requires c κs =

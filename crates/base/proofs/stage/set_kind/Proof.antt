@@ -20,7 +20,7 @@ kind-forms-requires c κs =
     let b = c .before .before .before .before .before .before .before .before .before .before in
     let G = b .pre .0 in
     let e = sym (lines-are (G .accepts .reads)) in
-    (G .accepts .reads, ((G .lines .kinds-long ∙ e, G .lines .lowers-long ∙ e), ((rows-long b, b .pre .1 .0 .1), b .pre .1 .0 .2)))
+    (G .accepts .reads, ((G .lines .kinds-long ∙ e, G .lines .lowers-long ∙ e), ((rows-long b, b .pre .1 .0 .1), (b .pre .1 .1 .atoms, b .pre .1 .0 .2))))
 
 slice-aggregate-row-of-kind : tie.Need-slice-aggregate-row-of-kind
 slice-aggregate-row-of-kind c = search (needs, rows-long (c .before .before .before .before .before .before .before .before .before .before .before .before .before .before))

@@ -4,7 +4,8 @@ use mathlib.Core.Bool.{true}
 use mathlib.Core.Path.{_≡_, _∙_, sym}
 use native.Mathlib.Omega.{arith}
 use lib.ListN.{length, length-set}
-use Rattle.sheet.proofs.Laws.{kinds-most}
+use Rattle.sheet.proofs.Laws.{kinds-are, kinds-most}
+use Rattle.base.proofs.Tables.{zero-atoms}
 use Rattle.base.proofs.LineForms.{clear-under}
 use Rattle.base.proofs.KindByKind.{SoFar, leftOver, fewer-left, so-far-none, so-far-more, earlier-set, all-set}
 use Rattle.base.proofs.stage.stage_rows.Statement.{statement}
@@ -35,7 +36,7 @@ earliest-requires : tie.Need-earliest-requires Inv-loop μ-loop
 earliest-requires c κs = (omega (arith, norms-long (c .before .before .before .before .before .before .before .before .before .before .before .before .before .before), kinds-most (c .before .before .before .before .before .before .before .before .before .before .before .before .before .before .pre .0 .accepts .reads)), omega (arith, kinds-most (c .before .before .before .before .before .before .before .before .before .before .before .before .before .before .pre .0 .accepts .reads)))
 
 loop-holds : tie.Need-loop-holds Inv-loop μ-loop
-loop-holds c = so-far-none (clear-under (c .before .before .before .before .before .before .clear .last .0) (omega arith) (c .before .before .before .before .before .before .clear .ensures)) (c .earliest .ensures)
+loop-holds c = so-far-none (clear-under (c .before .before .before .before .before .before .clear .last .0) (omega arith) (c .before .before .before .before .before .before .clear .ensures)) (zero-atoms 1024 _ _ (c .before .before .before .new .ensures)) (c .earliest .ensures)
 
 set-kind-requires : tie.Need-set-kind-requires Inv-loop μ-loop
 set-kind-requires c κs =
@@ -66,7 +67,9 @@ loop-less c =
     fewer-left (c .before .before .before .before .before .before .before .before .before .before .before .before .before .before .before .before .before .before .before .before .before .before .before .before .args .card .kinds) (p .done) (p .k) l (omega (arith, l, p .inv .flags, kinds-most (c .before .before .before .before .before .before .before .before .before .before .before .before .before .before .before .before .before .before .before .before .before .before .before .before .pre .0 .accepts .reads))) (p .inv .next .here l .1)
 
 loop-again : tie.Need-loop-again Inv-loop μ-loop
-loop-again c = so-far-more (c .before .before .before .before .before .before .before .before .loop .inv) (c .before .before .before .before .before .set-kind .ensures) (c .before .before .before .before .before .set-kind .kept .1 .1 .1 .1 .1 .1 .1 .1 .1 .1 .0) (c .earliest2 .ensures)
+loop-again c =
+    let A = c .before .before .before .before .before .before .before .before .before .before .before .before .before .before .before .before .before .before .before .before .before .before .before .before .pre .0 .accepts in
+    so-far-more (c .before .before .before .before .before .before .before .before .loop .inv) (A .accepted) (omega (arith, c .before .before .before .before .before .before .before .loop-test .taken, kinds-are (A .reads))) (c .before .before .before .before .before .set-kind .ensures) (c .before .before .before .before .before .set-kind .kept .1 .1 .1 .1 .1 .1 .1 .1 .1 .1 .0) (c .earliest2 .ensures)
 
 same-length : tie.Need-same-length Inv-loop μ-loop
 same-length c = c .before .loop .inv .kept ∙ c .before .before .before .before .before .before .before .before .clear .kept .0

@@ -2,8 +2,10 @@
 use borrow.Author.Needs.{needs}
 use Prim.Native.Nat.{_-_}
 use native.Mathlib.Omega.{arith}
+use mathlib.Core.Path.{refl}
 use lib.ListN.{length}
-use Rattle.base.proofs.Tables.{Formed, formed-none, formed-fits, formed-room, formed-bound, formed-more, formed-all}
+use Rattle.base.specs.Table.{rowIn}
+use Rattle.base.proofs.Tables.{Formed, formed-none, formed-fits, formed-bound, formed-more, formed-all}
 use Rattle.base.proofs.table.form_of_counts.Statement.{statement}
 use Rattle.base.proofs.table.form_of_counts.Tie as tie
 
@@ -25,14 +27,13 @@ shared-slice-read-wide-byte c = search needs
 wide-byte-requires : tie.Need-wide-byte-requires Inv-loop μ-loop
 wide-byte-requires c κs = search needs
 
-row-of-requires : tie.Need-row-of-requires Inv-loop μ-loop
-row-of-requires c κs = formed-fits (c .before .before .before .before .loop .inv) (c .before .before .before .loop-test .taken)
-
-add-times-requires : tie.Need-add-times-requires Inv-loop μ-loop
-add-times-requires c κs =
-    let h = c .before .before .before .before .before .loop .inv in
-    let l = c .before .before .before .before .loop-test .taken in
-    (formed-room h (c .row-of .ensures) l, formed-bound h (c .before .before .before .before .before .before .before .before .before .before .before .before .before .pre .1) (c .row-of .ensures) l _ (c .before .before .wide-byte .ensures))
+add-row-requires : tie.Need-add-row-requires Inv-loop μ-loop
+unfolding rowIn
+add-row-requires c κs =
+    let b = c .before .before .before .before .before .before .before .before .before .before .before .before in
+    let h = c .before .before .before .before .loop .inv in
+    let l = c .before .before .before .loop-test .taken in
+    ((omega (arith, b .pre .0 .0), formed-fits h l, omega (arith, h .room, h .kept)), (b .pre .1 .0 _ l, formed-bound h (b .pre .1 .1) refl l _ (c .before .wide-byte .ensures)))
 
 add-k : tie.Need-add-k Inv-loop μ-loop
 add-k c = search needs
@@ -41,7 +42,8 @@ loop-less : tie.Need-loop-less Inv-loop μ-loop
 loop-less c = search needs
 
 loop-again : tie.Need-loop-again Inv-loop μ-loop
-loop-again c = formed-more (c .before .before .before .before .before .before .before .before .loop .inv) (c .before .before .before .row-of .ensures) _ (c .before .before .before .before .before .wide-byte .ensures) (c .before .before .before .before .before .before .before .loop-test .taken) (c .before .before .add-times .kept .0) (c .before .before .add-times .ensures)
+unfolding rowIn
+loop-again c = formed-more (c .before .before .before .before .before .before .before .loop .inv) refl _ (c .before .before .before .before .wide-byte .ensures) (c .before .before .before .before .before .before .loop-test .taken) (c .before .before .add-row .kept .0) (c .before .before .add-row .ensures)
 
 same-length : tie.Need-same-length Inv-loop μ-loop
 same-length c = search needs
@@ -59,8 +61,7 @@ form-of-counts-spec =
     loop-holds
     shared-slice-read-wide-byte
     wide-byte-requires
-    row-of-requires
-    add-times-requires
+    add-row-requires
     add-k
     loop-less
     loop-again
