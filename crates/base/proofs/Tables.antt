@@ -10,7 +10,7 @@ use native.Mathlib.Nat.{mul-zero, zero-mul, add-sub-cancel-left}
 use native.Mathlib.Numerals.{add-one}
 use native.Mathlib.Omega.{arith}
 use lib.ListN.{length, getD, set, take, drop, replicate, List·getD-eq-default, List·getD-append, length-append, length-take, length-drop, length-set, length-replicate, getD-replicate}
-use lib.Seq.{getD-set-same, getD-set-other, getD-take, getD-drop, getD-append-add, length-take-le, take-all, paste, paste-zero, paste-suc, take-length}
+use lib.Seq.{getD-set-same, getD-set-other, getD-take, getD-drop, getD-append-add, length-take-le, take-all, paste, paste-zero, paste-suc, length-paste, take-length}
 use Rattle.model.specs.Field.{Field, none, _⊕_, times, unit, at, weigh}
 use Rattle.model.specs.Limits.{mostKinds}
 use Rattle.model.proofs.Field.{unit-same, unit-other, weigh-next, weigh-weights}
@@ -369,8 +369,8 @@ pub zero-row : (n k : ℕ) → rowIn (replicate n 0) k ≡ none
 zero-row n k = row-same _ k (λ j _. zero-counts n (k * mostKinds + j)) (λ j _. refl)
 
 -- So it tells no atom.
-pub zero-atoms : (n m : ℕ) (t : List ℕ) → t ≡ replicate n 0 → Atoms t m
-zero-atoms n m t e k _ one = absurd (omega (arith, at-kind (zero-row n k) k, rw e at one))
+pub zero-atoms : (n m : ℕ) → Atoms (replicate n 0) m
+zero-atoms n m k _ one = absurd (omega (arith, at-kind (zero-row n k) k, one))
 
 -- The first i counts of a row are copied to a table, from an index on.
 pub record Copied (old row rows : List ℕ) (start i : ℕ) : Type 0 where
@@ -385,6 +385,9 @@ module _ {old row rows : List ℕ} {start i : ℕ} (h : Copied old row rows star
   pub copied-more : i < length row → Copied old row (set rows (start + i) (at row i)) start (i + 1)
   copied-more l =
       record { within = omega arith; fits = h .fits; copy = rw (h .copy, add-one) (paste-suc old start row i 0 (omega (arith, h .fits)) l) }
+
+  pub copied-length : length rows ≡ length old
+  copied-length = rw (h .copy) (length-paste old start row i (omega (arith, h .fits, h .within)) (h .within))
 
   pub copied-all : length row ≤ i → rows ≡ take start old ++ row ++ drop (start + length row) old
   copied-all l = let e : i ≡ length row = omega (arith, h .within) in rw (h .copy, e, take-length)

@@ -4,6 +4,7 @@ use crate::order::earliest;
 use crate::row::row_of_kind;
 use crate::table::Base;
 use crate::table::clear;
+use crate::table::set_row;
 use sheet::Card;
 ghost use mathlib.Core.Path.{_≡_};
 ghost use Prim.Native.Nat.{ℕ, suc, _+_, _-_, _^_, _≤_, _<_};
@@ -13,7 +14,7 @@ ghost use Rattle.base.specs.Table.{Under};
 ghost use Rattle.base.specs.Stage.{BaseAt, Classes, LinesAre};
 ghost use Rattle.base.specs.StageRows.{StageGiven, EarlierSet, KindSet};
 
-// The base with kind k set, and the forms of its lowering lines.
+// Sets kind k: the forms of its lowering lines, then its row.
 fn set_kind(
     s: &[u8],
     card: Card,
@@ -24,17 +25,16 @@ fn set_kind(
     t: usize,
     previous: &[u32],
     classes: &[usize],
-    base: Base,
+    rows: &mut [u32],
     forms: &mut [u64],
     k: usize,
-) -> Base
+)
     requires { ⌜ StageGiven (now s) card norms (now kinds) (now codes) (now lowers) t (now previous) (now classes) ⌝ }
-    requires { ⌜ (k < card .kinds) × (length (now forms) ≡ 8192) × Under (2 ^ 63) (now forms) ⌝ }
-    requires { ⌜ EarlierSet (now s) t k (base .rows) (now forms) ⌝ }
-    ensures { λ r. ⌜ KindSet (now (s .entry)) t k (base .rows) (r .rows) (now (forms .entry)) (now (forms .exit)) ⌝ }
+    requires { ⌜ (k < card .kinds) × (length (now rows) ≡ 1024) × (length (now forms) ≡ 8192) × Under (2 ^ 63) (now forms) ⌝ }
+    requires { ⌜ EarlierSet (now s) t k (now rows) (now forms) ⌝ }
+    ensures { λ _. ⌜ KindSet (now (s .entry)) t k (now (rows .entry)) (now (rows .exit)) (now (forms .entry)) (now (forms .exit)) ⌝ }
 {
-    let rows = base.rows;
-    kind_forms(s, card, kinds, lowers, &rows, forms, k);
+    kind_forms(s, card, kinds, lowers, rows, forms, k);
     let row = row_of_kind(
         s,
         card,
@@ -45,11 +45,11 @@ fn set_kind(
         t,
         previous,
         classes,
-        &rows,
+        rows,
         forms,
         k,
     );
-    base.set_row(k, &row)
+    set_row(rows, k, &row);
 }
 
 // The rows of stage t + 1, from those of stage t; of stage 1, where t is 0, from the norms alone.
@@ -71,11 +71,11 @@ fn stage_rows(
 {
     clear(forms);
     let n = card.kinds;
-    let mut base = Base::new();
+    let mut rows = [0u32; 1024];
     let mut done = [false; 32];
     let mut k = earliest(&norms, n, &done);
     while k < n {
-        base = set_kind(
+        set_kind(
             s,
             card,
             norms,
@@ -85,14 +85,14 @@ fn stage_rows(
             t,
             previous,
             classes,
-            base,
+            &mut rows,
             forms,
             k,
         );
         done[k] = true;
         k = earliest(&norms, n, &done);
     }
-    base
+    Base { rows }
 }
 
 // The base at stage 1.

@@ -67,6 +67,19 @@ fn add_row(sum: &mut [u64], rows: &[u32], k: usize, count: u64)
     add_times(sum, row_of(rows, k), count);
 }
 
+// Replaces row k of a table by the counts.
+pub fn set_row(rows: &mut [u32], k: usize, row: &[u32])
+    requires { ⌜ (k * 32 + 32 ≤ length (now rows)) × (length (now row) ≡ 32) ⌝ }
+    ensures { λ _. ⌜ now (rows .exit) ≡ withRow (now (rows .entry)) k (now (row .entry)) ⌝ }
+{
+    let start = k * 32;
+    let mut i = 0;
+    while i < row.len() {
+        rows[start + i] = row[i];
+        i += 1;
+    }
+}
+
 // Row j of a table of counts of 64 bits, as a part of it: the form of what line j leaves.
 pub fn form_of(forms: &[u64], j: usize) -> &[u64]
     requires { ⌜ j * 32 + 32 ≤ length (now forms) ⌝ }
@@ -130,20 +143,5 @@ impl Base {
         ensures { λ r. ⌜ r .rows ≡ replicate 1024 0 ⌝ }
     {
         Base { rows: [0u32; 1024] }
-    }
-
-    // The base with row k replaced by the counts.
-    pub fn set_row(self, k: usize, row: &[u32]) -> Base
-        requires { ⌜ (k < 32) × (length (now row) ≡ 32) ⌝ }
-        ensures { λ r. ⌜ r .rows ≡ withRow (self .rows) k (now (row .entry)) ⌝ }
-    {
-        let mut rows = self.rows;
-        let start = k * 32;
-        let mut i = 0;
-        while i < row.len() {
-            rows[start + i] = row[i];
-            i += 1;
-        }
-        Base { rows }
     }
 }

@@ -9,60 +9,54 @@ use borrow.Author.Needs.{needs}
 use Rattle.base.proofs.stage.set_kind.Statement.{statement}
 use Rattle.base.proofs.stage.set_kind.Tie as tie
 
-rows-long : (c : tie.Start) → length (c .args .base .rows) ≡ 1024
-rows-long c = search needs
-
-slice-aggregate-kind-forms : tie.Need-slice-aggregate-kind-forms
-slice-aggregate-kind-forms c = search needs
+-- There is a row k.
+row-room : (b : tie.Start) → b .args .k * 32 + 32 ≤ length (b .args .rows .now)
+row-room b = omega (arith, b .pre .1 .0 .0, b .pre .1 .0 .1, kinds-most (b .pre .0 .accepts .reads))
 
 kind-forms-requires : tie.Need-kind-forms-requires
 kind-forms-requires c κs =
     let b = c .before .before .before .before .before .before .before .before .before .before in
     let G = b .pre .0 in
     let e = sym (lines-are (G .accepts .reads)) in
-    (G .accepts .reads, ((G .lines .kinds-long ∙ e, G .lines .lowers-long ∙ e), ((rows-long b, b .pre .1 .0 .1), (b .pre .1 .1 .atoms, b .pre .1 .0 .2))))
-
-slice-aggregate-row-of-kind : tie.Need-slice-aggregate-row-of-kind
-slice-aggregate-row-of-kind c = search (needs, rows-long (c .before .before .before .before .before .before .before .before .before .before .before .before .before .before))
+    (G .accepts .reads, ((G .lines .kinds-long ∙ e, G .lines .lowers-long ∙ e), ((b .pre .1 .0 .1, b .pre .1 .0 .2), (b .pre .1 .1 .atoms, b .pre .1 .0 .3))))
 
 row-of-kind-requires : tie.Need-row-of-kind-requires
 row-of-kind-requires c κs =
     let b = c .before .before .before .before .before .before .before .before .before .before .before .before .before .before .before in
     let G = b .pre .0 in
     let M = c .before .before .before .before .kind-forms in
-    (G, ((b .pre .1 .0 .0, rows-long b, M .kept .1 .1 .1 .1 .1 .0 ∙ b .pre .1 .0 .1, M .ensures .small), sought G (b .pre .1 .1) (M .ensures)))
+    (G, ((b .pre .1 .0 .0, b .pre .1 .0 .1, M .kept .1 .1 .1 .1 .1 .0 ∙ b .pre .1 .0 .2, M .ensures .small), sought G (b .pre .1 .1) (M .ensures)))
 
 slice-aggregate-set-row : tie.Need-slice-aggregate-set-row
 slice-aggregate-set-row c = search needs
 
 set-row-requires : tie.Need-set-row-requires
 set-row-requires c κs =
-    let b = c .before .before .before .before .before .before .before .before .before .before .before .before .before .before .before .before .before in
-    let G = b .pre .0 in
-    let long : length (c .before .row-of-kind .result) ≡ 32 = search (needs, c .before .row-of-kind .ok) in
-    (omega (arith, b .pre .1 .0 .0, kinds-most (G .accepts .reads)), long)
+    let row = c .before .before .row-of-kind in
+    let long : length (row .result) ≡ 32 = search (needs, row .ok) in
+    (row-room (c .before .before .before .before .before .before .before .before .before .before .before .before .before .before .before .before .before .before), long)
 
 same-length : tie.Need-same-length
 same-length c = search needs
 
+same-length-2 : tie.Need-same-length-2
+same-length-2 c = search needs
+
 returns : tie.Need-returns
 returns c =
-    let b = c .before .before .before .before .before .before .before .before .before .before .before .before .before .before .before .before .before .before in
-    let G = b .pre .0 in
-    let row = c .before .before .row-of-kind in
+    let b = c .before .before .before .before .before .before .before .before .before .before .before .before .before .before .before .before .before .before .before .before .before in
+    let row = c .before .before .before .before .before .row-of-kind in
     let long : length (row .result) ≡ 32 = search (needs, row .ok) in
-    let room : b .args .k * 32 + 32 ≤ length (b .args .base .rows) = omega (arith, rows-long b, b .pre .1 .0 .0, kinds-most (G .accepts .reads)) in
-    kind-set G (b .pre .1 .1) (c .before .before .before .before .before .before .before .kind-forms .ensures) (row .result) long room (row .ensures) (c .set-row .ensures)
+    kind-set (b .pre .0) (b .pre .1 .1) (c .before .before .before .before .before .before .before .before .before .before .kind-forms .ensures) (row .result) long (row-room b) (row .ensures) (c .before .before .set-row .ensures)
 
 pub set-kind-spec : {M : Type 1} → statement M
 set-kind-spec =
     tie.close
     (tie.spec
-    slice-aggregate-kind-forms
     kind-forms-requires
-    slice-aggregate-row-of-kind
     row-of-kind-requires
     slice-aggregate-set-row
     set-row-requires
     same-length
+    same-length-2
     returns)

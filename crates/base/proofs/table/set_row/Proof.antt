@@ -5,23 +5,21 @@ use native.Mathlib.Omega.{arith}
 use mathlib.Core.Path.{_≡_}
 use lib.ListN.{length}
 use Rattle.base.specs.Table.{withRow}
-use Rattle.base.proofs.Tables.{Copied, copied-none, copied-more, copied-all}
-use Rattle.base.proofs.table.Base.set_row.Statement.{statement}
-use Rattle.base.proofs.table.Base.set_row.Tie as tie
+use Rattle.base.proofs.Tables.{Copied, copied-none, copied-more, copied-length, copied-all}
+use Rattle.base.proofs.table.set_row.Statement.{statement}
+use Rattle.base.proofs.table.set_row.Tie as tie
 
 abbrev Inv-loop : tie.InvT-loop
-Inv-loop k row rows₀ start i₀ rows i = Copied rows₀ row rows start i
+Inv-loop rows₀ k row start i₀ rows i = Copied rows₀ row rows start i
 
 abbrev μ-loop : tie.MeasureT-loop
-μ-loop k row rows₀ start i₀ rows i = length row - i
+μ-loop rows₀ k row start i₀ rows i = length row - i
 
 mul-start : tie.Need-mul-start Inv-loop μ-loop
 mul-start c = search needs
 
 loop-holds : tie.Need-loop-holds Inv-loop μ-loop
-loop-holds c =
-    let e : length (c .before .args .self .rows) ≡ 1024 = search needs in
-    copied-none (omega arith)
+loop-holds c = copied-none (omega arith)
 
 mul-rows : tie.Need-mul-rows Inv-loop μ-loop
 mul-rows c = search needs
@@ -35,8 +33,8 @@ add-rows c = search needs
 mul-rows-2 : tie.Need-mul-rows-2 Inv-loop μ-loop
 mul-rows-2 c = search needs
 
-array-write-rows : tie.Need-array-write-rows Inv-loop μ-loop
-array-write-rows c = search needs
+slice-write-rows : tie.Need-slice-write-rows Inv-loop μ-loop
+slice-write-rows c = let h = c .before .before .loop .inv in omega (arith, copied-length h, h .fits, c .before .loop-test .taken)
 
 add-i : tie.Need-add-i Inv-loop μ-loop
 add-i c = search needs
@@ -46,6 +44,9 @@ loop-less c = search needs
 
 loop-again : tie.Need-loop-again Inv-loop μ-loop
 loop-again c = copied-more (c .before .before .loop .inv) (c .before .loop-test .taken)
+
+same-length : tie.Need-same-length Inv-loop μ-loop
+same-length c = copied-length (c .before .loop .inv)
 
 returns : tie.Need-returns Inv-loop μ-loop
 unfolding withRow
@@ -63,8 +64,9 @@ set-row-spec =
     shared-slice-read-rows
     add-rows
     mul-rows-2
-    array-write-rows
+    slice-write-rows
     add-i
     loop-less
     loop-again
+    same-length
     returns)
