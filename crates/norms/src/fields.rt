@@ -11,14 +11,14 @@ pub fn field_norm(kinds: usize, norms: [u32; 32], field: [u32; 32]) -> u64
     requires { ⌜ weigh kinds (at norms) (at field) < 2 ^ 64 ⌝ }
     ensures { λ r. ⌜ r ≡ weigh kinds (at norms) (at field) ⌝ }
 {
-    norm_from(0, kinds, norms, field)
+    norm_from(0, kinds, &norms, &field)
 }
 
 // "the norm of its first kind's tokens plus the norm of the rest": of so many kinds from this kind up.
-fn norm_from(kind: usize, left: usize, norms: [u32; 32], field: [u32; 32]) -> u64
+fn norm_from(kind: usize, left: usize, norms: &[u32; 32], field: &[u32; 32]) -> u64
     requires { ⌜ kind + left ≤ mostKinds ⌝ }
-    requires { ⌜ weighFrom kind left (at norms) (at field) < 2 ^ 64 ⌝ }
-    ensures { λ r. ⌜ r ≡ weighFrom kind left (at norms) (at field) ⌝ }
+    requires { ⌜ weighFrom kind left (at (now norms)) (at (now field)) < 2 ^ 64 ⌝ }
+    ensures { λ r. ⌜ r ≡ weighFrom kind left (at (now (norms .entry))) (at (now (field .entry))) ⌝ }
 {
     if left == 0 {
         return 0;

@@ -15,34 +15,34 @@ use Rattle.norms.proofs.weights.wide32.Reads as wide32-reads
 use Rattle.norms.proofs.fields.+norm_from.{statement}
 use Rattle.norms.proofs.fields.+norm_from.Tie.{close}
 
-abbrev μ-norm-from : Measures 0 norm-from-kinds.ps ℕ
+abbrev μ-norm-from : Measures 2 norm-from-kinds.ps ℕ
 μ-norm-from κs a = a .1 .0
 
-abbrev norm-from-at : ℕ → In 0 norm-from-kinds.ps
-norm-from-at t = and 0 norm-from-kinds.ps (is 0 norm-from-kinds.ps μ-norm-from t) norm-from.Pre
+abbrev norm-from-at : ℕ → In 2 norm-from-kinds.ps
+norm-from-at t = and 2 norm-from-kinds.ps (is 2 norm-from-kinds.ps μ-norm-from t) norm-from.Pre
 
-abbrev norm-from-below : ℕ → In 0 norm-from-kinds.ps
+abbrev norm-from-below : ℕ → In 2 norm-from-kinds.ps
 norm-from-below t =
-    and 0 norm-from-kinds.ps (falls 0 norm-from-kinds.ps _<_ μ-norm-from t) norm-from.Pre
+    and 2 norm-from-kinds.ps (falls 2 norm-from-kinds.ps _<_ μ-norm-from t) norm-from.Pre
 
 -- what norm-from calls
 abbrev norm-from-calls : ℕ → norm-from-lts.Claims
 norm-from-calls t = (wide32-reads.Asked, wide32-reads.Learnt, norm-from-below t, norm-from.Post)
 
 norm-from-returns : (t : ℕ) → norm-from-lts.Need-returns (norm-from-calls t) (norm-from-at t) norm-from.Post
-norm-from-returns t c = sym (rest-none (c .before .args .kind) (c .before .args .left) (at (c .before .args .t3)) (at (c .before .args .t4)) (c .if1 .taken))
+norm-from-returns t c = sym (rest-none (c .before .args .kind) (c .before .args .left) (at (c .before .args .norms .now)) (at (c .before .args .field .now)) (c .if1 .taken))
 
 norm-from-mul-tokens : (t : ℕ) → norm-from-lts.Need-mul-tokens (norm-from-calls t) (norm-from-at t) norm-from.Post
 norm-from-mul-tokens t c = search needs
 
-norm-from-array-read-tokens : (t : ℕ) → norm-from-lts.Need-array-read-tokens (norm-from-calls t) (norm-from-at t) norm-from.Post
-norm-from-array-read-tokens t c = search needs
+norm-from-element-copy-out-tokens : (t : ℕ) → norm-from-lts.Need-element-copy-out-tokens (norm-from-calls t) (norm-from-at t) norm-from.Post
+norm-from-element-copy-out-tokens t c = search needs
 
 norm-from-mul-norm : (t : ℕ) → norm-from-lts.Need-mul-norm (norm-from-calls t) (norm-from-at t) norm-from.Post
 norm-from-mul-norm t c = search needs
 
-norm-from-array-read-norm : (t : ℕ) → norm-from-lts.Need-array-read-norm (norm-from-calls t) (norm-from-at t) norm-from.Post
-norm-from-array-read-norm t c = search needs
+norm-from-element-copy-out-norm : (t : ℕ) → norm-from-lts.Need-element-copy-out-norm (norm-from-calls t) (norm-from-at t) norm-from.Post
+norm-from-element-copy-out-norm t c = search needs
 
 norm-from-wide32-requires : (t : ℕ) → norm-from-lts.Need-wide32-requires (norm-from-calls t) (norm-from-at t) norm-from.Post
 norm-from-wide32-requires t c κs = search needs
@@ -52,11 +52,11 @@ norm-from-wide32-requires-2 t c κs = search needs
 
 -- The norm of the first kind's tokens, and that of the rest.
 split : (t : ℕ) (c : norm-from-lts.After-wide322 (norm-from-calls t) (norm-from-at t) norm-from.Post)
-    → let a = c .before .before .before .args in
-    weighFrom (a .kind) (a .left) (at (a .t3)) (at (a .t4)) ≡ c .before .wide32 .result * c .wide322 .result + weighFrom (a .kind + 1) (a .left - 1) (at (a .t3)) (at (a .t4))
+    → let a = c .before .before .before .before .before .args in
+    weighFrom (a .kind) (a .left) (at (a .norms .now)) (at (a .field .now)) ≡ c .before .wide32 .result * c .wide322 .result + weighFrom (a .kind + 1) (a .left - 1) (at (a .norms .now)) (at (a .field .now))
 split t c =
-    let a = c .before .before .before .args in
-    rw (c .before .wide32 .ensures, c .wide322 .ensures) (first-rest (a .kind) (a .left) (at (a .t3)) (at (a .t4)) (omega arith))
+    let a = c .before .before .before .before .before .args in
+    rw (c .before .wide32 .ensures, c .wide322 .ensures) (first-rest (a .kind) (a .left) (at (a .norms .now)) (at (a .field .now)) (omega arith))
 
 norm-from-mul-result : (t : ℕ) → norm-from-lts.Need-mul-result (norm-from-calls t) (norm-from-at t) norm-from.Post
 norm-from-mul-result t c = omega (arith, split t c)
@@ -82,9 +82,9 @@ pub +norm-from-spec : {M : Type 1} → statement M
     norm-from.Post
     (norm-from-returns t)
     (norm-from-mul-tokens t)
-    (norm-from-array-read-tokens t)
+    (norm-from-element-copy-out-tokens t)
     (norm-from-mul-norm t)
-    (norm-from-array-read-norm t)
+    (norm-from-element-copy-out-norm t)
     (norm-from-wide32-requires t)
     (norm-from-wide32-requires-2 t)
     (norm-from-mul-result t)

@@ -7,10 +7,10 @@ use Rattle.norms.proofs.fields.field_norm.Statement.{statement}
 use Rattle.norms.proofs.fields.field_norm.Tie as tie
 
 norm-from-requires : tie.Need-norm-from-requires
-norm-from-requires c κs = (omega arith, omega (arith, weigh-front (c .args .kinds) (at (c .args .norms)) (at (c .args .field))))
+norm-from-requires c κs = (omega arith, omega (arith, weigh-front (c .before .before .args .kinds) (at (c .before .before .args .t2)) (at (c .before .before .args .t3))))
 
 returns : tie.Need-returns
-returns c = c .norm-from .ensures ∙ sym (weigh-front (c .before .args .kinds) (at (c .before .args .norms)) (at (c .before .args .field)))
+returns c = c .norm-from .ensures ∙ sym (weigh-front (c .before .before .before .args .kinds) (at (c .before .before .before .args .t2)) (at (c .before .before .before .args .t3)))
 
 pub field-norm-spec : {M : Type 1} → statement M
 field-norm-spec = tie.close (tie.spec norm-from-requires returns)
