@@ -2,9 +2,9 @@
 // with fewer rounds left or fewer lines left. t is the table of the lines that follow.
 // The stack: after a line, challenge and reply go on with one half of the lines left and then with the other, so that with 256 lines at
 // most 10 calls of each stand at once in a round, whether or not the back end removes a call. The two fields of the next pair live in
-// the frame of examine_left, which exists once a round. So 8 rounds have at most 8 × (10 + 10 + 2) = 176 calls at once. Measured on the deepest sheet
-// (`deep` of crates/walks: 256 lines of one code, and the last line of 256 goes on in each round): 124 KB in the program walking, of which
-// it needs 55 KB for a walk of no rounds, 33 KB of them for the table.
+// the frame of examine_left, which exists once a round; the last round has examine_pair, challenge and challenge_last. So 8 rounds have at most
+// 7 × (10 + 10 + 2) + 3 = 157 calls at once. Measured on the deepest sheet (`deep` of crates/walks: 256 lines of one code, and the last line of 256
+// goes on in each round): 125 KB in the program walking, of which it needs 56 KB for a walk of no rounds, 33 KB of them for the table.
 use crate::lines::may_use;
 use crate::lines::next_challenge;
 use crate::lines::next_reply;
