@@ -18,12 +18,12 @@ use base::table::Base;
 use sheet::Card;
 use sheet::checks::Checked;
 
-// Any bytes, any field number and a buffer of any length; a refusal leaves the buffer as it was.
+// Any bytes, any field number and a buffer of any length; a refusal leaves the buffer as it was. No field is compared with the others, as in Settle.
 pub fn prime_form(s: &[u8], field: usize, buffer: &mut [u64]) -> Forming
     ensures { λ r. ⌜ formingOf r ≡ formOf (now (s .entry)) field (now (buffer .entry)) .answer ⌝ }
     ensures { λ r. ⌜ now (buffer .exit) ≡ formOf (now (s .entry)) field (now (buffer .entry)) .lent ⌝ }
 {
-    form_settled(s, settle_once(s, 0), field, buffer)
+    form_settled(s, settle_once(s, Card::FIELDS), field, buffer)
 }
 
 // The same of a sheet that was settled.

@@ -8,14 +8,15 @@ ghost use Rattle.filer.specs.Answers.{settlingOf};
 ghost use Rattle.filer.specs.Settlement.{tableIn};
 use crate::answers::Settling;
 use crate::settlement::settle_once;
+use sheet::Card;
 use sheet::checks::Checked;
 
-// Any bytes, and a table of any length; a refusal leaves the table as it was.
+// Any bytes, and a table of any length; a refusal leaves the table as it was. No sheet has a field of the number Card::FIELDS: none is compared with the others.
 pub fn settle_sheet(s: &[u8], table: &mut [u32]) -> Settling
     ensures { λ r. ⌜ settlingOf r ≡ settleOf (now (s .entry)) (now (table .entry)) .answer ⌝ }
     ensures { λ r. ⌜ now (table .exit) ≡ settleOf (now (s .entry)) (now (table .entry)) .lent ⌝ }
 {
-    let settlement = settle_once(s, 0);
+    let settlement = settle_once(s, Card::FIELDS);
     let checked = settlement.checked;
     match checked {
         Checked::Refused { number, place } => Settling::Refused { number, place },
