@@ -7,7 +7,7 @@ use Prim.Native.Nat.{ℕ, _+_, _^_, _≤_, _<_}
 use native.Mathlib.Decide.{ℕ-discrete}
 use native.Mathlib.Omega.{arith}
 use lib.ListN.{length, getD}
-use Rattle.model.specs.Field.{Field, at, none}
+use Rattle.model.specs.Field.{Field, at}
 use Rattle.model.specs.Limits.{mostKinds}
 use Rattle.model.specs.Sheet.{kindCount, lineCount, lineOf}
 use Rattle.sheet.specs.Reader.{Reads, lineCounts}
@@ -16,7 +16,6 @@ use Rattle.sheet.proofs.Laws.{Bytes, kinds-are, kinds-most, lines-are, left-und
 use Rattle.norms.proofs.Laws.{part-left}
 use Rattle.base.specs.Table.{Under, rowIn, formIn}
 use Rattle.base.specs.Forms.{RowSet, LineForm, AllForms, KindForms}
-use Rattle.base.proofs.Tables.{at-kind}
 use Rattle.base.proofs.TableRows.{form-small}
 
 -- What a line leaves has small forms by any rows of 32-bit counts.
@@ -30,10 +29,6 @@ pub part-form : {s : List ℕ} {c : Card} → Reads s c → (j : ℕ) (xs : List
     → formIn (length xs) rows (at xs) ≡ formIn (kindCount s) rows (lineOf s j .left)
 part-form {s} R j xs part rows =
     part-left R j xs part (λ n a. formIn n rows a) ∙ ap (λ (n : ℕ). formIn n rows (lineOf s j .left)) (kinds-are R)
-
--- A table without counts.
-pub clear-under : {bound : ℕ} (xs : List ℕ) → 0 < bound → at xs ≡ none → Under bound xs
-clear-under xs p e x = rw (at-kind e x) p
 
 -- The forms of the lines below j are written.
 pub record Filled (s rows old forms : List ℕ) (j : ℕ) : Type 0 where

@@ -266,6 +266,9 @@ zero-counts n j = go (decLt j n)
     go (yes l) = getD-replicate n j 0 0 l
     go (no l) = past (replicate n 0) j (omega (arith, length-replicate {A = ℕ} n 0))
 
+pub zero-under : {bound : ℕ} (n : ℕ) → 0 < bound → Under bound (replicate n 0)
+zero-under n p j = rw (zero-counts n j) p
+
 -- The counts below i are those of the second side less m's, and no others are set.
 pub record Subtracted (l m : List ℕ) (kind : ℕ) (counts : List ℕ) (i : ℕ) : Type 0 where
   pub within : i ≤ length l

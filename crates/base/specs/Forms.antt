@@ -3,10 +3,15 @@ use mathlib.Core.Bool.{Bool, true, false}
 use mathlib.Core.List.{List}
 use mathlib.Core.Path.{_≡_}
 use Prim.Native.Nat.{ℕ, _^_, _<_}
-use lib.ListN.{getD}
+use lib.ListN.{length, getD}
 use Rattle.model.specs.Field.{Field, at}
 use Rattle.model.specs.Sheet.{kindCount, lineCount, lineOf}
 use Rattle.base.specs.Table.{Under, rowIn, formIn}
+
+-- A table of forms for all the lines that a sheet may have. Every count is so small that sums with a row's or a candidate's fit 64 bits.
+pub record FormTable (forms : List ℕ) : Type 0 where
+  pub long : length forms ≡ 8192
+  pub small : Under (2 ^ 63) forms
 
 -- Row k of the table is the field, the other rows are as before.
 pub record RowSet (f : Field) (k : ℕ) (old new : List ℕ) : Type 0 where

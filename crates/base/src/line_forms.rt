@@ -1,5 +1,4 @@
 // The forms of what the lines leave: a flat table, one row of 32 counts to a line, by the rows of a base.
-use crate::table::clear;
 use crate::table::form_of_counts;
 use sheet::Card;
 ghost use mathlib.Core.Path.{_≡_};
@@ -30,9 +29,9 @@ pub fn all_forms(s: &[u8], card: Card, rows: &[u32], forms: &mut [u64])
     requires { ⌜ Reads (now s) card ⌝ }
     requires { ⌜ (length (now rows) ≡ 1024) × (length (now forms) ≡ 8192) ⌝ }
     requires { ⌜ Atoms (now rows) (kindCount (now s)) ⌝ }
+    requires { ⌜ Under (2 ^ 63) (now forms) ⌝ }
     ensures { λ _. ⌜ AllForms (now (s .entry)) (now (rows .entry)) (now (forms .exit)) ⌝ }
 {
-    clear(forms);
     let lines = card.lines;
     let mut j = 0;
     while j < lines {

@@ -23,6 +23,7 @@ ghost use Rattle.sheet.specs.Reader.{Reads};
 ghost use Rattle.norms.specs.Norms.{Accepts};
 ghost use Rattle.base.specs.Table.{Under, Atoms};
 ghost use Rattle.base.specs.Stage.{BaseAt, Classes, BoundsAt, LinesAre};
+ghost use Rattle.base.specs.Forms.{FormTable};
 ghost use Rattle.base.specs.Settle.{PartedAt, RowsExpand, AtStage, IsSettled};
 
 // What is held at a stage: its base, the classes of the lines by it, and where the fields part from the first one.
@@ -65,10 +66,11 @@ fn line_classes(
     requires { ⌜ Reads (now s) card ⌝ }
     requires { ⌜ Accepted (now s) ⌝ }
     requires { ⌜ ((lowers : List Bool) × LinesAre (now s) (now kinds) (now codes) lowers) ⌝ }
-    requires { ⌜ (length (now rows) ≡ 1024) × (length (now forms) ≡ 8192) × (length (now kinds) ≤ length (now bounds)) ⌝ }
+    requires { ⌜ (length (now rows) ≡ 1024) × FormTable (now forms) × (length (now kinds) ≤ length (now bounds)) ⌝ }
     requires { ⌜ ((q : ℕ) × BaseAt (now s) (suc q) (now rows) × BoundsAt (now s) q (now bounds)) ⌝ }
     ensures { λ r. ⌜ ((q : ℕ) → BaseAt (now (s .entry)) (suc q) (now (rows .entry)) → Classes (now (s .entry)) q r × BoundsAt (now (s .entry)) q r) ⌝ }
     ensures { λ r. ⌜ Under 256 r ⌝ }
+    ensures { λ _. ⌜ FormTable (now (forms .exit)) ⌝ }
 {
     all_forms(s, card, rows, forms);
     classes(codes, kinds, rows, forms, bounds)
@@ -90,10 +92,11 @@ fn stage_of(
     requires { ⌜ Reads (now s) card ⌝ }
     requires { ⌜ Accepted (now s) ⌝ }
     requires { ⌜ ((lowers : List Bool) × LinesAre (now s) (now kinds) (now codes) lowers) ⌝ }
-    requires { ⌜ (length (now forms) ≡ 8192) × (1 ≤ t) × (t ≤ mostKinds) ⌝ }
+    requires { ⌜ FormTable (now forms) × (1 ≤ t) × (t ≤ mostKinds) ⌝ }
     requires { ⌜ BaseAt (now s) t (base .rows) × PartedAt (now s) (t - 1) first parted ⌝ }
     requires { ⌜ (length (now kinds) ≤ length (now bounds)) × BoundsAt (now s) (t - 1) (now bounds) ⌝ }
     ensures { λ r. ⌜ AtStage (now (s .entry)) first t r ⌝ }
+    ensures { λ _. ⌜ FormTable (now (forms .exit)) ⌝ }
 {
     let rows = base.rows;
     let numbers = line_classes(s, card, kinds, codes, &rows, bounds, forms);
@@ -118,8 +121,9 @@ fn first_stage(
 ) -> Stage
     requires { ⌜ Accepts (now s) card norms ⌝ }
     requires { ⌜ LinesAre (now s) (now kinds) (now codes) (now lowers) ⌝ }
-    requires { ⌜ length (now forms) ≡ 8192 ⌝ }
+    requires { ⌜ FormTable (now forms) ⌝ }
     ensures { λ r. ⌜ AtStage (now (s .entry)) first 1 r ⌝ }
+    ensures { λ _. ⌜ FormTable (now (forms .exit)) ⌝ }
 {
     let base = first_rows(s, card, norms, kinds, codes, lowers, forms);
     let parted = parted_by_norms(s, card, norms, first);
@@ -142,9 +146,10 @@ fn next_stage(
 ) -> Stage
     requires { ⌜ Accepts (now s) card norms ⌝ }
     requires { ⌜ LinesAre (now s) (now kinds) (now codes) (now lowers) ⌝ }
-    requires { ⌜ (length (now forms) ≡ 8192) × (1 ≤ t) × (t < mostKinds) ⌝ }
+    requires { ⌜ FormTable (now forms) × (1 ≤ t) × (t < mostKinds) ⌝ }
     requires { ⌜ AtStage (now s) first t held ⌝ }
     ensures { λ r. ⌜ AtStage (now (s .entry)) first (t + 1) r ⌝ }
+    ensures { λ _. ⌜ FormTable (now (forms .exit)) ⌝ }
 {
     let base = held.base;
     let rows = base.rows;
@@ -190,7 +195,7 @@ fn settle_lines(
 ) -> Settled
     requires { ⌜ Accepts (now s) card norms ⌝ }
     requires { ⌜ LinesAre (now s) (now kinds) (now codes) (now lowers) ⌝ }
-    requires { ⌜ length (now forms) ≡ 8192 ⌝ }
+    requires { ⌜ FormTable (now forms) ⌝ }
     ensures { λ r. ⌜ IsSettled (now (s .entry)) first r ⌝ }
 {
     let n = card.kinds;

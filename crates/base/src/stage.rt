@@ -3,7 +3,6 @@ use crate::line_forms::kind_forms;
 use crate::order::earliest;
 use crate::row::row_of_kind;
 use crate::table::Base;
-use crate::table::clear;
 use crate::table::set_row;
 use sheet::Card;
 ghost use mathlib.Core.Path.{_≡_};
@@ -12,6 +11,7 @@ ghost use lib.ListN.{length};
 ghost use Rattle.norms.specs.Norms.{Accepts};
 ghost use Rattle.base.specs.Table.{Under};
 ghost use Rattle.base.specs.Stage.{BaseAt, Classes, LinesAre};
+ghost use Rattle.base.specs.Forms.{FormTable};
 ghost use Rattle.base.specs.StageRows.{StageGiven, EarlierSet, KindSet};
 
 // Sets kind k: the forms of its lowering lines, then its row.
@@ -66,10 +66,10 @@ fn stage_rows(
     forms: &mut [u64],
 ) -> Base
     requires { ⌜ StageGiven (now s) card norms (now kinds) (now codes) (now lowers) t (now previous) (now classes) ⌝ }
-    requires { ⌜ length (now forms) ≡ 8192 ⌝ }
+    requires { ⌜ FormTable (now forms) ⌝ }
     ensures { λ r. ⌜ BaseAt (now (s .entry)) (suc t) (r .rows) ⌝ }
+    ensures { λ _. ⌜ FormTable (now (forms .exit)) ⌝ }
 {
-    clear(forms);
     let n = card.kinds;
     let mut rows = [0u32; 1024];
     let mut done = [false; 32];
@@ -107,8 +107,9 @@ pub fn first_rows(
 ) -> Base
     requires { ⌜ Accepts (now s) card norms ⌝ }
     requires { ⌜ LinesAre (now s) (now kinds) (now codes) (now lowers) ⌝ }
-    requires { ⌜ length (now forms) ≡ 8192 ⌝ }
+    requires { ⌜ FormTable (now forms) ⌝ }
     ensures { λ r. ⌜ BaseAt (now (s .entry)) 1 (r .rows) ⌝ }
+    ensures { λ _. ⌜ FormTable (now (forms .exit)) ⌝ }
 {
     let none = [0u32; 1024];
     let one = [0usize; 256];
@@ -142,10 +143,11 @@ pub fn next_rows(
 ) -> Base
     requires { ⌜ Accepts (now s) card norms ⌝ }
     requires { ⌜ LinesAre (now s) (now kinds) (now codes) (now lowers) ⌝ }
-    requires { ⌜ length (now forms) ≡ 8192 ⌝ }
+    requires { ⌜ FormTable (now forms) ⌝ }
     requires { ⌜ (length (now previous) ≡ 1024) × (length (now classes) ≡ length (now kinds)) × Under 256 (now classes) ⌝ }
     requires { ⌜ (1 ≤ t) × BaseAt (now s) t (now previous) × Classes (now s) (t - 1) (now classes) ⌝ }
     ensures { λ r. ⌜ BaseAt (now (s .entry)) (t + 1) (r .rows) ⌝ }
+    ensures { λ _. ⌜ FormTable (now (forms .exit)) ⌝ }
 {
     stage_rows(
         s,

@@ -3,7 +3,7 @@ use borrow.Author.Needs.{needs}
 use Prim.Native.Nat.{_-_}
 use mathlib.Core.Path.{refl, _∙_}
 use native.Mathlib.Omega.{arith}
-use Rattle.base.proofs.LineForms.{Filled, clear-under, filled-more, all-filled}
+use Rattle.base.proofs.LineForms.{Filled, filled-more, all-filled}
 use Rattle.base.proofs.line_forms.all_forms.Statement.{statement}
 use Rattle.base.proofs.line_forms.all_forms.Tie as tie
 
@@ -13,17 +13,14 @@ Inv-loop s card rows forms₀ lines j₀ forms j = Filled s rows forms₀ forms 
 abbrev μ-loop : tie.MeasureT-loop
 μ-loop s card rows forms₀ lines j₀ forms j = lines - j
 
-clear-requires : tie.Need-clear-requires Inv-loop μ-loop
-clear-requires c κs = search needs
-
 loop-holds : tie.Need-loop-holds Inv-loop μ-loop
-loop-holds c = record { kept = refl; small = clear-under (c .before .before .clear .last .0) (omega arith) (c .before .before .clear .ensures); done = λ i l. absurd (omega arith) }
+loop-holds c = record { kept = refl; small = c .before .before .before .pre .1 .1 .1; done = λ i l. absurd (omega arith) }
 
 line-form-requires : tie.Need-line-form-requires Inv-loop μ-loop
 line-form-requires c κs =
-    let b = c .before .before .before .before .before .before .before .before .before .before in
+    let b = c .before .before .before .before .before .before in
     let h = c .before .before .loop .inv in
-    (b .pre .0, ((b .pre .1 .0 .0, h .kept ∙ c .before .before .before .before .before .clear .kept .0 ∙ b .pre .1 .0 .1), (b .pre .1 .1, (c .before .loop-test .taken, h .small))))
+    (b .pre .0, ((b .pre .1 .0 .0, h .kept ∙ b .pre .1 .0 .1), (b .pre .1 .1 .0, (c .before .loop-test .taken, h .small))))
 
 add-j : tie.Need-add-j Inv-loop μ-loop
 add-j c = omega arith
@@ -35,10 +32,10 @@ loop-again : tie.Need-loop-again Inv-loop μ-loop
 loop-again c = filled-more (c .before .before .before .before .before .loop .inv) (c .before .before .line-form .ensures .0) (c .before .before .line-form .kept .1 .1 .1 .0) (c .before .before .line-form .ensures .1)
 
 same-length : tie.Need-same-length Inv-loop μ-loop
-same-length c = c .before .loop .inv .kept ∙ c .before .before .before .before .clear .kept .0
+same-length c = c .before .loop .inv .kept
 
 returns : tie.Need-returns Inv-loop μ-loop
-returns c = all-filled (c .before .before .before .before .before .before .before .before .before .pre .0) (c .loop-test .left) (c .before .loop .inv)
+returns c = all-filled (c .before .before .before .before .before .pre .0) (c .loop-test .left) (c .before .loop .inv)
 
 pub all-forms-spec : {M : Type 1} → statement M
 all-forms-spec =
@@ -46,7 +43,6 @@ all-forms-spec =
     (tie.spec
     Inv-loop
     μ-loop
-    clear-requires
     loop-holds
     line-form-requires
     add-j

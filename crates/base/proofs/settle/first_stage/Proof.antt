@@ -1,6 +1,5 @@
 -- Stage 0 and the rows of stage 1 give what is held there.
 use borrow.Author.Needs.{needs}
-use mathlib.Core.Path.{_∙_}
 use native.Mathlib.Omega.{arith}
 use Rattle.model.specs.Limits.{mostLines}
 use Rattle.base.proofs.Classes.{bounds-first}
@@ -27,8 +26,8 @@ stage-of-requires c κs =
         (
           (b .args .lowers .now, b .pre .1 .0),
           (
-            (f .kept .1 .1 .1 .1 .1 .1 .0 ∙ b .pre .1 .1, omega arith, omega arith),
-            ((f .ensures, c .before .before .parted-by-norms .ensures), (few-lines (b .pre .0 .reads) (b .pre .1 .0), bounds-first (b .args .s .now) 0 mostLines)),
+            (f .ensures .1, omega arith, omega arith),
+            ((f .ensures .0, c .before .before .parted-by-norms .ensures), (few-lines (b .pre .0 .reads) (b .pre .1 .0), bounds-first (b .args .s .now) 0 mostLines)),
           ),
         ),
       ),

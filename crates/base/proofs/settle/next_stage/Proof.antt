@@ -1,6 +1,6 @@
 -- The rows of the next stage, from what is held, give what is held there.
 use borrow.Author.Needs.{needs}
-use mathlib.Core.Path.{_≡_, sym, _∙_}
+use mathlib.Core.Path.{_≡_, sym}
 use Prim.Native.Nat.{_-_}
 use native.Mathlib.Omega.{arith}
 use lib.ListN.{length}
@@ -71,9 +71,9 @@ stage-of-requires c κs =
         (
           (b .args .lowers .now, b .pre .1 .0),
           (
-            (f .kept .1 .1 .1 .1 .1 .1 .1 .1 .1 .0 ∙ b .pre .1 .1 .0 .0, omega arith, omega (arith, b .pre .1 .1 .0 .2)),
+            (f .ensures .1, omega arith, omega (arith, b .pre .1 .1 .0 .2)),
             (
-              (f .ensures, parted-before (b .args .s .now) (b .args .held .parted) (b .args .first) (b .args .t) (H .parted-is)),
+              (f .ensures .0, parted-before (b .args .s .now) (b .args .held .parted) (b .args .first) (b .args .t) (H .parted-is)),
               (omega (arith, few-lines (b .pre .0 .reads) (b .pre .1 .0)), bounds-before (b .args .s .now) (b .args .held .classes) (b .args .t) (b .pre .1 .1 .0 .1) (b .pre .0 .accepted) (H .classes-bound)),
             ),
           ),

@@ -4,6 +4,7 @@ use mathlib.Core.Path.{sym}
 use native.Mathlib.Omega.{arith}
 use lib.Seq.{length-take-le}
 use Rattle.sheet.proofs.Laws.{lines-most}
+use Rattle.base.proofs.Tables.{zero-under}
 use Rattle.base.proofs.LineTables.{read-lines}
 use Rattle.base.proofs.settle.settle.Statement.{statement}
 use Rattle.base.proofs.settle.settle.Tie as tie
@@ -41,7 +42,7 @@ slice-aggregate-settle-lines-4 c = search needs
 settle-lines-requires : tie.Need-settle-lines-requires
 settle-lines-requires c κs =
     let b = c .before .before .before .before .before .before .before .before in
-    (b .pre, (read-lines (b .pre .reads) (c .before .before .before .before .before .before .line-kinds .ensures) (c .before .before .before .before .before .line-codes .ensures) (c .before .before .before .before .lowering-lines .ensures), search needs))
+    (b .pre, (read-lines (b .pre .reads) (c .before .before .before .before .before .before .line-kinds .ensures) (c .before .before .before .before .before .line-codes .ensures) (c .before .before .before .before .lowering-lines .ensures), record { long = search needs; small = zero-under 8192 (omega arith) }))
 
 returns : tie.Need-returns
 returns c = c .before .settle-lines .ensures

@@ -1,9 +1,8 @@
 -- What is held is of stage t, and no stage before is settled. The measure is what is left of the kinds.
-use mathlib.Core.Path.{_≡_, _∙_}
 use Prim.Native.Nat.{_+_, _-_, _≤_}
 use native.Mathlib.Omega.{arith}
-use lib.ListN.{length}
 use Rattle.sheet.proofs.Laws.{kinds-are, kinds-most}
+use Rattle.base.specs.Forms.{FormTable}
 use Rattle.base.specs.Settle.{AtStage}
 use Rattle.base.proofs.Tables.{told-not}
 use Rattle.base.proofs.LineTables.{few-lines}
@@ -12,7 +11,7 @@ use Rattle.base.proofs.settle.settle_lines.Statement.{statement}
 use Rattle.base.proofs.settle.settle_lines.Tie as tie
 
 abbrev Inv-loop : tie.InvT-loop
-Inv-loop s card norms first kinds codes lowers forms₀ n held₀ t₀ forms held t = AtStage s first t held × Unsettled s t × (length forms ≡ 8192)
+Inv-loop s card norms first kinds codes lowers forms₀ n held₀ t₀ forms held t = AtStage s first t held × Unsettled s t × FormTable forms
 
 abbrev μ-loop : tie.MeasureT-loop
 μ-loop s card norms first kinds codes lowers forms₀ n held₀ t₀ forms held t = card .kinds - t
@@ -21,9 +20,7 @@ first-stage-requires : tie.Need-first-stage-requires Inv-loop μ-loop
 first-stage-requires c κs = let b = c .before .before .before .before .before .before in (b .pre .0, (b .pre .1 .0, b .pre .1 .1))
 
 loop-holds : tie.Need-loop-holds Inv-loop μ-loop
-loop-holds c =
-    let f = c .before .before .first-stage in
-    (f .ensures, unsettled-start, f .kept .1 .1 .1 .1 .1 .1 .1 .0 ∙ c .before .before .before .before .before .before .before .before .before .pre .1 .1)
+loop-holds c = let f = c .before .before .first-stage in (f .ensures .0, unsettled-start, f .ensures .1)
 
 is-settled-requires : tie.Need-is-settled-requires Inv-loop μ-loop
 is-settled-requires c κs =
@@ -32,7 +29,7 @@ is-settled-requires c κs =
     ((few-lines (b .pre .0 .reads) (b .pre .1 .0), l .inv .0 .classes-small, kinds-most (b .pre .0 .reads)), held-atoms (b .pre .0 .reads) (b .pre .0 .accepted) (b .pre .1 .0) (l .held) (l .inv .0) (l .inv .1))
 
 same-length : tie.Need-same-length Inv-loop μ-loop
-same-length c = omega (arith, c .before .before .before .before .loop .inv .2, c .before .before .before .before .before .before .before .before .before .before .before .before .before .before .pre .1 .1)
+same-length c = omega (arith, c .before .before .before .before .loop .inv .2 .long, c .before .before .before .before .before .before .before .before .before .before .before .before .before .before .pre .1 .1 .long)
 
 returns : tie.Need-returns Inv-loop μ-loop
 returns c =
@@ -65,7 +62,7 @@ loop-less : tie.Need-loop-less Inv-loop μ-loop
 loop-less c = omega (arith, next (c .before .before .before .before))
 
 loop-again : tie.Need-loop-again Inv-loop μ-loop
-loop-again c = (c .before .before .next-stage .ensures, more (c .before .before .before .before), c .before .before .next-stage .kept .1 .1 .1 .1 .1 .1 .1 .1 .1 .0 ∙ c .before .before .before .before .before .before .loop .inv .2)
+loop-again c = let x = c .before .before .next-stage in (x .ensures .0, more (c .before .before .before .before), x .ensures .1)
 
 pub settle-lines-spec : {M : Type 1} → statement M
 settle-lines-spec =

@@ -33,14 +33,16 @@ returns : tie.Need-returns
 returns c =
     let b = c .before .before .before .before .before .before .before .before .before .before .before .before .before in
     let B = base-before (b .args .s .now) (b .args .base .rows) (b .args .t) (b .pre .1 .1 .1 .0 .1) (b .pre .1 .1 .1 .1 .0 .0) in
-    let told = c .before .before .before .before .line-classes .ensures in
-    record {
-      base-is = b .pre .1 .1 .1 .1 .0 .0;
-      classes-tell = told .0 (b .args .t - 1) B .0;
-      classes-bound = told .0 (b .args .t - 1) B .1;
-      classes-small = told .1;
-      parted-is = c .parted-by-forms .ensures;
-    }
+    let told = c .before .before .before .before .line-classes .ensures in (
+      record {
+        base-is = b .pre .1 .1 .1 .1 .0 .0;
+        classes-tell = told .0 (b .args .t - 1) B .0;
+        classes-bound = told .0 (b .args .t - 1) B .1;
+        classes-small = told .1 .0;
+        parted-is = c .parted-by-forms .ensures;
+      },
+      told .1 .1,
+    )
 
 pub stage-of-spec : {M : Type 1} → statement M
 stage-of-spec =

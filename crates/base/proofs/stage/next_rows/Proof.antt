@@ -25,7 +25,10 @@ same-length : tie.Need-same-length
 same-length c = search needs
 
 returns : tie.Need-returns
-returns c = base-next (c .before .before .before .before .before .before .before .before .before .before .before .args .s .now) (c .before .before .before .before .before .before .before .before .before .before .before .args .t) (c .before .before .stage-rows .result .rows) (c .before .before .stage-rows .ensures)
+returns c =
+    let b = c .before .before .before .before .before .before .before .before .before .before .before in
+    let x = c .before .before .stage-rows in
+    (base-next (b .args .s .now) (b .args .t) (x .result .rows) (x .ensures .0), x .ensures .1)
 
 pub next-rows-spec : {M : Type 1} → statement M
 next-rows-spec = tie.close (tie.spec stage-rows-requires same-length returns)
