@@ -15,7 +15,7 @@ use Rattle.sheet.specs.declared.reader.Card.{Card}
 use Rattle.sheet.proofs.Laws.{Bytes, kinds-are, kinds-most, lines-are, left-under}
 use Rattle.norms.proofs.Laws.{part-left}
 use Rattle.base.specs.Table.{Under, rowIn, formIn}
-use Rattle.base.specs.Forms.{RowSet, LineForm, AllForms, KindForms}
+use Rattle.base.specs.Forms.{RowSet, LineForm, LoweringForms, AllForms, KindForms}
 use Rattle.base.proofs.TableRows.{form-small}
 
 -- What a line leaves has small forms by any rows of 32-bit counts.
@@ -30,19 +30,34 @@ pub part-form : {s : List ℕ} {c : Card} → Reads s c → (j : ℕ) (xs : List
 part-form {s} R j xs part rows =
     part-left R j xs part (λ n a. formIn n rows a) ∙ ap (λ (n : ℕ). formIn n rows (lineOf s j .left)) (kinds-are R)
 
--- The forms of the lines below j are written.
-pub record Filled (s rows old forms : List ℕ) (j : ℕ) : Type 0 where
+-- The forms of the lines below j, and of the lines that lower the norm, are written.
+pub record Filled (s rows : List ℕ) (lowers : List Bool) (old forms : List ℕ) (j : ℕ) : Type 0 where
   pub kept : length forms ≡ length old
   pub small : Under (2 ^ 63) forms
+  pub lowering : LoweringForms s rows lowers forms
   pub done : (i : ℕ) → i < j → LineForm s rows forms i
 
-module _ {s rows old forms new : List ℕ} {j : ℕ} (h : Filled s rows old forms j) where
-  pub filled-more : RowSet (formIn (kindCount s) rows (lineOf s j .left)) j forms new → length new ≡ length forms → Under (2 ^ 63) new → Filled s rows old new (j + 1)
-  filled-more r e u = record { kept = e ∙ h .kept; small = u; done = λ i l. go i l (ℕ-discrete i j) }
+module _ {s rows : List ℕ} {lowers : List Bool} {old forms : List ℕ} {j : ℕ} (h : Filled s rows lowers old forms j) where
+  pub filled-skip : j < lineCount s → getD lowers j false ≡ true → Filled s rows lowers old forms (j + 1)
+  filled-skip b a = record { kept = h .kept; small = h .small; lowering = h .lowering; done = λ i l. go i l (ℕ-discrete i j) }
     where
-      go : (i : ℕ) → i < j + 1 → Dec (i ≡ j) → LineForm s rows new i
-      go i l (yes p) = rw p (r .here)
-      go i l (no p) = r .others i p ∙ h .done i (omega arith)
+      go : (i : ℕ) → i < j + 1 → Dec (i ≡ j) → LineForm s rows forms i
+      go i l (yes p) = rw p (h .lowering j b a)
+      go i l (no p) = h .done i (omega arith)
+
+  pub filled-more : {new : List ℕ} → RowSet (formIn (kindCount s) rows (lineOf s j .left)) j forms new → length new ≡ length forms → Under (2 ^ 63) new
+      → Filled s rows lowers old new (j + 1)
+  filled-more {new} r e u =
+      record {
+        kept = e ∙ h .kept;
+        small = u;
+        lowering = λ i b a. go i (ℕ-discrete i j) (λ _. h .lowering i b a);
+        done = λ i l. go i (ℕ-discrete i j) (λ p. h .done i (omega arith));
+      }
+    where
+      go : (i : ℕ) → Dec (i ≡ j) → (¬ (i ≡ j) → LineForm s rows forms i) → LineForm s rows new i
+      go i (yes p) f = rw p (r .here)
+      go i (no p) f = r .others i p ∙ f p
 
 -- The forms of the lowering lines of kind k below j are written, and no others.
 pub record KindFilled (s rows kinds : List ℕ) (lowers : List Bool) (k : ℕ) (old forms : List ℕ) (j : ℕ) : Type 0 where
@@ -75,7 +90,7 @@ module _ {s rows kinds : List ℕ} {lowers : List Bool} {k : ℕ} {old forms : L
 
 -- All lines are done.
 module _ {s : List ℕ} {c : Card} (R : Reads s c) {rows old forms : List ℕ} {j : ℕ} (l : c .lines ≤ j) where
-  pub all-filled : Filled s rows old forms j → AllForms s rows forms
+  pub all-filled : {lowers : List Bool} → Filled s rows lowers old forms j → AllForms s rows forms
   all-filled h = record { forms-are = λ i b. h .done i (omega (arith, lines-are R)); small = h .small }
 
   pub all-kind-filled : {kinds : List ℕ} {lowers : List Bool} {k : ℕ} → KindFilled s rows kinds lowers k old forms j → KindForms s rows kinds lowers k old forms

@@ -27,9 +27,9 @@ use Rattle.base.specs.Table.{Under, rowIn, Atoms, formIn, withRow, IsCan
 use Rattle.base.specs.Class.{MayUse, MayUseAlike}
 use Rattle.base.specs.Stage.{Told, Leave, LowersAt, ProductReplies, KindReplies, LowersAlike, Classes, Uses, SameUses, BaseAt, FormsAt, LinesAre}
 use Rattle.base.specs.Answer.{LoweringTables, AllAnswered}
-use Rattle.base.specs.Forms.{AllForms, KindForms}
+use Rattle.base.specs.Forms.{LoweringForms, AllForms, KindForms}
 use Rattle.base.specs.Row.{LowersKind, Suits, ToldBy, Passes}
-use Rattle.base.specs.StageRows.{Follows, StageGiven, EarlierSet, OwnForms, RowSought, KindSet}
+use Rattle.base.specs.StageRows.{Follows, StageGiven, EarlierSet, OwnForms, RowSought, KindSet, RowsFound}
 use Rattle.base.proofs.Answers.{not-both}
 use Rattle.base.proofs.Tables.{first-below, first-past, zero-counts, with-row, with-others}
 use Rattle.base.proofs.Lines.{line-lowers, some-line, kind-of}
@@ -105,6 +105,12 @@ module _ (s : List ℕ) (ok : Accepted s) (p : ℕ) (previous : List ℕ) (B : B
 
 pub forms-at : (s : List ℕ) → Accepted s → (p : ℕ) (rows forms : List ℕ) → BaseAt s (suc p) rows → AllForms s rows forms → FormsAt s (suc p) forms
 forms-at s ok p rows forms B all j h = all .forms-are j h ∙ base-form s ok p rows B (lineOf s j .left)
+
+-- The forms of the lowering lines at the stage are those by its rows.
+pub lowering-forms : {s kinds codes : List ℕ} {lowers : List Bool} → LinesAre s kinds codes lowers → Accepted s → (p : ℕ) {rows forms : List ℕ} → RowsFound s (suc p) rows forms
+    → LoweringForms s rows lowers forms
+lowering-forms {s} L ok p {rows} found j h a =
+    found .forms-are j (lowers-at L j (omega (arith, L .kinds-long)) a) ∙ sym (base-form s ok p rows (found .base-is) (lineOf s j .left))
 
 -- A kind whose own count in its row is 1 is an atom.
 pub base-atoms : (s : List ℕ) → Accepted s → (p : ℕ) (rows : List ℕ) → BaseAt s (suc p) rows → Atoms rows (kindCount s)
@@ -351,8 +357,8 @@ follows-next s t previous classes base tells p e =
     let q : t - 1 ≡ p = omega arith in
     (subst (λ (x : ℕ). BaseAt s x previous) e base, subst (λ (x : ℕ). Classes s x classes) q tells)
 
-pub base-next : (s : List ℕ) (t : ℕ) (rows : List ℕ) → BaseAt s (suc t) rows → BaseAt s (t + 1) rows
-base-next s t rows base = subst (λ (x : ℕ). BaseAt s x rows) (sym (add-one t)) base
+pub found-next : (s : List ℕ) (t : ℕ) (rows forms : List ℕ) → RowsFound s (suc t) rows forms → RowsFound s (t + 1) rows forms
+found-next s t rows forms found = subst (λ (x : ℕ). RowsFound s x rows forms) (sym (add-one t)) found
 
 -- At stage 1 the rows that are lent may be any, and all lines have one class.
 pub given-one : {s : List ℕ} {c : Card} {norms kinds codes : List ℕ} {lowers : List Bool} {previous classes : List ℕ} → Accepts s c norms

@@ -16,6 +16,7 @@ use Rattle.sheet.specs.declared.reader.Card.{Card}
 use Rattle.sheet.proofs.Laws.{kinds-are}
 use Rattle.base.specs.Table.{Atoms}
 use Rattle.base.specs.Stage.{BaseAt, BoundsAt, LinesAre}
+use Rattle.base.specs.StageRows.{RowsFound}
 use Rattle.base.specs.Settle.{PartedAt, RowsExpand, AtStage, IsSettled}
 use Rattle.base.specs.declared.settle.Stage.{Stage}
 use Rattle.base.proofs.Settled.{settled-after, settled-most, settled-first}
@@ -52,6 +53,9 @@ module _ {s : List ℕ} (ok : Accepted s) where
 -- The rows of a stage from 1 up, by the number of the stage before; and a stage before the next.
 pub base-before : (s rows : List ℕ) (t : ℕ) → 1 ≤ t → BaseAt s t rows → BaseAt s (suc (t - 1)) rows
 base-before s rows t h B = let z : t ≡ suc (t - 1) = omega arith in subst (λ (u : ℕ). BaseAt s u rows) z B
+
+pub found-before : (s rows forms : List ℕ) (t : ℕ) → 1 ≤ t → RowsFound s t rows forms → RowsFound s (suc (t - 1)) rows forms
+found-before s rows forms t h F = let z : t ≡ suc (t - 1) = omega arith in subst (λ (u : ℕ). RowsFound s u rows forms) z F
 
 pub parted-before : (s parted : List ℕ) (first t : ℕ) → PartedAt s t first parted → PartedAt s (t + 1 - 1) first parted
 parted-before s parted first t p = let z : t ≡ t + 1 - 1 = omega arith in subst (λ (u : ℕ). PartedAt s u first parted) z p

@@ -23,6 +23,10 @@ module _ (s rows : List ℕ) where
   abbrev pub LineForm : List ℕ → ℕ → Type 0
   LineForm forms j = rowIn forms j ≡ formIn (kindCount s) rows (lineOf s j .left)
 
+  -- So for the lines that lower the norm.
+  abbrev pub LoweringForms : List Bool → List ℕ → Type 0
+  LoweringForms lowers forms = (j : ℕ) → j < lineCount s → getD lowers j false ≡ true → LineForm forms j
+
   -- So for every line.
   pub record AllForms (forms : List ℕ) : Type 0 where
     pub forms-are : (j : ℕ) → j < lineCount s → LineForm forms j

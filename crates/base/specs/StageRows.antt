@@ -11,6 +11,7 @@ use Rattle.model.specs.Terms.{Earlier}
 use Rattle.sheet.specs.declared.reader.Card.{Card}
 use Rattle.norms.specs.Norms.{Accepts}
 use Rattle.base.specs.Table.{Under, rowIn, Atoms}
+use Rattle.base.specs.Forms.{FormTable}
 use Rattle.base.specs.Stage.{LowersAt, Classes, BaseAt, LinesAre}
 
 -- If stage t is one from 1 up, the rows and the classes are that stage's.
@@ -48,3 +49,9 @@ pub record KindSet (s : List ℕ) (t k : ℕ) (rows newRows forms newForms : Lis
   pub own-forms : OwnForms s t k newForms
   pub other-forms : (j : ℕ) → j < lineCount s → ¬ (lineOf s j .kind ≡ k) → rowIn newForms j ≡ rowIn forms j
   pub small : Under (2 ^ 63) newForms
+
+-- The rows of stage t are found: they are its base, and in the table of forms those of what the lowering lines leave are the stage's.
+pub record RowsFound (s : List ℕ) (t : ℕ) (rows forms : List ℕ) : Type 0 where
+  pub base-is : BaseAt s t rows
+  pub forms-are : (j : ℕ) → LowersAt s j → rowIn forms j ≡ stageForm (cardOf s) t (lineOf s j .left)
+  pub table : FormTable forms

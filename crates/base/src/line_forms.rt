@@ -7,7 +7,7 @@ ghost use lib.ListN.{length};
 ghost use Rattle.model.specs.Sheet.{kindCount, lineOf};
 ghost use Rattle.sheet.specs.Reader.{Reads};
 ghost use Rattle.base.specs.Table.{Under, Atoms, formIn};
-ghost use Rattle.base.specs.Forms.{RowSet, AllForms, KindForms};
+ghost use Rattle.base.specs.Forms.{RowSet, LoweringForms, AllForms, KindForms};
 
 // The form of what line j leaves.
 fn line_form(s: &[u8], card: Card, rows: &[u32], forms: &mut [u64], j: usize)
@@ -24,18 +24,22 @@ fn line_form(s: &[u8], card: Card, rows: &[u32], forms: &mut [u64], j: usize)
     form_of_counts(card.line_counts(s, j), rows, &mut forms[a..e]);
 }
 
-// The forms of what all lines leave.
-pub fn all_forms(s: &[u8], card: Card, rows: &[u32], forms: &mut [u64])
+// The forms of what all lines leave, where those of the lines that lower the norm are known.
+pub fn all_forms(s: &[u8], card: Card, lowers: &[bool], rows: &[u32], forms: &mut [u64])
     requires { ⌜ Reads (now s) card ⌝ }
+    requires { ⌜ length (now lowers) ≡ card .lines ⌝ }
     requires { ⌜ (length (now rows) ≡ 1024) × (length (now forms) ≡ 8192) ⌝ }
     requires { ⌜ Atoms (now rows) (kindCount (now s)) ⌝ }
     requires { ⌜ Under (2 ^ 63) (now forms) ⌝ }
+    requires { ⌜ LoweringForms (now s) (now rows) (now lowers) (now forms) ⌝ }
     ensures { λ _. ⌜ AllForms (now (s .entry)) (now (rows .entry)) (now (forms .exit)) ⌝ }
 {
     let lines = card.lines;
     let mut j = 0;
     while j < lines {
-        line_form(s, card, rows, forms, j);
+        if !lowers[j] {
+            line_form(s, card, rows, forms, j);
+        }
         j += 1;
     }
 }

@@ -12,8 +12,7 @@ use crate::stage::next_rows;
 use crate::table::Base;
 use sheet::Card;
 ghost use mathlib.Core.Path.{_≡_};
-ghost use mathlib.Core.Bool.{Bool, true};
-ghost use mathlib.Core.List.{List};
+ghost use mathlib.Core.Bool.{true};
 ghost use mathlib.Core.Logic.{_↔_};
 ghost use Prim.Native.Nat.{ℕ, suc, _+_, _-_, _≤_, _<_};
 ghost use lib.ListN.{length, take};
@@ -24,6 +23,7 @@ ghost use Rattle.norms.specs.Norms.{Accepts};
 ghost use Rattle.base.specs.Table.{Under, Atoms};
 ghost use Rattle.base.specs.Stage.{BaseAt, Classes, BoundsAt, LinesAre};
 ghost use Rattle.base.specs.Forms.{FormTable};
+ghost use Rattle.base.specs.StageRows.{RowsFound};
 ghost use Rattle.base.specs.Settle.{PartedAt, RowsExpand, AtStage, IsSettled};
 
 // What is held at a stage: its base, the classes of the lines by it, and where the fields part from the first one.
@@ -59,20 +59,21 @@ fn line_classes(
     card: Card,
     kinds: &[usize],
     codes: &[usize],
+    lowers: &[bool],
     rows: &[u32],
     bounds: &[usize],
     forms: &mut [u64],
 ) -> [usize; 256]
     requires { ⌜ Reads (now s) card ⌝ }
     requires { ⌜ Accepted (now s) ⌝ }
-    requires { ⌜ ((lowers : List Bool) × LinesAre (now s) (now kinds) (now codes) lowers) ⌝ }
-    requires { ⌜ (length (now rows) ≡ 1024) × FormTable (now forms) × (length (now kinds) ≤ length (now bounds)) ⌝ }
-    requires { ⌜ ((q : ℕ) × BaseAt (now s) (suc q) (now rows) × BoundsAt (now s) q (now bounds)) ⌝ }
+    requires { ⌜ LinesAre (now s) (now kinds) (now codes) (now lowers) ⌝ }
+    requires { ⌜ (length (now rows) ≡ 1024) × (length (now kinds) ≤ length (now bounds)) ⌝ }
+    requires { ⌜ ((q : ℕ) × RowsFound (now s) (suc q) (now rows) (now forms) × BoundsAt (now s) q (now bounds)) ⌝ }
     ensures { λ r. ⌜ ((q : ℕ) → BaseAt (now (s .entry)) (suc q) (now (rows .entry)) → Classes (now (s .entry)) q r × BoundsAt (now (s .entry)) q r) ⌝ }
     ensures { λ r. ⌜ Under 256 r ⌝ }
     ensures { λ _. ⌜ FormTable (now (forms .exit)) ⌝ }
 {
-    all_forms(s, card, rows, forms);
+    all_forms(s, card, lowers, rows, forms);
     classes(codes, kinds, rows, forms, bounds)
 }
 
@@ -83,6 +84,7 @@ fn stage_of(
     first: usize,
     kinds: &[usize],
     codes: &[usize],
+    lowers: &[bool],
     base: Base,
     t: usize,
     parted: [usize; 64],
@@ -91,15 +93,15 @@ fn stage_of(
 ) -> Stage
     requires { ⌜ Reads (now s) card ⌝ }
     requires { ⌜ Accepted (now s) ⌝ }
-    requires { ⌜ ((lowers : List Bool) × LinesAre (now s) (now kinds) (now codes) lowers) ⌝ }
-    requires { ⌜ FormTable (now forms) × (1 ≤ t) × (t ≤ mostKinds) ⌝ }
-    requires { ⌜ BaseAt (now s) t (base .rows) × PartedAt (now s) (t - 1) first parted ⌝ }
+    requires { ⌜ LinesAre (now s) (now kinds) (now codes) (now lowers) ⌝ }
+    requires { ⌜ (1 ≤ t) × (t ≤ mostKinds) ⌝ }
+    requires { ⌜ RowsFound (now s) t (base .rows) (now forms) × PartedAt (now s) (t - 1) first parted ⌝ }
     requires { ⌜ (length (now kinds) ≤ length (now bounds)) × BoundsAt (now s) (t - 1) (now bounds) ⌝ }
     ensures { λ r. ⌜ AtStage (now (s .entry)) first t r ⌝ }
     ensures { λ _. ⌜ FormTable (now (forms .exit)) ⌝ }
 {
     let rows = base.rows;
-    let numbers = line_classes(s, card, kinds, codes, &rows, bounds, forms);
+    let numbers = line_classes(s, card, kinds, codes, lowers, &rows, bounds, forms);
     let next = parted_by_forms(s, card, &rows, first, t, parted);
     Stage {
         base,
@@ -128,7 +130,19 @@ fn first_stage(
     let base = first_rows(s, card, norms, kinds, codes, lowers, forms);
     let parted = parted_by_norms(s, card, norms, first);
     let none = [0usize; 256];
-    stage_of(s, card, first, kinds, codes, base, 1, parted, &none, forms)
+    stage_of(
+        s,
+        card,
+        first,
+        kinds,
+        codes,
+        lowers,
+        base,
+        1,
+        parted,
+        &none,
+        forms,
+    )
 }
 
 // What is held at stage t + 1, from what is held at stage t.
@@ -174,6 +188,7 @@ fn next_stage(
         first,
         kinds,
         codes,
+        lowers,
         next,
         t + 1,
         parted,

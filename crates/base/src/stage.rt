@@ -12,7 +12,7 @@ ghost use Rattle.norms.specs.Norms.{Accepts};
 ghost use Rattle.base.specs.Table.{Under};
 ghost use Rattle.base.specs.Stage.{BaseAt, Classes, LinesAre};
 ghost use Rattle.base.specs.Forms.{FormTable};
-ghost use Rattle.base.specs.StageRows.{StageGiven, EarlierSet, KindSet};
+ghost use Rattle.base.specs.StageRows.{StageGiven, EarlierSet, KindSet, RowsFound};
 
 // Sets kind k: the forms of its lowering lines, then its row.
 fn set_kind(
@@ -67,8 +67,7 @@ fn stage_rows(
 ) -> Base
     requires { ⌜ StageGiven (now s) card norms (now kinds) (now codes) (now lowers) t (now previous) (now classes) ⌝ }
     requires { ⌜ FormTable (now forms) ⌝ }
-    ensures { λ r. ⌜ BaseAt (now (s .entry)) (suc t) (r .rows) ⌝ }
-    ensures { λ _. ⌜ FormTable (now (forms .exit)) ⌝ }
+    ensures { λ r. ⌜ RowsFound (now (s .entry)) (suc t) (r .rows) (now (forms .exit)) ⌝ }
 {
     let n = card.kinds;
     let mut rows = [0u32; 1024];
@@ -108,8 +107,7 @@ pub fn first_rows(
     requires { ⌜ Accepts (now s) card norms ⌝ }
     requires { ⌜ LinesAre (now s) (now kinds) (now codes) (now lowers) ⌝ }
     requires { ⌜ FormTable (now forms) ⌝ }
-    ensures { λ r. ⌜ BaseAt (now (s .entry)) 1 (r .rows) ⌝ }
-    ensures { λ _. ⌜ FormTable (now (forms .exit)) ⌝ }
+    ensures { λ r. ⌜ RowsFound (now (s .entry)) 1 (r .rows) (now (forms .exit)) ⌝ }
 {
     let none = [0u32; 1024];
     let one = [0usize; 256];
@@ -146,8 +144,7 @@ pub fn next_rows(
     requires { ⌜ FormTable (now forms) ⌝ }
     requires { ⌜ (length (now previous) ≡ 1024) × (length (now classes) ≡ length (now kinds)) × Under 256 (now classes) ⌝ }
     requires { ⌜ (1 ≤ t) × BaseAt (now s) t (now previous) × Classes (now s) (t - 1) (now classes) ⌝ }
-    ensures { λ r. ⌜ BaseAt (now (s .entry)) (t + 1) (r .rows) ⌝ }
-    ensures { λ _. ⌜ FormTable (now (forms .exit)) ⌝ }
+    ensures { λ r. ⌜ RowsFound (now (s .entry)) (t + 1) (r .rows) (now (forms .exit)) ⌝ }
 {
     stage_rows(
         s,

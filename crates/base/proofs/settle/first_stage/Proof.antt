@@ -24,10 +24,10 @@ stage-of-requires c κs =
       (
         b .pre .0 .accepted,
         (
-          (b .args .lowers .now, b .pre .1 .0),
+          b .pre .1 .0,
           (
-            (f .ensures .1, omega arith, omega arith),
-            ((f .ensures .0, c .before .before .parted-by-norms .ensures), (few-lines (b .pre .0 .reads) (b .pre .1 .0), bounds-first (b .args .s .now) 0 mostLines)),
+            (omega arith, omega arith),
+            ((f .ensures, c .before .before .parted-by-norms .ensures), (few-lines (b .pre .0 .reads) (b .pre .1 .0), bounds-first (b .args .s .now) 0 mostLines)),
           ),
         ),
       ),

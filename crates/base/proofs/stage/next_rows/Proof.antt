@@ -1,6 +1,6 @@
 -- The stage before is stage t.
 use native.Mathlib.Omega.{arith}
-use Rattle.base.proofs.StageRows.{follows-next, base-next}
+use Rattle.base.proofs.StageRows.{follows-next, found-next}
 use borrow.Author.Needs.{needs}
 use Rattle.base.proofs.stage.next_rows.Statement.{statement}
 use Rattle.base.proofs.stage.next_rows.Tie as tie
@@ -28,7 +28,7 @@ returns : tie.Need-returns
 returns c =
     let b = c .before .before .before .before .before .before .before .before .before .before .before in
     let x = c .before .before .stage-rows in
-    (base-next (b .args .s .now) (b .args .t) (x .result .rows) (x .ensures .0), x .ensures .1)
+    found-next (b .args .s .now) (b .args .t) (x .result .rows) (x .last .1 .1 .1 .1 .1 .1 .1 .1 .1 .0) (x .ensures)
 
 pub next-rows-spec : {M : Type 1} → statement M
 next-rows-spec = tie.close (tie.spec stage-rows-requires same-length returns)

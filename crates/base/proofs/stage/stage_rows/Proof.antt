@@ -75,10 +75,7 @@ same-length : tie.Need-same-length Inv-loop μ-loop
 same-length c = c .before .loop .inv .kept
 
 returns : tie.Need-returns Inv-loop μ-loop
-returns c =
-    let b = c .before .before .before .before .before .before .before .before .before .before .before .before in
-    let h = c .before .loop .inv in
-    (all-set (b .pre .0 .accepts) h (c .loop-test .left), record { long = h .kept ∙ b .pre .1 .long; small = h .small })
+returns c = let b = c .before .before .before .before .before .before .before .before .before .before .before .before in all-set (b .pre .0 .accepts) (c .before .loop .inv) (c .loop-test .left) (b .pre .1)
 
 pub stage-rows-spec : {M : Type 1} → statement M
 stage-rows-spec =
