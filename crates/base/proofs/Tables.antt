@@ -152,15 +152,12 @@ pub row-added-none : {count : ℕ} (sum rows : List ℕ) (k : ℕ) → count ≡
 unfolding rowIn
 row-added-none sum rows k e = added-zero sum (rowPart rows k) e
 
-module _ (count : ℕ) (sum rows : List ℕ) (k : ℕ) (kind : k < mostKinds) (one : at rows (k * mostKinds + k) ≡ 1) where
-  own-count : rowIn rows k k ≡ 1
-  own-count = row-at rows k k kind ∙ one
-
-  pub row-added-atom : (rowIn rows k k ≡ 1 → rowIn rows k ≡ unit k) → mostKinds ≤ length sum → at (set sum k (at sum k + count)) ≡ at sum ⊕ times count (rowIn rows k)
-  row-added-atom atom room = rw (atom own-count) (added-tokens count sum k (omega arith))
+module _ (count : ℕ) (sum rows : List ℕ) (k : ℕ) (one : rowIn rows k k ≡ 1) where
+  pub row-added-atom : (rowIn rows k k ≡ 1 → rowIn rows k ≡ unit k) → k < length sum → at (set sum k (at sum k + count)) ≡ at sum ⊕ times count (rowIn rows k)
+  row-added-atom atom room = rw (atom one) (added-tokens count sum k room)
 
   pub atom-bound : {bound : ℕ} → ((j : ℕ) → at sum j + count * rowIn rows k j < bound) → at sum k + count < bound
-  atom-bound f = omega (arith, rw own-count at (f k))
+  atom-bound f = omega (arith, rw one at (f k))
 
 pub row-bound : {row : List ℕ} {bound : ℕ} (count : ℕ) (sum rows : List ℕ) (k : ℕ) → row ≡ rowPart rows k → ((j : ℕ) → at sum j + count * rowIn rows k j < bound) → (j : ℕ) → at sum j + count * at row j < bound
 row-bound count sum rows k r f j = rw (at-kind (lent-row rows k r) j) (f j)

@@ -1,6 +1,7 @@
 // Whether the rows of a stage satisfy expansion, by the classes of the lines.
 use crate::class::marks;
 use crate::class::same_marks;
+use crate::table::is_atom;
 use crate::table::row_of;
 ghost use mathlib.Core.Path.{_≡_};
 ghost use mathlib.Core.Bool.{true};
@@ -21,16 +22,6 @@ pub fn one_token(k: usize) -> [u32; 32]
     let mut counts = [0u32; 32];
     counts[k] = 1;
     counts
-}
-
-// Whether a kind's own count in its row is 1: whether the kind is an atom.
-pub fn is_atom(rows: &[u32], k: usize) -> bool
-    requires { ⌜ (k < mostKinds) × (length (now rows) ≡ 1024) ⌝ }
-    ensures { λ r. ⌜ (r ≡ true) ↔ (rowIn (now (rows .entry)) k k ≡ 1) ⌝ }
-{
-    let own = k * 32 + k;
-    let count = rows[own];
-    count == 1
 }
 
 // Whether kind k and a field may use lines of the same classes.

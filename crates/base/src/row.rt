@@ -1,10 +1,10 @@
 // The row of a kind at stage t + 1: the first candidate that passes, or the kind itself.
 use crate::effect::RowCandidate;
 use crate::effect::candidate;
-use crate::expansion::is_atom;
 use crate::expansion::one_token;
 use crate::product::passes;
 use crate::table::form_of;
+use crate::table::is_atom;
 use norms::order::earlier;
 use sheet::Card;
 ghost use mathlib.Core.Path.{_≡_};

@@ -1,8 +1,11 @@
 // Tables of rows, and the decomposition of counts by them.
 ghost use mathlib.Core.Path.{_≡_};
+ghost use mathlib.Core.Bool.{true};
+ghost use mathlib.Core.Logic.{_↔_};
 ghost use Prim.Native.Nat.{ℕ, _+_, _*_, _^_, _≤_, _<_};
 ghost use lib.ListN.{length, replicate};
 ghost use Rattle.model.specs.Field.{none, _⊕_, times, unit, at};
+ghost use Rattle.model.specs.Limits.{mostKinds};
 ghost use Rattle.base.specs.Table.{rowPart, rowIn, Atoms, formIn, withRow};
 
 // A count of 32 bits as one of 64.
@@ -47,9 +50,19 @@ pub fn row_of(rows: &[u32], k: usize) -> &[u32]
     &rows[start..end]
 }
 
-// Adds count times row k of a table to the sum.
+// Whether a kind's own count in its row is 1: whether the kind is an atom.
+pub fn is_atom(rows: &[u32], k: usize) -> bool
+    requires { ⌜ (k < mostKinds) × (length (now rows) ≡ 1024) ⌝ }
+    ensures { λ r. ⌜ (r ≡ true) ↔ (rowIn (now (rows .entry)) k k ≡ 1) ⌝ }
+{
+    let own = k * 32 + k;
+    let count = rows[own];
+    count == 1
+}
+
+// Adds count times row k of a table to the sum. The row of an atom is the kind itself.
 fn add_row(sum: &mut [u64], rows: &[u32], k: usize, count: u64)
-    requires { ⌜ (k < 32) × (k * 32 + 32 ≤ length (now rows)) × (32 ≤ length (now sum)) ⌝ }
+    requires { ⌜ (k < mostKinds) × (length (now rows) ≡ 1024) × (32 ≤ length (now sum)) ⌝ }
     requires { ⌜ (rowIn (now rows) k k ≡ 1 → rowIn (now rows) k ≡ unit k) ⌝ }
     requires { ⌜ ((j : ℕ) → at (now sum) j + count * rowIn (now rows) k j < 2 ^ 64) ⌝ }
     ensures { λ _. ⌜ at (now (sum .exit)) ≡ at (now (sum .entry)) ⊕ times count (rowIn (now (rows .entry)) k) ⌝ }
@@ -57,9 +70,7 @@ fn add_row(sum: &mut [u64], rows: &[u32], k: usize, count: u64)
     if count == 0 {
         return;
     }
-    let own = k * 32 + k;
-    let tokens = rows[own];
-    if tokens == 1 {
+    if is_atom(rows, k) {
         let old = sum[k];
         sum[k] = old + count;
         return;
@@ -103,7 +114,7 @@ pub fn clear(out: &mut [u64])
 
 // The decomposition of the counts of a line, by the rows of a table.
 pub fn form_of_counts(counts: &[u8], rows: &[u32], out: &mut [u64])
-    requires { ⌜ (length (now counts) ≤ 32) × (length (now counts) * 32 ≤ length (now rows)) × (32 ≤ length (now out)) ⌝ }
+    requires { ⌜ (length (now counts) ≤ mostKinds) × (length (now rows) ≡ 1024) × (32 ≤ length (now out)) ⌝ }
     requires { ⌜ Atoms (now rows) (length (now counts)) ⌝ }
     requires { ⌜ ((j : ℕ) → formIn (length (now counts)) (now rows) (at (now counts)) j < 2 ^ 64) ⌝ }
     ensures { λ _. ⌜ at (now (out .exit)) ≡ formIn (length (now (counts .entry))) (now (rows .entry)) (at (now (counts .entry))) ⌝ }

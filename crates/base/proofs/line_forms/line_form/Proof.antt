@@ -41,7 +41,7 @@ form-of-counts-requires c κs =
     let p = c .before .line-counts .ensures in
     let e = part-form R j _ p (b .args .rows .now) in
     let small = left-form-small R (λ y. c .before .before .before .before .shared-slice-known .given y .fits) (b .args .rows .now) (λ y. c .before .before .before .shared-slice-known2 .given y .fits) j in
-    ((omega (arith, part-long R j _ p, kinds-most R), omega (arith, part-long R j _ p, kinds-most R), omega (arith, lent-length (b .args .forms .now) j (omega (arith, lines-most R)) (part-is (b .args .forms .now) j))), (λ k h. b .pre .1 .1 .0 k (omega (arith, part-long R j _ p, kinds-are R)), λ x. omega (arith, at-kind e x, small x)))
+    ((omega (arith, part-long R j _ p, kinds-most R), b .pre .1 .0 .0, omega (arith, lent-length (b .args .forms .now) j (omega (arith, lines-most R)) (part-is (b .args .forms .now) j))), (λ k h. b .pre .1 .1 .0 k (omega (arith, part-long R j _ p, kinds-are R)), λ x. omega (arith, at-kind e x, small x)))
 
 same-length : tie.Need-same-length
 same-length c = search needs

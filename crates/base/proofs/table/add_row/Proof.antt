@@ -8,17 +8,8 @@ use Rattle.base.proofs.table.add_row.Tie as tie
 returns : tie.Need-returns
 returns c = let b = c .before .before .before in row-added-none (b .args .sum .now) (b .args .rows .now) (b .args .k) (c .if1 .taken)
 
-mul-own : tie.Need-mul-own
-mul-own c = search needs
-
-add-own : tie.Need-add-own
-add-own c = search needs
-
-mul-tokens : tie.Need-mul-tokens
-mul-tokens c = search needs
-
-shared-slice-read-tokens : tie.Need-shared-slice-read-tokens
-shared-slice-read-tokens c = search needs
+is-atom-requires : tie.Need-is-atom-requires
+is-atom-requires c κs = search needs
 
 mul-old : tie.Need-mul-old
 mul-old c = search needs
@@ -29,7 +20,7 @@ slice-read-old c = search needs
 add-sum : tie.Need-add-sum
 add-sum c =
     let b = c .before .before .before .before .before .before in
-    record { fits = atom-bound (b .args .count) (b .args .sum .now) (b .args .rows .now) (b .args .k) (b .pre .0 .0) (c .before .if2 .taken) (b .pre .1 .1) }
+    record { fits = atom-bound (b .args .count) (b .args .sum .now) (b .args .rows .now) (b .args .k) (c .before .before .is-atom .ensures .0 (c .before .if2 .taken)) (b .pre .1 .1) }
 
 mul-sum : tie.Need-mul-sum
 mul-sum c = search needs
@@ -43,7 +34,7 @@ same-length c = search needs
 returns-2 : tie.Need-returns-2
 returns-2 c =
     let b = c .before .before .before .before .before .before in
-    row-added-atom (b .args .count) (b .args .sum .now) (b .args .rows .now) (b .args .k) (b .pre .0 .0) (c .before .if2 .taken) (b .pre .1 .0) (b .pre .0 .2)
+    row-added-atom (b .args .count) (b .args .sum .now) (b .args .rows .now) (b .args .k) (c .before .before .is-atom .ensures .0 (c .before .if2 .taken)) (b .pre .1 .0) (omega (arith, b .pre .0 .0, b .pre .0 .2))
 
 row-of-requires : tie.Need-row-of-requires
 row-of-requires c κs = search needs
@@ -52,7 +43,7 @@ add-times-requires : tie.Need-add-times-requires
 add-times-requires c κs =
     let b = c .before .before .before .before .before .before .before in
     let r = c .row-of .ensures in
-    (omega (arith, lent-length (b .args .rows .now) (b .args .k) (b .pre .0 .1) r, b .pre .0 .2), row-bound (b .args .count) (b .args .sum .now) (b .args .rows .now) (b .args .k) r (b .pre .1 .1))
+    (omega (arith, lent-length (b .args .rows .now) (b .args .k) (omega (arith, b .pre .0 .0, b .pre .0 .1)) r, b .pre .0 .2), row-bound (b .args .count) (b .args .sum .now) (b .args .rows .now) (b .args .k) r (b .pre .1 .1))
 
 same-length-2 : tie.Need-same-length-2
 same-length-2 c = search needs
@@ -67,10 +58,7 @@ add-row-spec =
     tie.close
     (tie.spec
     returns
-    mul-own
-    add-own
-    mul-tokens
-    shared-slice-read-tokens
+    is-atom-requires
     mul-old
     slice-read-old
     add-sum

@@ -5,7 +5,7 @@ use native.Mathlib.Omega.{arith}
 use mathlib.Core.Path.{refl}
 use lib.ListN.{length}
 use Rattle.base.specs.Table.{rowIn}
-use Rattle.base.proofs.Tables.{Formed, formed-none, formed-fits, formed-bound, formed-more, formed-all}
+use Rattle.base.proofs.Tables.{Formed, formed-none, formed-bound, formed-more, formed-all}
 use Rattle.base.proofs.table.form_of_counts.Statement.{statement}
 use Rattle.base.proofs.table.form_of_counts.Tie as tie
 
@@ -33,7 +33,7 @@ add-row-requires c κs =
     let b = c .before .before .before .before .before .before .before .before .before .before .before .before in
     let h = c .before .before .before .before .loop .inv in
     let l = c .before .before .before .loop-test .taken in
-    ((omega (arith, b .pre .0 .0), formed-fits h l, omega (arith, h .room, h .kept)), (b .pre .1 .0 _ l, formed-bound h (b .pre .1 .1) refl l _ (c .before .wide-byte .ensures)))
+    ((omega (arith, b .pre .0 .0), b .pre .0 .1, omega (arith, h .room, h .kept)), (b .pre .1 .0 _ l, formed-bound h (b .pre .1 .1) refl l _ (c .before .wide-byte .ensures)))
 
 add-k : tie.Need-add-k Inv-loop μ-loop
 add-k c = search needs

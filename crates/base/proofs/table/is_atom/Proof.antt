@@ -1,8 +1,8 @@
 -- The own count, where it stands in the table.
 use Rattle.base.proofs.Products.{own-one}
 use borrow.Author.Needs.{needs}
-use Rattle.base.proofs.expansion.is_atom.Statement.{statement}
-use Rattle.base.proofs.expansion.is_atom.Tie as tie
+use Rattle.base.proofs.table.is_atom.Statement.{statement}
+use Rattle.base.proofs.table.is_atom.Tie as tie
 
 mul-own : tie.Need-mul-own
 mul-own c = search needs
