@@ -3,24 +3,23 @@
 use mathlib.Core.Bool.{Bool, true, false}
 use mathlib.Core.List.{List}
 use mathlib.Core.Logic.{_↔_}
-use mathlib.Core.Path.{_≡_, sym, _∙_, subst, fun-ext}
+use mathlib.Core.Path.{_≡_, sym, _∙_, fun-ext}
 use Prim.Native.Nat.{ℕ, _+_, _*_, _≤_, _<_}
 use native.Mathlib.Decide.{ℕ-discrete}
 use native.Mathlib.Omega.{arith}
 use borrow.Author.Tests.{eqb-true, eq-eqb}
 use lib.Dec.{eqb}
-use lib.ListN.{length, getD, set, replicate, length-replicate}
+use lib.ListN.{getD, set, replicate, length-replicate}
 use lib.Seq.{getD-set-same, getD-set-other}
 use Rattle.model.specs.Field.{Field, unit, at}
 use Rattle.model.specs.Limits.{mostKinds}
 use Rattle.model.specs.Base.{earlier}
 use Rattle.model.proofs.Field.{unit-same, unit-other}
 use Rattle.base.specs.Table.{rowPart, rowIn, IsCandidate}
-use Rattle.base.specs.Class.{MayUse, MayUseAlike}
+use Rattle.base.specs.Class.{MayUseAlike}
 use Rattle.base.specs.Answer.{AllAnswered}
 use Rattle.base.specs.Row.{Suits, Passes}
 use Rattle.base.proofs.Tables.{zero-counts, row-at, lent-row}
-use Rattle.base.proofs.Marks.{marks-tell}
 
 -- One count set in a list of none.
 pub token-counts : (n k : ℕ) → k < n → at (set (replicate n 0) k 1) ≡ unit k
@@ -29,15 +28,6 @@ token-counts n k h = fun-ext (λ j. go j (ℕ-discrete j k))
     go : (j : ℕ) → Dec (j ≡ k) → at (set (replicate n 0) k 1) j ≡ unit k j
     go j (yes e) = rw (e, getD-set-same {A = ℕ} (replicate n 0) k 1 0 (omega (arith, length-replicate {A = ℕ} n 0)), unit-same k)
     go j (no d) = rw (getD-set-other {A = ℕ} (replicate n 0) k j 1 0 d, zero-counts n j, unit-other k j d)
-
--- Marks of classes are the same just when the two fields may use lines of the same classes.
-module _ {r : Bool} {own other : List Bool} (kinds classes : List ℕ) (token f g : Field) where
-  pub uses-tell : token ≡ f → length own ≡ length other → ((x : ℕ) → (getD own x false ≡ true) ↔ MayUse kinds classes token (length kinds) x)
-      → ((x : ℕ) → (getD other x false ≡ true) ↔ MayUse kinds classes g (length kinds) x) → (r ≡ true) ↔ (own ≡ other) → (r ≡ true) ↔ MayUseAlike kinds classes f g
-  uses-tell e long p q t = subst (λ (x : Field). (r ≡ true) ↔ MayUseAlike kinds classes x g) e (λ h. m .0 (t .0 h), λ h. t .1 (m .1 h))
-    where
-      m : (own ≡ other) ↔ MayUseAlike kinds classes token g
-      m = marks-tell long p q
 
 -- A kind that is its own row may use the lines that its row may.
 pub atom-uses : (kinds classes : List ℕ) (k : ℕ) {f : Field} → f ≡ unit k → MayUseAlike kinds classes (unit k) f

@@ -20,6 +20,7 @@ use Rattle.model.specs.Sheet.{kindCount, lineCount, lineOf, cardOf}
 use Rattle.model.specs.Terms.{Earlier}
 use Rattle.model.proofs.Sheets.{certified}
 use Rattle.sheet.specs.declared.reader.Card.{Card}
+use Rattle.sheet.specs.Reader.{Reads}
 use Rattle.sheet.proofs.Laws.{kinds-are, kinds-most, lines-are, lines-most, kind-under}
 use Rattle.norms.specs.Norms.{Accepts, lowersNorm}
 use Rattle.norms.proofs.Laws.{norms-at}
@@ -73,6 +74,12 @@ module _ {s kinds codes : List ℕ} {lowers : List Bool} (L : LinesAre s kinds c
     (λ h x. ((λ u. uses-are classes g x .1 (h x .0 (uses-are classes f x .0 u))), (λ u. uses-are classes f x .1 (h x .1 (uses-are classes g x .0 u))))),
   )
 
+  -- Each line is of one of at most 32 kinds.
+  pub kinds-few : {c : Card} → Reads s c → (j : ℕ) → j < length kinds → at kinds j < mostKinds
+  kinds-few R j h =
+      let i : j < lineCount s = omega (arith, L .kinds-long) in
+      rw (L .kind-is j i) (omega (arith, kind-under R j (omega (arith, lines-are R)), kinds-most R))
+
   -- The tables are whole.
   pub tables-whole : {c : Card} {norms forms : List ℕ} → Accepts s c norms → length forms ≡ 8192 → Under (2 ^ 63) forms → LoweringTables kinds codes forms lowers
   tables-whole {c} {norms} {forms} A long small =
@@ -80,9 +87,7 @@ module _ {s kinds codes : List ℕ} {lowers : List Bool} (L : LinesAre s kinds c
       record {
         tables = record {
           few = omega (arith, L .kinds-long);
-          kinds-under = λ j h.
-              let i : j < lineCount s = omega (arith, L .kinds-long) in
-              rw (L .kind-is j i) (omega (arith, kind-under (A .reads) j (omega (arith, lines-are (A .reads))), kinds-most (A .reads)));
+          kinds-under = kinds-few (A .reads);
           coded = L .codes-long ∙ sym (L .kinds-long);
           formed = omega (arith, L .kinds-long);
           small = small;

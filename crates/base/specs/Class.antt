@@ -1,10 +1,11 @@
 -- Which lines match, and the numbers that tell it. A line's code and kind stand in lists of their own, the form of what it leaves in a flat table.
+use mathlib.Core.Bool.{Bool, true, false}
 use mathlib.Core.Path.{_≡_}
 use mathlib.Core.List.{List}
 use mathlib.Core.Logic.{_↔_}
 use Prim.Native.Nat.{ℕ, _+_, _*_, _^_, _≤_, _<_}
-use lib.ListN.{length}
-use Rattle.model.specs.Field.{Field, _⊕_, at}
+use lib.ListN.{length, getD, take, drop}
+use Rattle.model.specs.Field.{Field, _⊕_, unit, at}
 use Rattle.model.specs.Limits.{mostKinds, mostLines}
 use Rattle.base.specs.Table.{Under, rowIn}
 
@@ -15,6 +16,19 @@ MayUse kinds classes f m x = (i : ℕ) × (i < m) × (0 < f (at kinds i)) × (at
 -- The two fields may use lines of the same classes.
 abbrev pub MayUseAlike : List ℕ → List ℕ → Field → Field → Type 0
 MayUseAlike kinds classes a b = (x : ℕ) → MayUse kinds classes a (length kinds) x ↔ MayUse kinds classes b (length kinds) x
+
+-- The marks say of each class whether the field may use one of the first m lines that has it.
+abbrev pub MarksTell : List ℕ → List ℕ → Field → ℕ → List Bool → Type 0
+MarksTell kinds classes f m marks = (x : ℕ) → (getD marks x false ≡ true) ↔ MayUse kinds classes f m x
+
+-- Row k of a flat table of marks: rows at kind times 256.
+abbrev pub marksPart : List Bool → ℕ → List Bool
+marksPart marks k = take mostLines (drop (k * mostLines) marks)
+
+-- A table of marks, one row to a kind: the classes of the lines of that kind.
+pub record KindMarks (kinds classes : List ℕ) (marks : List Bool) : Type 0 where
+  pub long : length marks ≡ 8192
+  pub tells : (k : ℕ) → k < mostKinds → MarksTell kinds classes (unit k) (length kinds) (marksPart marks k)
 
 module _ (codes kinds rows forms : List ℕ) where
   -- The tables are whole: at most 256 lines, each with a code, a kind that has a row, and the form of what it leaves.

@@ -4,37 +4,69 @@ use crate::table::form_of;
 use crate::table::row_of;
 ghost use mathlib.Core.Path.{_≡_};
 ghost use mathlib.Core.Bool.{true, false};
-ghost use mathlib.Core.Logic.{_↔_};
-ghost use Prim.Native.Nat.{ℕ, _≤_, _<_};
-ghost use lib.ListN.{length, getD};
+ghost use mathlib.Core.List.{List};
+ghost use mathlib.Core.Logic.{_↔_, _⊎_};
+ghost use Prim.Native.Nat.{ℕ, _+_, _*_, _≤_, _<_};
+ghost use lib.ListN.{length, getD, replicate};
 ghost use Rattle.model.specs.Field.{at};
 ghost use Rattle.base.specs.Table.{Under};
-ghost use Rattle.base.specs.Class.{LineTables, MatchIn, NoneBefore, Bounds, LeastMatch, TellsMatch, MayUse};
+ghost use Rattle.base.specs.Class.{LineTables, MatchIn, NoneBefore, Bounds, LeastMatch, TellsMatch, MarksTell, marksPart, KindMarks};
 
-// The count of a kind: none past the kinds there are.
-fn count_of(field: &[u32], kind: usize) -> u32
-    ensures { λ r. ⌜ r ≡ at (now (field .entry)) kind ⌝ }
+// Marks for each kind the classes of its lines, in a table that has no marks.
+pub fn kind_marks(kinds: &[usize], classes: &[usize], marks: &mut [bool])
+    requires { ⌜ (length (now classes) ≡ length (now kinds)) × Under 256 (now classes) ⌝ }
+    requires { ⌜ ((j : ℕ) → j < length (now kinds) → at (now kinds) j < 32) ⌝ }
+    requires { ⌜ now marks ≡ replicate 8192 false ⌝ }
+    ensures { λ _. ⌜ KindMarks (now (kinds .entry)) (now (classes .entry)) (now (marks .exit)) ⌝ }
 {
-    if kind < field.len() { field[kind] } else { 0 }
-}
-
-// The classes of the lines that a field may use: x is marked just when some line that it may use has class x.
-pub fn marks(kinds: &[usize], classes: &[usize], field: &[u32]) -> [bool; 256]
-    requires { ⌜ length (now classes) ≡ length (now kinds) ⌝ }
-    requires { ⌜ Under 256 (now classes) ⌝ }
-    ensures { λ r. ⌜ ((x : ℕ) → (getD r x false ≡ true) ↔ MayUse (now (kinds .entry)) (now (classes .entry)) (at (now (field .entry))) (length (now (kinds .entry))) x) ⌝ }
-{
-    let mut marked = [false; 256];
     let mut i = 0;
     while i < kinds.len() {
-        let count = count_of(field, kinds[i]);
-        if 0 < count {
-            let x = classes[i];
-            marked[x] = true;
+        let start = kinds[i] * 256;
+        let class = classes[i];
+        marks[start + class] = true;
+        i += 1;
+    }
+}
+
+// The marks of kind k, as a part of the table.
+pub fn marks_of_kind(marks: &[bool], k: usize) -> &[bool]
+    requires { ⌜ k * 256 + 256 ≤ length (now marks) ⌝ }
+    ensures { λ r. ⌜ now r ≡ marksPart (now (marks .entry)) k ⌝ }
+{
+    let start = k * 256;
+    let end = start + 256;
+    &marks[start..end]
+}
+
+// Adds marks to others.
+fn add_marks(sum: &mut [bool], more: &[bool])
+    requires { ⌜ length (now more) ≤ length (now sum) ⌝ }
+    ensures { λ _. ⌜ ((x : ℕ) → (getD (now (sum .exit)) x false ≡ true) ↔ ((getD (now (sum .entry)) x false ≡ true) ⊎ (getD (now (more .entry)) x false ≡ true))) ⌝ }
+{
+    let mut i = 0;
+    while i < more.len() {
+        if more[i] {
+            sum[i] = true;
         }
         i += 1;
     }
-    marked
+}
+
+// The classes of the lines that a field may use: x is marked just when some line that it may use has class x.
+pub fn marks_of_field(marks: &[bool], field: &[u32]) -> [bool; 256]
+    requires { ⌜ (length (now marks) ≡ 8192) × (length (now field) ≤ 32) ⌝ }
+    ensures { λ r. ⌜ ((kinds classes : List ℕ) → KindMarks kinds classes (now (marks .entry)) → MarksTell kinds classes (at (now (field .entry))) (length kinds) r) ⌝ }
+{
+    let mut sum = [false; 256];
+    let mut k = 0;
+    while k < field.len() {
+        let count = field[k];
+        if 0 < count {
+            add_marks(&mut sum, marks_of_kind(marks, k));
+        }
+        k += 1;
+    }
+    sum
 }
 
 // Whether the same classes are marked.
@@ -44,14 +76,15 @@ pub fn same_marks(a: &[bool], b: &[bool]) -> bool
     if a.len() != b.len() {
         return false;
     }
+    let mut same = true;
     let mut i = 0;
     while i < a.len() {
         if a[i] != b[i] {
-            return false;
+            same = false;
         }
         i += 1;
     }
-    true
+    same
 }
 
 // Whether lines i and j match: the same code and the same effect.

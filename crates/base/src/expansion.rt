@@ -1,17 +1,20 @@
 // Whether the rows of a stage satisfy expansion, by the classes of the lines.
-use crate::class::marks;
+use crate::class::kind_marks;
+use crate::class::marks_of_field;
+use crate::class::marks_of_kind;
 use crate::class::same_marks;
 use crate::table::is_atom;
 use crate::table::row_of;
 ghost use mathlib.Core.Path.{_≡_};
 ghost use mathlib.Core.Bool.{true};
+ghost use mathlib.Core.List.{List};
 ghost use mathlib.Core.Logic.{_↔_};
-ghost use Prim.Native.Nat.{_≤_, _<_};
+ghost use Prim.Native.Nat.{ℕ, _≤_, _<_};
 ghost use lib.ListN.{length};
 ghost use Rattle.model.specs.Field.{unit, at};
 ghost use Rattle.model.specs.Limits.{mostKinds};
 ghost use Rattle.base.specs.Table.{Under, rowIn, Atoms};
-ghost use Rattle.base.specs.Class.{MayUseAlike};
+ghost use Rattle.base.specs.Class.{MayUseAlike, KindMarks};
 ghost use Rattle.base.specs.Settle.{RowsExpand};
 
 // One token of a kind, as counts.
@@ -25,40 +28,39 @@ pub fn one_token(k: usize) -> [u32; 32]
 }
 
 // Whether kind k and a field may use lines of the same classes.
-pub fn uses_alike(kinds: &[usize], classes: &[usize], k: usize, field: &[u32]) -> bool
-    requires { ⌜ (length (now classes) ≡ length (now kinds)) × Under 256 (now classes) ⌝ }
-    requires { ⌜ k < mostKinds ⌝ }
-    ensures { λ r. ⌜ (r ≡ true) ↔ MayUseAlike (now (kinds .entry)) (now (classes .entry)) (unit k) (at (now (field .entry))) ⌝ }
+pub fn uses_alike(marks: &[bool], k: usize, field: &[u32]) -> bool
+    requires { ⌜ (length (now marks) ≡ 8192) × (k < mostKinds) × (length (now field) ≤ mostKinds) ⌝ }
+    ensures { λ r. ⌜ ((kinds classes : List ℕ) → KindMarks kinds classes (now (marks .entry)) → (r ≡ true) ↔ MayUseAlike kinds classes (unit k) (at (now (field .entry)))) ⌝ }
 {
-    let token = one_token(k);
-    let own = marks(kinds, classes, &token);
-    let other = marks(kinds, classes, field);
-    same_marks(&own, &other)
+    let other = marks_of_field(marks, field);
+    same_marks(marks_of_kind(marks, k), &other)
 }
 
 // Whether kind k and its row may use lines of the same classes. An atom is its own row.
-fn row_expands(kinds: &[usize], classes: &[usize], rows: &[u32], k: usize) -> bool
-    requires { ⌜ (length (now classes) ≡ length (now kinds)) × Under 256 (now classes) ⌝ }
-    requires { ⌜ (length (now rows) ≡ 1024) × (k < mostKinds) ⌝ }
+fn row_expands(marks: &[bool], rows: &[u32], k: usize) -> bool
+    requires { ⌜ (length (now marks) ≡ 8192) × (length (now rows) ≡ 1024) × (k < mostKinds) ⌝ }
     requires { ⌜ (rowIn (now rows) k k ≡ 1 → rowIn (now rows) k ≡ unit k) ⌝ }
-    ensures { λ r. ⌜ (r ≡ true) ↔ MayUseAlike (now (kinds .entry)) (now (classes .entry)) (unit k) (rowIn (now (rows .entry)) k) ⌝ }
+    ensures { λ r. ⌜ ((kinds classes : List ℕ) → KindMarks kinds classes (now (marks .entry)) → (r ≡ true) ↔ MayUseAlike kinds classes (unit k) (rowIn (now (rows .entry)) k)) ⌝ }
 {
     if is_atom(rows, k) {
         return true;
     }
-    uses_alike(kinds, classes, k, row_of(rows, k))
+    uses_alike(marks, k, row_of(rows, k))
 }
 
 // Whether each of n kinds and its row do: "every row must".
 pub fn rows_expand(kinds: &[usize], classes: &[usize], rows: &[u32], n: usize) -> bool
     requires { ⌜ (length (now classes) ≡ length (now kinds)) × Under 256 (now classes) ⌝ }
+    requires { ⌜ ((j : ℕ) → j < length (now kinds) → at (now kinds) j < mostKinds) ⌝ }
     requires { ⌜ (length (now rows) ≡ 1024) × (n ≤ mostKinds) ⌝ }
     requires { ⌜ Atoms (now rows) n ⌝ }
     ensures { λ r. ⌜ (r ≡ true) ↔ RowsExpand (now (kinds .entry)) (now (classes .entry)) (now (rows .entry)) n ⌝ }
 {
+    let mut marks = [false; 8192];
+    kind_marks(kinds, classes, &mut marks);
     let mut k = 0;
     while k < n {
-        if row_expands(kinds, classes, rows, k) {
+        if row_expands(&marks, rows, k) {
             k += 1;
         } else {
             return false;

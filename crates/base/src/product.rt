@@ -3,11 +3,12 @@ use crate::answer::all_answered;
 use crate::expansion::uses_alike;
 ghost use mathlib.Core.Path.{_≡_};
 ghost use mathlib.Core.Bool.{true};
+ghost use mathlib.Core.List.{List};
 ghost use mathlib.Core.Logic.{_↔_};
-ghost use Prim.Native.Nat.{_<_};
+ghost use Prim.Native.Nat.{ℕ, _<_};
 ghost use lib.ListN.{length};
 ghost use Rattle.model.specs.Field.{at};
-ghost use Rattle.base.specs.Table.{Under};
+ghost use Rattle.base.specs.Class.{KindMarks};
 ghost use Rattle.base.specs.Answer.{LoweringTables};
 ghost use Rattle.base.specs.Row.{Passes};
 
@@ -18,17 +19,16 @@ pub fn passes(
     forms: &[u64],
     lowers: &[bool],
     t: usize,
-    classes: &[usize],
+    marks: &[bool],
     k: usize,
     b: &[u32],
 ) -> bool
     requires { ⌜ LoweringTables (now kinds) (now codes) (now forms) (now lowers) ⌝ }
-    requires { ⌜ (k < 32) × (length (now b) ≡ 32) ⌝ }
-    requires { ⌜ (length (now classes) ≡ length (now kinds)) × Under 256 (now classes) ⌝ }
-    ensures { λ r. ⌜ (r ≡ true) ↔ Passes (now (kinds .entry)) (now (codes .entry)) (now (forms .entry)) (now (lowers .entry)) t (now (classes .entry)) k (at (now (b .entry))) ⌝ }
+    requires { ⌜ (k < 32) × (length (now b) ≡ 32) × (length (now marks) ≡ 8192) ⌝ }
+    ensures { λ r. ⌜ ((classes : List ℕ) → KindMarks (now (kinds .entry)) classes (now (marks .entry)) → (r ≡ true) ↔ Passes (now (kinds .entry)) (now (codes .entry)) (now (forms .entry)) (now (lowers .entry)) t classes k (at (now (b .entry)))) ⌝ }
 {
     if 0 < t {
-        if uses_alike(kinds, classes, k, b) {
+        if uses_alike(marks, k, b) {
             return all_answered(kinds, codes, forms, lowers, k, b);
         }
         return false;

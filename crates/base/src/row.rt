@@ -16,6 +16,7 @@ ghost use Rattle.model.specs.Field.{at};
 ghost use Rattle.model.specs.Base.{stageRow};
 ghost use Rattle.model.specs.Sheet.{cardOf};
 ghost use Rattle.base.specs.Table.{Under, rowIn, IsCandidate};
+ghost use Rattle.base.specs.Class.{KindMarks};
 ghost use Rattle.base.specs.Row.{LowersKind, Suits};
 ghost use Rattle.base.specs.StageRows.{StageGiven, RowSought};
 
@@ -95,6 +96,7 @@ fn told_row(
     t: usize,
     previous: &[u32],
     classes: &[usize],
+    marks: &[bool],
     rows: &[u32],
     forms: &[u64],
     k: usize,
@@ -102,6 +104,7 @@ fn told_row(
     requires { ⌜ StageGiven (now s) card norms (now kinds) (now codes) (now lowers) t (now previous) (now classes) ⌝ }
     requires { ⌜ (k < card .kinds) × (length (now rows) ≡ 1024) × (length (now forms) ≡ 8192) × Under (2 ^ 63) (now forms) ⌝ }
     requires { ⌜ RowSought (now s) t k (now rows) (now forms) ⌝ }
+    requires { ⌜ KindMarks (now kinds) (now classes) (now marks) ⌝ }
     ensures { λ r. ⌜ at r ≡ stageRow (cardOf (now (s .entry))) (suc t) k ⌝ }
 {
     let l = lowering_line(kinds, lowers, k);
@@ -111,7 +114,7 @@ fn told_row(
             let x = told(kinds, forms, l, m);
             if x.found {
                 let counts = x.counts;
-                if passes(kinds, codes, forms, lowers, t, classes, k, &counts) {
+                if passes(kinds, codes, forms, lowers, t, marks, k, &counts) {
                     return counts;
                 }
             }
@@ -143,6 +146,7 @@ pub fn row_of_kind(
     t: usize,
     previous: &[u32],
     classes: &[usize],
+    marks: &[bool],
     rows: &[u32],
     forms: &[u64],
     k: usize,
@@ -150,6 +154,7 @@ pub fn row_of_kind(
     requires { ⌜ StageGiven (now s) card norms (now kinds) (now codes) (now lowers) t (now previous) (now classes) ⌝ }
     requires { ⌜ (k < card .kinds) × (length (now rows) ≡ 1024) × (length (now forms) ≡ 8192) × Under (2 ^ 63) (now forms) ⌝ }
     requires { ⌜ RowSought (now s) t k (now rows) (now forms) ⌝ }
+    requires { ⌜ KindMarks (now kinds) (now classes) (now marks) ⌝ }
     ensures { λ r. ⌜ at r ≡ stageRow (cardOf (now (s .entry))) (suc t) k ⌝ }
 {
     if was_atom(t, previous, k) {
@@ -165,6 +170,7 @@ pub fn row_of_kind(
         t,
         previous,
         classes,
+        marks,
         rows,
         forms,
         k,

@@ -16,6 +16,7 @@ ghost use mathlib.Core.Bool.{true};
 ghost use mathlib.Core.Logic.{_↔_};
 ghost use Prim.Native.Nat.{ℕ, suc, _+_, _-_, _≤_, _<_};
 ghost use lib.ListN.{length, take};
+ghost use Rattle.model.specs.Field.{at};
 ghost use Rattle.model.specs.Limits.{mostKinds};
 ghost use Rattle.model.specs.Refusal.{Accepted};
 ghost use Rattle.sheet.specs.Reader.{Reads};
@@ -44,6 +45,7 @@ pub struct Settled {
 fn is_settled(kinds: &[usize], n: usize, held: Stage) -> bool
     requires { ⌜ (length (now kinds) ≤ 256) × Under 256 (held .classes) × (n ≤ mostKinds) ⌝ }
     requires { ⌜ Atoms (held .base .rows) n ⌝ }
+    requires { ⌜ ((j : ℕ) → j < length (now kinds) → at (now kinds) j < mostKinds) ⌝ }
     ensures { λ r. ⌜ (r ≡ true) ↔ RowsExpand (now (kinds .entry)) (take (length (now (kinds .entry))) (held .classes)) (held .base .rows) n ⌝ }
 {
     let base = held.base;

@@ -1,4 +1,5 @@
 // The rows of one stage, kind by kind: the earliest kind that is not done first, so that all earlier kinds are done.
+use crate::class::kind_marks;
 use crate::line_forms::kind_forms;
 use crate::order::earliest;
 use crate::row::row_of_kind;
@@ -10,6 +11,7 @@ ghost use Prim.Native.Nat.{ℕ, suc, _+_, _-_, _^_, _≤_, _<_};
 ghost use lib.ListN.{length};
 ghost use Rattle.norms.specs.Norms.{Accepts};
 ghost use Rattle.base.specs.Table.{Under};
+ghost use Rattle.base.specs.Class.{KindMarks};
 ghost use Rattle.base.specs.Stage.{BaseAt, Classes, LinesAre};
 ghost use Rattle.base.specs.Forms.{FormTable};
 ghost use Rattle.base.specs.StageRows.{StageGiven, EarlierSet, KindSet, RowsFound};
@@ -25,6 +27,7 @@ fn set_kind(
     t: usize,
     previous: &[u32],
     classes: &[usize],
+    marks: &[bool],
     rows: &mut [u32],
     forms: &mut [u64],
     k: usize,
@@ -32,6 +35,7 @@ fn set_kind(
     requires { ⌜ StageGiven (now s) card norms (now kinds) (now codes) (now lowers) t (now previous) (now classes) ⌝ }
     requires { ⌜ (k < card .kinds) × (length (now rows) ≡ 1024) × (length (now forms) ≡ 8192) × Under (2 ^ 63) (now forms) ⌝ }
     requires { ⌜ EarlierSet (now s) t k (now rows) (now forms) ⌝ }
+    requires { ⌜ KindMarks (now kinds) (now classes) (now marks) ⌝ }
     ensures { λ _. ⌜ KindSet (now (s .entry)) t k (now (rows .entry)) (now (rows .exit)) (now (forms .entry)) (now (forms .exit)) ⌝ }
 {
     kind_forms(s, card, kinds, lowers, rows, forms, k);
@@ -45,6 +49,7 @@ fn set_kind(
         t,
         previous,
         classes,
+        marks,
         rows,
         forms,
         k,
@@ -69,6 +74,8 @@ fn stage_rows(
     requires { ⌜ FormTable (now forms) ⌝ }
     ensures { λ r. ⌜ RowsFound (now (s .entry)) (suc t) (r .rows) (now (forms .exit)) ⌝ }
 {
+    let mut marks = [false; 8192];
+    kind_marks(kinds, classes, &mut marks);
     let n = card.kinds;
     let mut rows = [0u32; 1024];
     let mut done = [false; 32];
@@ -84,6 +91,7 @@ fn stage_rows(
             t,
             previous,
             classes,
+            &marks,
             &mut rows,
             forms,
             k,

@@ -2,9 +2,10 @@
 use mathlib.Core.Bool.{true}
 use mathlib.Core.Logic.{_↔_}
 use mathlib.Core.Path.{_≡_, subst}
+use native.Mathlib.Omega.{arith}
 use Rattle.model.specs.Field.{Field, unit}
 use Rattle.base.specs.Class.{MayUseAlike}
-use Rattle.base.proofs.Tables.{tells-same, lent-row}
+use Rattle.base.proofs.Tables.{tells-same, lent-row, lent-length}
 use Rattle.base.proofs.Products.{atom-uses}
 use borrow.Author.Needs.{needs}
 use Rattle.base.proofs.expansion.row_expands.Statement.{statement}
@@ -14,20 +15,22 @@ is-atom-requires : tie.Need-is-atom-requires
 is-atom-requires c κs = search needs
 
 returns : tie.Need-returns
-returns c =
-    let b = c .before .before .before .before .before in
-    tells-same (atom-uses (b .args .kinds .now) (b .args .classes .now) (b .args .k) (b .pre .1 .1 (c .before .is-atom .ensures .0 (c .if1 .taken))))
+returns c kinds classes K =
+    let b = c .before .before .before .before in
+    tells-same (atom-uses kinds classes (b .args .k) (b .pre .1 (c .before .is-atom .ensures .0 (c .if1 .taken))))
 
 row-of-requires : tie.Need-row-of-requires
 row-of-requires c κs = search needs
 
 uses-alike-requires : tie.Need-uses-alike-requires
-uses-alike-requires c κs = search needs
+uses-alike-requires c κs =
+    let b = c .before .before .before .before .before in
+    (b .pre .0 .0, b .pre .0 .2, omega (arith, lent-length (b .args .rows .now) (b .args .k) (omega (arith, b .pre .0 .1, b .pre .0 .2)) (c .row-of .ensures)))
 
 returns-2 : tie.Need-returns-2
-returns-2 c =
-    let b = c .before .before .before .before .before .before .before .args in
-    subst (λ (f : Field). (c .uses-alike .result ≡ true) ↔ MayUseAlike (b .kinds .now) (b .classes .now) (unit (b .k)) f) (lent-row (b .rows .now) (b .k) (c .before .row-of .ensures)) (c .uses-alike .ensures)
+returns-2 c kinds classes K =
+    let b = c .before .before .before .before .before .before .args in
+    subst (λ (f : Field). (c .uses-alike .result ≡ true) ↔ MayUseAlike kinds classes (unit (b .k)) f) (lent-row (b .rows .now) (b .k) (c .before .row-of .ensures)) (c .uses-alike .ensures kinds classes K)
 
 pub row-expands-spec : {M : Type 1} → statement M
 row-expands-spec =

@@ -13,16 +13,16 @@ all-answered-requires : tie.Need-all-answered-requires
 all-answered-requires c κs = search needs
 
 returns : tie.Need-returns
-returns c = passes-later (c .all-answered .ensures) (c .before .before .uses-alike .ensures .0 (c .before .if2 .taken))
+returns c classes K = passes-later (c .all-answered .ensures) (c .before .before .uses-alike .ensures _ classes K .0 (c .before .if2 .taken))
 
 returns-2 : tie.Need-returns-2
-returns-2 c = tells-other (λ w. told-not (c .before .uses-alike .ensures) (c .if2 .left) (w .uses (omega (arith, c .before .before .if1 .taken))))
+returns-2 c classes K = tells-other (λ w. told-not (c .before .uses-alike .ensures _ classes K) (c .if2 .left) (w .uses (omega (arith, c .before .before .if1 .taken))))
 
 all-answered-requires-2 : tie.Need-all-answered-requires-2
 all-answered-requires-2 c κs = search needs
 
 returns-3 : tie.Need-returns-3
-returns-3 c = passes-first (c .all-answered2 .ensures) (c .before .if1 .left)
+returns-3 c classes K = passes-first (c .all-answered2 .ensures) (c .before .if1 .left)
 
 pub passes-spec : {M : Type 1} → statement M
 passes-spec =

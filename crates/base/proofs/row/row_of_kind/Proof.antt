@@ -9,21 +9,21 @@ use Rattle.base.proofs.row.row_of_kind.Tie as tie
 
 was-atom-requires : tie.Need-was-atom-requires
 was-atom-requires c κs =
-    let b = c .before .before .before .before .before .before .before .before in
+    let b = c .before .before .before .before .before .before .before .before .before in
     let G = b .pre .0 in
     let h = b .pre .1 .0 .0 in
     (omega (arith, h, kinds-most (G .accepts .reads)), G .previous-long)
 
 one-token-requires : tie.Need-one-token-requires
 one-token-requires c κs =
-    let b = c .before .before .before .before .before .before .before .before .before .before in
+    let b = c .before .before .before .before .before .before .before .before .before .before .before in
     let G = b .pre .0 in
     let h = b .pre .1 .0 .0 in
     omega (arith, h, kinds-most (G .accepts .reads))
 
 returns : tie.Need-returns
 returns c =
-    let b = c .before .before .before .before .before .before .before .before .before .before .before in
+    let b = c .before .before .before .before .before .before .before .before .before .before .before .before in
     let G = b .pre .0 in
     let h = b .pre .1 .0 .0 in
     let a = c .before .before .was-atom .ensures .0 (c .before .if1 .taken) in

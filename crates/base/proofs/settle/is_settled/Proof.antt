@@ -27,7 +27,7 @@ rows-expand-requires c κs =
     let b = c .before .before .before .before .before .before in
     let e : length (b .args .held .classes) ≡ 256 = search needs in
     let n = length (b .args .kinds .now) in
-    ((classes-long n (b .args .held .classes) (omega (arith, b .pre .0 .0)), classes-under n (b .args .held .classes) (b .pre .0 .1)), ((search needs, b .pre .0 .2), b .pre .1))
+    ((classes-long n (b .args .held .classes) (omega (arith, b .pre .0 .0)), classes-under n (b .args .held .classes) (b .pre .0 .1)), (b .pre .1 .1, ((search needs, b .pre .0 .2), b .pre .1 .0)))
 
 returns : tie.Need-returns
 returns c = search needs

@@ -5,6 +5,7 @@ use Rattle.sheet.proofs.Laws.{kinds-are, kinds-most}
 use Rattle.base.specs.Forms.{FormTable}
 use Rattle.base.specs.Settle.{AtStage}
 use Rattle.base.proofs.Tables.{told-not}
+use Rattle.base.proofs.StageRows.{kinds-few}
 use Rattle.base.proofs.LineTables.{few-lines}
 use Rattle.base.proofs.Unsettled.{Unsettled, unsettled-start, unsettled-most, held-atoms, held-end, held-more}
 use Rattle.base.proofs.settle.settle_lines.Statement.{statement}
@@ -26,7 +27,7 @@ is-settled-requires : tie.Need-is-settled-requires Inv-loop μ-loop
 is-settled-requires c κs =
     let b = c .before .before .before .before .before .before .before .before .before .before in
     let l = c .loop in
-    ((few-lines (b .pre .0 .reads) (b .pre .1 .0), l .inv .0 .classes-small, kinds-most (b .pre .0 .reads)), held-atoms (b .pre .0 .reads) (b .pre .0 .accepted) (b .pre .1 .0) (l .held) (l .inv .0) (l .inv .1))
+    ((few-lines (b .pre .0 .reads) (b .pre .1 .0), l .inv .0 .classes-small, kinds-most (b .pre .0 .reads)), (held-atoms (b .pre .0 .reads) (b .pre .0 .accepted) (b .pre .1 .0) (l .held) (l .inv .0) (l .inv .1), kinds-few (b .pre .1 .0) (b .pre .0 .reads)))
 
 same-length : tie.Need-same-length Inv-loop μ-loop
 same-length c = omega (arith, c .before .before .before .before .loop .inv .2 .long, c .before .before .before .before .before .before .before .before .before .before .before .before .before .before .pre .1 .1 .long)
