@@ -31,23 +31,23 @@ part-form {s} R j xs part rows =
     part-left R j xs part (λ n a. formIn n rows a) ∙ ap (λ (n : ℕ). formIn n rows (lineOf s j .left)) (kinds-are R)
 
 -- The forms of the lines below j, and of the lines that lower the norm, are written.
-pub record Filled (s rows : List ℕ) (lowers : List Bool) (old forms : List ℕ) (j : ℕ) : Type 0 where
+pub record Formed (s rows : List ℕ) (lowers : List Bool) (old forms : List ℕ) (j : ℕ) : Type 0 where
   pub kept : length forms ≡ length old
   pub small : Under (2 ^ 63) forms
   pub lowering : LoweringForms s rows lowers forms
   pub done : (i : ℕ) → i < j → LineForm s rows forms i
 
-module _ {s rows : List ℕ} {lowers : List Bool} {old forms : List ℕ} {j : ℕ} (h : Filled s rows lowers old forms j) where
-  pub filled-skip : j < lineCount s → getD lowers j false ≡ true → Filled s rows lowers old forms (j + 1)
-  filled-skip b a = record { kept = h .kept; small = h .small; lowering = h .lowering; done = λ i l. go i l (ℕ-discrete i j) }
+module _ {s rows : List ℕ} {lowers : List Bool} {old forms : List ℕ} {j : ℕ} (h : Formed s rows lowers old forms j) where
+  pub formed-skip : j < lineCount s → getD lowers j false ≡ true → Formed s rows lowers old forms (j + 1)
+  formed-skip b a = record { kept = h .kept; small = h .small; lowering = h .lowering; done = λ i l. go i l (ℕ-discrete i j) }
     where
       go : (i : ℕ) → i < j + 1 → Dec (i ≡ j) → LineForm s rows forms i
       go i l (yes p) = rw p (h .lowering j b a)
       go i l (no p) = h .done i (omega arith)
 
-  pub filled-more : {new : List ℕ} → RowSet (formIn (kindCount s) rows (lineOf s j .left)) j forms new → length new ≡ length forms → Under (2 ^ 63) new
-      → Filled s rows lowers old new (j + 1)
-  filled-more {new} r e u =
+  pub formed-more : {new : List ℕ} → RowSet (formIn (kindCount s) rows (lineOf s j .left)) j forms new → length new ≡ length forms → Under (2 ^ 63) new
+      → Formed s rows lowers old new (j + 1)
+  formed-more {new} r e u =
       record {
         kept = e ∙ h .kept;
         small = u;
@@ -60,23 +60,23 @@ module _ {s rows : List ℕ} {lowers : List Bool} {old forms : List ℕ} {j : �
       go i (no p) f = r .others i p ∙ f p
 
 -- The forms of the lowering lines of kind k below j are written, and no others.
-pub record KindFilled (s rows kinds : List ℕ) (lowers : List Bool) (k : ℕ) (old forms : List ℕ) (j : ℕ) : Type 0 where
+pub record KindFormed (s rows kinds : List ℕ) (lowers : List Bool) (k : ℕ) (old forms : List ℕ) (j : ℕ) : Type 0 where
   pub kept : length forms ≡ length old
   pub small : Under (2 ^ 63) forms
   pub done : (i : ℕ) → i < j → getD lowers i false ≡ true → at kinds i ≡ k → LineForm s rows forms i
   pub others : (i : ℕ) → ¬ (at kinds i ≡ k) → rowIn forms i ≡ rowIn old i
 
-module _ {s rows kinds : List ℕ} {lowers : List Bool} {k : ℕ} {old forms : List ℕ} {j : ℕ} (h : KindFilled s rows kinds lowers k old forms j) where
-  pub kind-filled-skip : (getD lowers j false ≡ true → at kinds j ≡ k → ⊥) → KindFilled s rows kinds lowers k old forms (j + 1)
-  kind-filled-skip n = record { kept = h .kept; small = h .small; done = λ i l. go i l (ℕ-discrete i j); others = h .others }
+module _ {s rows kinds : List ℕ} {lowers : List Bool} {k : ℕ} {old forms : List ℕ} {j : ℕ} (h : KindFormed s rows kinds lowers k old forms j) where
+  pub kind-formed-skip : (getD lowers j false ≡ true → at kinds j ≡ k → ⊥) → KindFormed s rows kinds lowers k old forms (j + 1)
+  kind-formed-skip n = record { kept = h .kept; small = h .small; done = λ i l. go i l (ℕ-discrete i j); others = h .others }
     where
       go : (i : ℕ) → i < j + 1 → Dec (i ≡ j) → getD lowers i false ≡ true → at kinds i ≡ k → LineForm s rows forms i
       go i l (yes p) = λ a b. absurd (n (rw p at a) (rw p at b))
       go i l (no p) = h .done i (omega arith)
 
-  pub kind-filled-more : {new : List ℕ} → at kinds j ≡ k → RowSet (formIn (kindCount s) rows (lineOf s j .left)) j forms new → length new ≡ length forms
-      → Under (2 ^ 63) new → KindFilled s rows kinds lowers k old new (j + 1)
-  kind-filled-more {new} q r e u =
+  pub kind-formed-more : {new : List ℕ} → at kinds j ≡ k → RowSet (formIn (kindCount s) rows (lineOf s j .left)) j forms new → length new ≡ length forms
+      → Under (2 ^ 63) new → KindFormed s rows kinds lowers k old new (j + 1)
+  kind-formed-more {new} q r e u =
       record {
         kept = e ∙ h .kept;
         small = u;
@@ -90,8 +90,8 @@ module _ {s rows kinds : List ℕ} {lowers : List Bool} {k : ℕ} {old forms : L
 
 -- All lines are done.
 module _ {s : List ℕ} {c : Card} (R : Reads s c) {rows old forms : List ℕ} {j : ℕ} (l : c .lines ≤ j) where
-  pub all-filled : {lowers : List Bool} → Filled s rows lowers old forms j → AllForms s rows forms
-  all-filled h = record { forms-are = λ i b. h .done i (omega (arith, lines-are R)); small = h .small }
+  pub all-formed : {lowers : List Bool} → Formed s rows lowers old forms j → AllForms s rows forms
+  all-formed h = record { forms-are = λ i b. h .done i (omega (arith, lines-are R)); small = h .small }
 
-  pub all-kind-filled : {kinds : List ℕ} {lowers : List Bool} {k : ℕ} → KindFilled s rows kinds lowers k old forms j → KindForms s rows kinds lowers k old forms
-  all-kind-filled h = record { forms-are = λ i b. h .done i (omega (arith, lines-are R)); others = h .others; small = h .small }
+  pub all-kind-formed : {kinds : List ℕ} {lowers : List Bool} {k : ℕ} → KindFormed s rows kinds lowers k old forms j → KindForms s rows kinds lowers k old forms
+  all-kind-formed h = record { forms-are = λ i b. h .done i (omega (arith, lines-are R)); others = h .others; small = h .small }

@@ -6,12 +6,12 @@ use mathlib.Core.Path.{refl, _∙_}
 use mathlib.Core.Logic.{⊎-elim}
 use native.Mathlib.Omega.{arith}
 use Rattle.sheet.proofs.Laws.{lines-are}
-use Rattle.base.proofs.LineForms.{Filled, filled-skip, filled-more, all-filled}
+use Rattle.base.proofs.LineForms.{Formed, formed-skip, formed-more, all-formed}
 use Rattle.base.proofs.line_forms.all_forms.Statement.{statement}
 use Rattle.base.proofs.line_forms.all_forms.Tie as tie
 
 abbrev Inv-loop : tie.InvT-loop
-Inv-loop s card lowers rows forms₀ lines j₀ forms j = Filled s rows lowers forms₀ forms j
+Inv-loop s card lowers rows forms₀ lines j₀ forms j = Formed s rows lowers forms₀ forms j
 
 abbrev μ-loop : tie.MeasureT-loop
 μ-loop s card lowers rows forms₀ lines j₀ forms j = lines - j
@@ -38,15 +38,15 @@ loop-again : tie.Need-loop-again Inv-loop μ-loop
 loop-again c =
     let h = c .before .before .before .loop .inv in
     ⊎-elim
-    (λ w. rw (w .5) (filled-more h (w .2 .ensures .0) (w .2 .kept .1 .1 .1 .0) (w .2 .ensures .1)))
-    (λ w. rw (w .1) (filled-skip h (omega (arith, c .before .before .loop-test .taken, lines-are (c .before .before .before .before .before .before .before .before .pre .0))) (not-false _ (w .0 .left))))
+    (λ w. rw (w .5) (formed-more h (w .2 .ensures .0) (w .2 .kept .1 .1 .1 .0) (w .2 .ensures .1)))
+    (λ w. rw (w .1) (formed-skip h (omega (arith, c .before .before .loop-test .taken, lines-are (c .before .before .before .before .before .before .before .before .pre .0))) (not-false _ (w .0 .left))))
     (c .if1 .came)
 
 same-length : tie.Need-same-length Inv-loop μ-loop
 same-length c = c .before .loop .inv .kept
 
 returns : tie.Need-returns Inv-loop μ-loop
-returns c = all-filled (c .before .before .before .before .before .before .pre .0) (c .loop-test .left) (c .before .loop .inv)
+returns c = all-formed (c .before .before .before .before .before .before .pre .0) (c .loop-test .left) (c .before .loop .inv)
 
 pub all-forms-spec : {M : Type 1} → statement M
 all-forms-spec =

@@ -5,12 +5,12 @@ use mathlib.Core.Path.{refl, _∙_}
 use mathlib.Core.Logic.{⊎-elim}
 use native.Mathlib.Omega.{arith}
 use Rattle.base.proofs.Answers.{not-both}
-use Rattle.base.proofs.LineForms.{KindFilled, kind-filled-skip, kind-filled-more, all-kind-filled}
+use Rattle.base.proofs.LineForms.{KindFormed, kind-formed-skip, kind-formed-more, all-kind-formed}
 use Rattle.base.proofs.line_forms.kind_forms.Statement.{statement}
 use Rattle.base.proofs.line_forms.kind_forms.Tie as tie
 
 abbrev Inv-loop : tie.InvT-loop
-Inv-loop s card kinds lowers rows forms₀ k lines j₀ forms j = KindFilled s rows kinds lowers k forms₀ forms j
+Inv-loop s card kinds lowers rows forms₀ k lines j₀ forms j = KindFormed s rows kinds lowers k forms₀ forms j
 
 abbrev μ-loop : tie.MeasureT-loop
 μ-loop s card kinds lowers rows forms₀ k lines j₀ forms j = lines - j
@@ -43,15 +43,15 @@ loop-again : tie.Need-loop-again Inv-loop μ-loop
 loop-again c =
     let h = c .before .before .before .loop .inv in
     ⊎-elim
-    (λ w. rw (w .7) (kind-filled-more h (w .0 .taken) (w .4 .ensures .0) (w .4 .kept .1 .1 .1 .0) (w .4 .ensures .1)))
-    (⊎-elim (λ w. rw (w .3) (kind-filled-skip h (λ a _. not-both (w .2 .left) a))) (λ w. rw (w .1) (kind-filled-skip h (λ _ e. w .0 .left e))))
+    (λ w. rw (w .7) (kind-formed-more h (w .0 .taken) (w .4 .ensures .0) (w .4 .kept .1 .1 .1 .0) (w .4 .ensures .1)))
+    (⊎-elim (λ w. rw (w .3) (kind-formed-skip h (λ a _. not-both (w .2 .left) a))) (λ w. rw (w .1) (kind-formed-skip h (λ _ e. w .0 .left e))))
     (c .if1 .came)
 
 same-length : tie.Need-same-length Inv-loop μ-loop
 same-length c = c .before .loop .inv .kept
 
 returns : tie.Need-returns Inv-loop μ-loop
-returns c = all-kind-filled (c .before .before .before .before .before .before .before .pre .0) (c .loop-test .left) (c .before .loop .inv)
+returns c = all-kind-formed (c .before .before .before .before .before .before .before .pre .0) (c .loop-test .left) (c .before .loop .inv)
 
 pub kind-forms-spec : {M : Type 1} → statement M
 kind-forms-spec =
