@@ -128,21 +128,27 @@ module _ {old more : List Bool} {i : ℕ} {sum : List Bool} (h : MarksAdded old 
   narrower : {x : ℕ} → ¬ (x ≡ i) → (getD old x false ≡ true) ⊎ ((x < i + 1) × (getD more x false ≡ true)) → getD sum x false ≡ true
   narrower {x} d w = ⊎-elim (λ o. h .tells x .1 (inl o)) (λ u. h .tells x .1 (inr (omega (arith, u .0), u .1))) w
 
-  pub marks-added-here : getD more i false ≡ true → MarksAdded old more (i + 1) (set sum i true)
-  marks-added-here m =
-      record { within = omega arith; room = h .room; kept = length-set sum i true ∙ h .kept; tells = λ x. go x (ℕ-discrete x i) }
+  pub marks-added-more : {m : Bool} → (m ≡ true) ↔ ((getD sum i false ≡ true) ⊎ (getD more i false ≡ true)) → MarksAdded old more (i + 1) (set sum i m)
+  marks-added-more {m} a =
+      record { within = omega arith; room = h .room; kept = length-set sum i m ∙ h .kept; tells = λ x. go x (ℕ-discrete x i) }
     where
-      go : (x : ℕ) → Dec (x ≡ i) → (getD (set sum i true) x false ≡ true) ↔ ((getD old x false ≡ true) ⊎ ((x < i + 1) × (getD more x false ≡ true)))
-      go x (yes e) = (λ _. inr (omega arith, rw e m), λ _. rw e (getD-set-same sum i true false (omega (arith, h .room, h .kept))))
-      go x (no d) = (λ e. wider (sym (getD-set-other sum i x true false d) ∙ e), λ w. getD-set-other sum i x true false d ∙ narrower d w)
+      here : getD (set sum i m) i false ≡ m
+      here = getD-set-same sum i m false (omega (arith, h .room, h .kept))
 
-  pub marks-added-skip : getD more i false ≡ false → MarksAdded old more (i + 1) sum
-  marks-added-skip m =
-      record { within = omega arith; room = h .room; kept = h .kept; tells = λ x. (λ e. wider e, λ w. go x w (ℕ-discrete x i)) }
-    where
-      go : (x : ℕ) → (getD old x false ≡ true) ⊎ ((x < i + 1) × (getD more x false ≡ true)) → Dec (x ≡ i) → getD sum x false ≡ true
-      go x w (yes e) = ⊎-elim (λ o. h .tells x .1 (inl o)) (λ u. absurd (not-both m (rw e at (u .1)))) w
-      go x w (no d) = narrower d w
+      go : (x : ℕ) → Dec (x ≡ i) → (getD (set sum i m) x false ≡ true) ↔ ((getD old x false ≡ true) ⊎ ((x < i + 1) × (getD more x false ≡ true)))
+      go x (yes e) =
+          let s : getD (set sum i m) x false ≡ m = rw e here in (
+            λ t. ⊎-elim (λ u. wider (rw e u)) (λ u. inr (omega arith, rw e u)) (a .0 (sym s ∙ t)),
+            λ w. s ∙ a .1 (⊎-elim (λ o. inl (h .tells i .1 (inl (rw e at o)))) (λ u. inr (rw e at (u .1))) w),
+          )
+      go x (no d) = (λ e. wider (sym (getD-set-other sum i x m false d) ∙ e), λ w. getD-set-other sum i x m false d ∙ narrower d w)
+
+-- A mark with another added to it.
+pub mark-added : {a b : Bool} → b ≡ true → (true ≡ true) ↔ ((a ≡ true) ⊎ (b ≡ true))
+mark-added e = tells-same (inr e)
+
+pub mark-kept : {a b : Bool} → b ≡ false → (a ≡ true) ↔ ((a ≡ true) ⊎ (b ≡ true))
+mark-kept e = (λ t. inl t, λ w. ⊎-elim (λ t. t) (λ t. absurd (not-both e t)) w)
 
 pub marks-added-all : {old more : List Bool} {i : ℕ} {sum : List Bool} → MarksAdded old more i sum → length more ≤ i
     → (x : ℕ) → (getD sum x false ≡ true) ↔ ((getD old x false ≡ true) ⊎ (getD more x false ≡ true))

@@ -45,9 +45,11 @@ fn add_marks(sum: &mut [bool], more: &[bool])
 {
     let mut i = 0;
     while i < more.len() {
+        let mut mark = sum[i];
         if more[i] {
-            sum[i] = true;
+            mark = true;
         }
+        sum[i] = mark;
         i += 1;
     }
 }

@@ -4,7 +4,7 @@ use Prim.Native.Nat.{_-_}
 use mathlib.Core.Logic.{⊎-elim}
 use native.Mathlib.Omega.{arith}
 use lib.ListN.{length}
-use Rattle.base.proofs.Marks.{MarksAdded, marks-added-none, marks-added-here, marks-added-skip, marks-added-all}
+use Rattle.base.proofs.Marks.{MarksAdded, marks-added-none, marks-added-more, mark-added, mark-kept, marks-added-all}
 use Rattle.base.proofs.class.add_marks.Statement.{statement}
 use Rattle.base.proofs.class.add_marks.Tie as tie
 
@@ -17,12 +17,16 @@ abbrev μ-loop : tie.MeasureT-loop
 loop-holds : tie.Need-loop-holds Inv-loop μ-loop
 loop-holds c = marks-added-none (c .pre)
 
+slice-read-mark : tie.Need-slice-read-mark Inv-loop μ-loop
+slice-read-mark c =
+    let h = c .before .before .loop .inv in omega (arith, h .room, h .kept, c .before .loop-test .taken)
+
 shared-slice-read-if1 : tie.Need-shared-slice-read-if1 Inv-loop μ-loop
 shared-slice-read-if1 c = search needs
 
 slice-write-sum : tie.Need-slice-write-sum Inv-loop μ-loop
 slice-write-sum c =
-    let h = c .before .before .before .loop .inv in omega (arith, h .room, h .kept, c .before .before .loop-test .taken)
+    let h = c .before .before .before .before .loop .inv in omega (arith, h .room, h .kept, c .before .before .before .loop-test .taken)
 
 add-i : tie.Need-add-i Inv-loop μ-loop
 add-i c = search needs
@@ -32,9 +36,9 @@ loop-less c = search needs
 
 loop-again : tie.Need-loop-again Inv-loop μ-loop
 loop-again c =
-    let h = c .before .before .before .loop .inv in
-    let l = c .before .before .loop-test .taken in
-    ⊎-elim (λ w. rw (w .1) (marks-added-here h l (w .0 .taken))) (λ w. rw (w .1) (marks-added-skip h l (w .0 .left))) (c .if1 .came)
+    let h = c .before .before .before .before .loop .inv in
+    let l = c .before .before .before .loop-test .taken in
+    ⊎-elim (λ w. rw (w .1) (marks-added-more h l (mark-added (w .0 .taken)))) (λ w. rw (w .1) (marks-added-more h l (mark-kept (w .0 .left)))) (c .if1 .came)
 
 same-length : tie.Need-same-length Inv-loop μ-loop
 same-length c = c .before .loop .inv .kept
@@ -49,6 +53,7 @@ add-marks-spec =
     Inv-loop
     μ-loop
     loop-holds
+    slice-read-mark
     shared-slice-read-if1
     slice-write-sum
     add-i
