@@ -200,7 +200,7 @@ fn kind_answers(
     true
 }
 
-// Whether each line of either list has a reply in the other.
+// Whether each line of either list has a reply in the other. The lines of the longer list are the first to challenge: unless some have the same effect, the shorter has too few replies.
 fn both_answer(
     kinds: &[usize],
     codes: &[usize],
@@ -214,6 +214,12 @@ fn both_answer(
     requires { ⌜ EachOf (now own) (λ i. i < length (now kinds)) × EachOf (now usable) (λ j. j < length (now kinds)) ⌝ }
     ensures { λ r. ⌜ (r ≡ true) ↔ BothAnswer (now (kinds .entry)) (now (codes .entry)) (now (forms .entry)) (at (now (b .entry))) (now (own .entry)) (now (usable .entry)) ⌝ }
 {
+    if own.len() < usable.len() {
+        if kind_answers(kinds, codes, forms, b, own, usable) {
+            return product_answers(kinds, codes, forms, b, own, usable);
+        }
+        return false;
+    }
     if product_answers(kinds, codes, forms, b, own, usable) {
         return kind_answers(kinds, codes, forms, b, own, usable);
     }
