@@ -1,6 +1,7 @@
 // The lines of the page, each over plain values.
 use crate::counts::put_form;
 use crate::counts::put_row;
+use crate::number::put_byte;
 use crate::number::put_bytes;
 use crate::number::put_labelled;
 use crate::number::put_two_labelled;
@@ -17,7 +18,7 @@ pub fn put_refused(out: &mut [u8], at: usize, number: usize, place: usize) -> us
     ensures { λ r. ⌜ Appended 50 (now (out .entry)) at (refusedLine number place) (now (out .exit)) r ⌝ }
 {
     let last = put_two_labelled(out, at, b"refused ", number as u64, b" ", place as u64);
-    put_bytes(out, last, b"\n")
+    put_byte(out, last, b'\n')
 }
 
 // `kinds N stages S`.
@@ -26,7 +27,7 @@ pub fn put_head(out: &mut [u8], at: usize, kinds: usize, stage: usize) -> usize
     ensures { λ r. ⌜ Appended 55 (now (out .entry)) at (headText kinds stage) (now (out .exit)) r ⌝ }
 {
     let last = put_two_labelled(out, at, b"kinds ", kinds as u64, b" stages ", stage as u64);
-    put_bytes(out, last, b"\n")
+    put_byte(out, last, b'\n')
 }
 
 // What a kind's line shows of its row: the word prime where the row is the kind itself, the counts of any other.
@@ -49,9 +50,9 @@ pub fn put_kind(out: &mut [u8], at: usize, kind: usize, norm: u32, row: &[u32]) 
     ensures { λ r. ⌜ Appended (58 + 21 * length (now (row .entry))) (now (out .entry)) at (kindText kind norm (now (row .entry))) (now (out .exit)) r ⌝ }
 {
     let space = put_two_labelled(out, at, b"kind ", kind as u64, b" norm ", norm as u64);
-    let shown = put_bytes(out, space, b" ");
+    let shown = put_byte(out, space, b' ');
     let last = put_prime_or_row(out, shown, kind, row);
-    put_bytes(out, last, b"\n")
+    put_byte(out, last, b'\n')
 }
 
 // `field I = COUNTS`.
@@ -60,9 +61,9 @@ pub fn put_field(out: &mut [u8], at: usize, field: usize, form: &[u64]) -> usize
     ensures { λ r. ⌜ Appended (29 + 21 * length (now (form .entry))) (now (out .entry)) at (fieldText field (now (form .entry))) (now (out .exit)) r ⌝ }
 {
     let space = put_labelled(out, at, b"field ", field as u64);
-    let shown = put_bytes(out, space, b" ");
+    let shown = put_byte(out, space, b' ');
     let last = put_form(out, shown, form);
-    put_bytes(out, last, b"\n")
+    put_byte(out, last, b'\n')
 }
 
 // `pair 0 J same`.
@@ -81,7 +82,7 @@ pub fn put_different(out: &mut [u8], at: usize, later: usize, stage: usize, roun
 {
     let word = put_labelled(out, at, b"pair 0 ", later as u64);
     let last = put_two_labelled(out, word, b" different ", stage as u64, b" ", rounds);
-    put_bytes(out, last, b"\n")
+    put_byte(out, last, b'\n')
 }
 
 // `pair 0 J refused NUMBER PLACE`: no page has it, since Compare refuses no two fields of an accepted sheet.
@@ -90,6 +91,6 @@ pub fn put_not_called(out: &mut [u8], at: usize, later: usize, number: usize, pl
     ensures { λ r. ⌜ Appended 80 (now (out .entry)) at (pairText later (refused number place)) (now (out .exit)) r ⌝ }
 {
     let space = put_labelled(out, at, b"pair 0 ", later as u64);
-    let word = put_bytes(out, space, b" ");
+    let word = put_byte(out, space, b' ');
     put_refused(out, word, number, place)
 }

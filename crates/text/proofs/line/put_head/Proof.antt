@@ -17,11 +17,8 @@ slice-aggregate-put-two-labelled-2 c = search needs
 put-two-labelled-requires : tie.Need-put-two-labelled-requires
 put-two-labelled-requires c κs = search needs
 
-slice-aggregate-put-bytes : tie.Need-slice-aggregate-put-bytes
-slice-aggregate-put-bytes c = search needs
-
-put-bytes-requires : tie.Need-put-bytes-requires
-put-bytes-requires c κs = search needs
+put-byte-requires : tie.Need-put-byte-requires
+put-byte-requires c κs = search needs
 
 same-length : tie.Need-same-length
 same-length c = search needs
@@ -29,8 +26,8 @@ same-length c = search needs
 returns : tie.Need-returns
 unfolding bytes
 returns c =
-    let start = c .before .before .before .before .before .before .before .before .before .before .before .before in
-    reads-as 55 (headText (start .args .kinds) (start .args .stage)) (then (c .before .before .before .before .before .before .before .put-two-labelled .ensures) (c .before .before .put-bytes .ensures))
+    let start = c .before .before .before .before .before .before .before .before .before .before .before in
+    reads-as 55 (headText (start .args .kinds) (start .args .stage)) (then (c .before .before .before .before .before .before .put-two-labelled .ensures) (c .before .before .put-byte .ensures))
     (omega arith) (head-is (start .args .kinds) (start .args .stage))
 
 pub put-head-spec : {M : Type 1} → statement M
@@ -40,7 +37,6 @@ put-head-spec =
     slice-aggregate-put-two-labelled
     slice-aggregate-put-two-labelled-2
     put-two-labelled-requires
-    slice-aggregate-put-bytes
-    put-bytes-requires
+    put-byte-requires
     same-length
     returns)

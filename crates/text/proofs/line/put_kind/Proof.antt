@@ -19,20 +19,14 @@ slice-aggregate-put-two-labelled-2 c = search needs
 put-two-labelled-requires : tie.Need-put-two-labelled-requires
 put-two-labelled-requires c κs = search needs
 
-slice-aggregate-put-bytes : tie.Need-slice-aggregate-put-bytes
-slice-aggregate-put-bytes c = search needs
-
-put-bytes-requires : tie.Need-put-bytes-requires
-put-bytes-requires c κs = search needs
+put-byte-requires : tie.Need-put-byte-requires
+put-byte-requires c κs = search needs
 
 put-prime-or-row-requires : tie.Need-put-prime-or-row-requires
 put-prime-or-row-requires c κs = search needs
 
-slice-aggregate-put-bytes-2 : tie.Need-slice-aggregate-put-bytes-2
-slice-aggregate-put-bytes-2 c = search needs
-
-put-bytes-requires-2 : tie.Need-put-bytes-requires-2
-put-bytes-requires-2 c κs = search needs
+put-byte-requires-2 : tie.Need-put-byte-requires-2
+put-byte-requires-2 c κs = search needs
 
 same-length : tie.Need-same-length
 same-length c = search needs
@@ -40,8 +34,8 @@ same-length c = search needs
 returns : tie.Need-returns
 unfolding bytes
 returns c =
-    let start = c .before .before .before .before .before .before .before .before .before .before .before .before .before .before .before .before .before .before .before .before .before .before in
-    reads-as (58 + 21 * length (start .args .row .now)) (kindText (start .args .kind) (start .args .norm) (start .args .row .now)) (then (c .before .before .before .before .before .before .before .before .before .before .before .before .before .before .before .before .put-two-labelled .ensures) (then (c .before .before .before .before .before .before .before .before .before .before .before .put-bytes .ensures) (then (c .before .before .before .before .before .before .before .put-prime-or-row .ensures) (c .before .before .put-bytes2 .ensures))))
+    let start = c .before .before .before .before .before .before .before .before .before .before .before .before .before .before .before .before .before .before .before .before in
+    reads-as (58 + 21 * length (start .args .row .now)) (kindText (start .args .kind) (start .args .norm) (start .args .row .now)) (then (c .before .before .before .before .before .before .before .before .before .before .before .before .before .before .put-two-labelled .ensures) (then (c .before .before .before .before .before .before .before .before .before .before .put-byte .ensures) (then (c .before .before .before .before .before .before .put-prime-or-row .ensures) (c .before .before .put-byte2 .ensures))))
     (omega arith) (kind-is (start .args .kind) (start .args .norm) (start .args .row .now))
 
 pub put-kind-spec : {M : Type 1} → statement M
@@ -51,10 +45,8 @@ put-kind-spec =
     slice-aggregate-put-two-labelled
     slice-aggregate-put-two-labelled-2
     put-two-labelled-requires
-    slice-aggregate-put-bytes
-    put-bytes-requires
+    put-byte-requires
     put-prime-or-row-requires
-    slice-aggregate-put-bytes-2
-    put-bytes-requires-2
+    put-byte-requires-2
     same-length
     returns)

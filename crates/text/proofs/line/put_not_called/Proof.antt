@@ -16,11 +16,8 @@ slice-aggregate-put-labelled c = search needs
 put-labelled-requires : tie.Need-put-labelled-requires
 put-labelled-requires c κs = search needs
 
-slice-aggregate-put-bytes : tie.Need-slice-aggregate-put-bytes
-slice-aggregate-put-bytes c = search needs
-
-put-bytes-requires : tie.Need-put-bytes-requires
-put-bytes-requires c κs = search needs
+put-byte-requires : tie.Need-put-byte-requires
+put-byte-requires c κs = search needs
 
 put-refused-requires : tie.Need-put-refused-requires
 put-refused-requires c κs = search needs
@@ -31,8 +28,8 @@ same-length c = search needs
 returns : tie.Need-returns
 unfolding bytes
 returns c =
-    let start = c .before .before .before .before .before .before .before .before .before .before .before .before .before .before .before in
-    reads-as 80 (pairText (start .args .later) (refused (start .args .number) (start .args .place))) (then (c .before .before .before .before .before .before .before .before .before .before .before .put-labelled .ensures) (then (c .before .before .before .before .before .before .put-bytes .ensures) (c .before .before .put-refused .ensures)))
+    let start = c .before .before .before .before .before .before .before .before .before .before .before .before .before .before in
+    reads-as 80 (pairText (start .args .later) (refused (start .args .number) (start .args .place))) (then (c .before .before .before .before .before .before .before .before .before .before .put-labelled .ensures) (then (c .before .before .before .before .before .before .put-byte .ensures) (c .before .before .put-refused .ensures)))
     (omega arith) (not-called-is (start .args .later) (start .args .number) (start .args .place))
 
 pub put-not-called-spec : {M : Type 1} → statement M
@@ -41,8 +38,7 @@ put-not-called-spec =
     (tie.spec
     slice-aggregate-put-labelled
     put-labelled-requires
-    slice-aggregate-put-bytes
-    put-bytes-requires
+    put-byte-requires
     put-refused-requires
     same-length
     returns)
