@@ -41,7 +41,7 @@ pub fn write_page(s: &[u8], out: &mut [u8]) -> Writing
     ensures { λ r. ⌜ writingOf r ≡ writePageOf (now (s .entry)) (now (out .entry)) .answer ⌝ }
     ensures { λ r. ⌜ now (out .exit) ≡ writePageOf (now (s .entry)) (now (out .entry)) .lent ⌝ }
 {
-    let mut page = [0u8; PAGE];
+    let mut page = blank();
     let end = put_page(&mut page, input_part(s));
     if out.len() < end {
         return Writing::Refused {
@@ -51,6 +51,11 @@ pub fn write_page(s: &[u8], out: &mut [u8]) -> Writing
     }
     let length = put_bytes(out, 0, &page[..end]);
     Writing::Written { length }
+}
+
+// A page with nothing on it: a caller's proof does not see its bytes.
+fn blank() -> [u8; PAGE] {
+    [0u8; PAGE]
 }
 
 // The bytes that the page goes by.
