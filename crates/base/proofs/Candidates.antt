@@ -8,17 +8,17 @@ use native.Mathlib.Omega.{arith}
 use Rattle.model.specs.Field.{Field, unit}
 use Rattle.model.specs.Card.{Line, Card, On}
 use Rattle.model.specs.Norm.{kindNorm, norm}
-use Rattle.model.specs.Expansion.{Expands}
-use Rattle.model.specs.Stage.{Lowers}
+use Rattle.theory.specs.Expansion.{Expands}
+use Rattle.theory.specs.Stages.{Lowers}
 use Rattle.model.specs.Base.{stageRow, stageForm}
-use Rattle.model.specs.Terms.{OfKinds, Earlier, Before}
+use Rattle.theory.specs.Terms.{OfKinds, Earlier, Before}
 use Rattle.model.specs.Sheet.{kindCount, lineOf, cardOf}
 use Rattle.model.specs.Refusal.{Accepted}
-use Rattle.model.proofs.Field.{unit-same, weigh-plus, weigh-unit}
-use Rattle.model.proofs.Base.{unit-some}
-use Rattle.model.proofs.Certified.{Found}
-use Rattle.model.proofs.Program.{Equal, Candidate, row-candidate, test-one, test-next}
-use Rattle.model.proofs.Sheets.{certified}
+use Rattle.theory.proofs.Field.{unit-same, weigh-plus, weigh-unit}
+use Rattle.theory.proofs.Base.{unit-some}
+use Rattle.theory.proofs.Certified.{Found}
+use Rattle.theory.proofs.Program.{Equal, Candidate, row-candidate, test-one, test-next}
+use Rattle.theory.proofs.Sheets.{certified}
 use Rattle.base.proofs.Forms.{earlier-iff, earlier-not, lowers-before, lowers-norm, left-kinds, unit-kinds, count-most, form-unit, form-self, form-before, form-atoms, form-norm, form-next, form-plus, row-sort}
 use Rattle.base.specs.Stage.{LowersAt, Told, Match}
 use Rattle.base.proofs.Lines.{line-lowers, every-lowering, kind-of}

@@ -9,14 +9,14 @@ use lib.ListN.{getD, replicate}
 use Rattle.model.specs.Field.{Field, _⊕_, unit}
 use Rattle.model.specs.Card.{Line, Card, On}
 use Rattle.model.specs.Norm.{kindNorm}
-use Rattle.model.specs.Expansion.{Expands}
+use Rattle.theory.specs.Expansion.{Expands}
 use Rattle.model.specs.Base.{stageRow, stageForm}
-use Rattle.model.specs.Terms.{OfKinds}
+use Rattle.theory.specs.Terms.{OfKinds}
 use Rattle.model.specs.Sheet.{lineCount, lineOf, cardOf}
 use Rattle.model.specs.Refusal.{Accepted}
-use Rattle.model.proofs.Certified.{Found}
-use Rattle.model.proofs.Program.{Equal, effects, test-next}
-use Rattle.model.proofs.Sheets.{certified}
+use Rattle.theory.proofs.Certified.{Found}
+use Rattle.theory.proofs.Program.{Equal, effects, test-next}
+use Rattle.theory.proofs.Sheets.{certified}
 use Rattle.base.specs.Stage.{Match, Classes, BoundsAt, SameUses}
 use Rattle.base.proofs.Tables.{zero-counts}
 use Rattle.base.proofs.Forms.{unit-kinds, form-plus, form-unit}

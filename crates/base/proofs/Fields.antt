@@ -10,7 +10,7 @@ use Rattle.model.specs.Field.{Field, weigh, at}
 use Rattle.model.specs.Norm.{norm}
 use Rattle.model.specs.Sheet.{kindCount, u16At, fieldsOffset, cardOf, fieldOf}
 use Rattle.model.specs.Refusal.{Accepted}
-use Rattle.model.specs.Widths.{Bytes}
+use Rattle.theory.specs.Widths.{Bytes}
 use Rattle.sheet.specs.Reader.{Reads, fieldCounts}
 use Rattle.sheet.specs.declared.reader.Card.{Card}
 use Rattle.sheet.proofs.Counts.{counts-past}

@@ -9,22 +9,23 @@ use lib.Dec.{T}
 use Rattle.model.specs.Field.{Field, _⊕_, unit, weigh}
 use Rattle.model.specs.Card.{Line, Card}
 use Rattle.model.specs.Norm.{kindNorm, norm}
-use Rattle.model.specs.Stage.{Lowers, equalNorm, stage}
+use Rattle.model.specs.Stage.{equalNorm, stage}
+use Rattle.theory.specs.Stages.{Lowers}
 use Rattle.model.specs.Base.{earlier, formAt, stageRow, stageForm}
-use Rattle.model.specs.Terms.{OfKinds, Earlier, Before}
-use Rattle.model.proofs.Field.{unit-same, weigh-plus, weigh-unit, weigh-part, weigh-some, weigh-weights}
-use Rattle.model.proofs.Normed.{Normed}
-use Rattle.model.proofs.Stages.{level, level-cong}
-use Rattle.model.proofs.Rank.{Within, decomp, decomp-self, low-within, rank}
-use Rattle.model.proofs.Base.{unit-some, form-within, form-rel}
-use Rattle.model.proofs.Settle.{tidy-within}
-use Rattle.model.proofs.Decide.{Finite}
-use Rattle.model.proofs.Count.{past, past-whole, level-low, level-base}
-use Rattle.model.proofs.Certified.{Found}
-use Rattle.model.proofs.Rows.{finite, order-iff, tells-earlier}
-use Rattle.model.proofs.Plain.{plain, tidy, tells-equal, stages}
-use Rattle.model.proofs.Settling.{base, row-of, within, before}
-use Rattle.model.proofs.Program.{theirs, test-next}
+use Rattle.theory.specs.Terms.{OfKinds, Earlier, Before}
+use Rattle.theory.proofs.Field.{unit-same, weigh-plus, weigh-unit, weigh-part, weigh-some, weigh-weights}
+use Rattle.theory.proofs.Normed.{Normed}
+use Rattle.theory.proofs.Stages.{level, level-cong}
+use Rattle.theory.proofs.Rank.{Within, decomp, decomp-self, low-within, rank}
+use Rattle.theory.proofs.Base.{unit-some, form-within, form-rel}
+use Rattle.theory.proofs.Settle.{tidy-within}
+use Rattle.theory.proofs.Decide.{Finite}
+use Rattle.theory.proofs.Count.{past, past-whole, level-low, level-base}
+use Rattle.theory.proofs.Certified.{Found}
+use Rattle.theory.proofs.Rows.{finite, order-iff, tells-earlier}
+use Rattle.theory.proofs.Plain.{plain, tidy, tells-equal, stages}
+use Rattle.theory.proofs.Settling.{base, row-of, within, before}
+use Rattle.theory.proofs.Program.{theirs, test-next}
 
 -- Rows count only where the field has tokens: tables that agree on the kinds that the field holds give it one form.
 pub form-rows : (n : ℕ) (rows others : ℕ → Field) (a : Field) → ((k : ℕ) → k < n → 0 < a k → rows k ≡ others k)

@@ -10,7 +10,7 @@ use lib.ListN.{length, take}
 use lib.Seq.{getD-take, length-take-le}
 use Rattle.model.specs.Field.{Field, _⊕_, unit, at}
 use Rattle.model.specs.Base.{stageRow, stageForm}
-use Rattle.model.specs.Terms.{Settled}
+use Rattle.theory.specs.Terms.{Settled}
 use Rattle.model.specs.Sheet.{kindCount, lineCount, lineOf, cardOf}
 use Rattle.model.specs.Limits.{mostLines}
 use Rattle.model.specs.Refusal.{Accepted}

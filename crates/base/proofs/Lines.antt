@@ -5,10 +5,10 @@ use Prim.Native.Nat.{ℕ, _+_, _<_}
 use native.Mathlib.Omega.{arith}
 use Rattle.model.specs.Card.{Line, On}
 use Rattle.model.specs.Norm.{kindNorm, norm}
-use Rattle.model.specs.Stage.{Lowers}
+use Rattle.theory.specs.Stages.{Lowers}
 use Rattle.model.specs.Sheet.{kindCount, lineCount, lineOf, cardOf}
 use Rattle.base.specs.Stage.{LowersAt}
-use Rattle.model.proofs.Lists.{from-mem}
+use Rattle.theory.proofs.Lists.{from-mem}
 use Rattle.sheet.proofs.Laws.{on-line}
 
 module _ (s : List ℕ) where

@@ -7,16 +7,16 @@ use native.Mathlib.Omega.{arith}
 use Rattle.model.specs.Field.{Field, _⊕_, unit}
 use Rattle.model.specs.Card.{Line, Card, fire}
 use Rattle.model.specs.Norm.{kindNorm}
-use Rattle.model.specs.Expansion.{Expands}
-use Rattle.model.specs.Stage.{Lowers}
+use Rattle.theory.specs.Expansion.{Expands}
+use Rattle.theory.specs.Stages.{Lowers}
 use Rattle.model.specs.Base.{stageForm}
 use Rattle.model.specs.Sheet.{lineOf, cardOf}
 use Rattle.model.specs.Refusal.{Accepted}
-use Rattle.model.proofs.Field.{unit-same}
-use Rattle.model.proofs.Base.{unit-some}
-use Rattle.model.proofs.Certified.{Found}
-use Rattle.model.proofs.Program.{Equal, form-fire}
-use Rattle.model.proofs.Sheets.{certified}
+use Rattle.theory.proofs.Field.{unit-same}
+use Rattle.theory.proofs.Base.{unit-some}
+use Rattle.theory.proofs.Certified.{Found}
+use Rattle.theory.proofs.Program.{Equal, form-fire}
+use Rattle.theory.proofs.Sheets.{certified}
 use Rattle.base.specs.Stage.{Leave, LowersAlike}
 use Rattle.base.proofs.Lines.{line-lowers, every-lowering, some-lowering}
 use Rattle.base.proofs.Candidates.{Product}

@@ -12,7 +12,7 @@ use lib.ListN.{length, getD, set, take, drop, replicate, length-set, length-take
 use lib.Seq.{getD-set-same, getD-set-other, getD-take, getD-drop, length-take-le, ext-getD}
 use Rattle.model.specs.Field.{Field, unit, at}
 use Rattle.model.specs.Limits.{mostKinds, mostLines}
-use Rattle.model.proofs.Base.{unit-some}
+use Rattle.theory.proofs.Base.{unit-some}
 use Rattle.base.specs.Table.{Under}
 use Rattle.base.specs.Class.{MayUse, MayUseAlike, MarksTell, marksPart, KindMarks}
 use Rattle.base.proofs.Tables.{tells-same, tells-other, past, unit-here}

@@ -10,9 +10,9 @@ use Rattle.model.specs.Norm.{kindNorm}
 use Rattle.model.specs.Base.{roundsAt, settledStage, settledRow, settledForm}
 use Rattle.model.specs.Sheet.{kindCount, fieldCount, cardOf, fieldOf}
 use Rattle.model.specs.Refusal.{Accepted}
-use Rattle.model.specs.Widths.{Bytes}
+use Rattle.theory.specs.Widths.{Bytes}
 use Rattle.model.specs.Answer.{given, same, different, compareOf, primeForm, tableOf}
-use Rattle.model.proofs.Settling.{sheet-settles}
+use Rattle.theory.proofs.Settling.{sheet-settles}
 use Rattle.base.specs.Table.{rowIn, formIn}
 use Rattle.base.specs.Stage.{BaseAt}
 use Rattle.base.specs.Settle.{PartedAt, FieldsFit}

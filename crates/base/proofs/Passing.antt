@@ -8,7 +8,7 @@ use Rattle.model.specs.Field.{Field, unit}
 use Rattle.model.specs.Base.{stageRow, stageForm}
 use Rattle.model.specs.Sheet.{kindCount, lineCount, lineOf, cardOf}
 use Rattle.model.specs.Refusal.{Accepted}
-use Rattle.model.proofs.Sheets.{certified}
+use Rattle.theory.proofs.Sheets.{certified}
 use Rattle.base.specs.Stage.{Told, LowersAlike, Classes, SameUses}
 use Rattle.base.proofs.Forms.{form-unit}
 use Rattle.base.proofs.Lines.{line-on, kind-of}

@@ -14,7 +14,7 @@ use lib.Seq.{getD-set-same, getD-set-other}
 use Rattle.model.specs.Field.{Field, unit, at}
 use Rattle.model.specs.Limits.{mostKinds}
 use Rattle.model.specs.Base.{earlier}
-use Rattle.model.proofs.Field.{unit-same, unit-other}
+use Rattle.theory.proofs.Field.{unit-same, unit-other}
 use Rattle.base.specs.Table.{rowPart, rowIn, IsCandidate}
 use Rattle.base.specs.Class.{MayUseAlike}
 use Rattle.base.specs.Answer.{AllAnswered}

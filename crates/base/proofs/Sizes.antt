@@ -5,14 +5,14 @@ use native.Mathlib.Bridge.{le-by-compare, IsLe}
 use native.Mathlib.Omega.{arith}
 use Rattle.model.specs.Field.{Field}
 use Rattle.model.specs.Base.{stageRow, stageForm}
-use Rattle.model.specs.Terms.{OfKinds}
+use Rattle.theory.specs.Terms.{OfKinds}
 use Rattle.model.specs.Sheet.{kindCount, lineCount, lineOf, cardOf, fieldOf}
 use Rattle.model.specs.Limits.{normLimit}
 use Rattle.model.specs.Refusal.{Accepted}
-use Rattle.model.specs.Widths.{Bytes, mostLeftNorm, mostFieldNorm}
-use Rattle.model.proofs.Limits.{limit-of}
-use Rattle.model.proofs.Sheets.{certified, field-kinds}
-use Rattle.model.proofs.Widths.{widths}
+use Rattle.theory.specs.Widths.{Bytes, mostLeftNorm, mostFieldNorm}
+use Rattle.theory.proofs.Limits.{limit-of}
+use Rattle.theory.proofs.Sheets.{certified, field-kinds}
+use Rattle.theory.proofs.Widths.{widths}
 use Rattle.base.proofs.Forms.{row-count, form-count}
 use Rattle.base.proofs.Lines.{line-on, kind-of}
 use Rattle.base.proofs.Candidates.{Product}

@@ -17,8 +17,8 @@ use Rattle.model.specs.Limits.{mostKinds, mostLines}
 use Rattle.model.specs.Norm.{kindNorm, norm}
 use Rattle.model.specs.Refusal.{Accepted}
 use Rattle.model.specs.Sheet.{kindCount, lineCount, lineOf, cardOf}
-use Rattle.model.specs.Terms.{Earlier}
-use Rattle.model.proofs.Sheets.{certified}
+use Rattle.theory.specs.Terms.{Earlier}
+use Rattle.theory.proofs.Sheets.{certified}
 use Rattle.sheet.specs.declared.reader.Card.{Card}
 use Rattle.sheet.specs.Reader.{Reads}
 use Rattle.sheet.proofs.Laws.{kinds-are, kinds-most, lines-are, lines-most, kind-under}

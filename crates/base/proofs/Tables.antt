@@ -13,7 +13,7 @@ use lib.ListN.{length, getD, set, take, drop, replicate, List·getD-eq-default, 
 use lib.Seq.{getD-set-same, getD-set-other, getD-take, getD-drop, getD-append-add, length-take-le, take-all, paste, paste-zero, paste-suc, length-paste, take-length}
 use Rattle.model.specs.Field.{Field, none, _⊕_, times, unit, at, weigh}
 use Rattle.model.specs.Limits.{mostKinds}
-use Rattle.model.proofs.Field.{unit-same, unit-other, weigh-next, weigh-weights}
+use Rattle.theory.proofs.Field.{unit-same, unit-other, weigh-next, weigh-weights}
 use Rattle.base.specs.Table.{Under, rowPart, rowIn, Atoms, formIn, withRow, IsCandidate}
 
 -- Equal fields have equal counts.

@@ -8,7 +8,7 @@ use native.Mathlib.Decide.{decLt}
 use native.Mathlib.Omega.{arith}
 use lib.ListN.{length, take}
 use Rattle.model.specs.Base.{settledStage}
-use Rattle.model.specs.Terms.{Settled}
+use Rattle.theory.specs.Terms.{Settled}
 use Rattle.model.specs.Sheet.{kindCount, cardOf}
 use Rattle.model.specs.Refusal.{Accepted}
 use Rattle.sheet.specs.Reader.{Reads}

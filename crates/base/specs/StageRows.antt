@@ -7,7 +7,7 @@ use lib.ListN.{length}
 use Rattle.model.specs.Field.{at}
 use Rattle.model.specs.Base.{stageRow, stageForm}
 use Rattle.model.specs.Sheet.{kindCount, lineCount, lineOf, cardOf}
-use Rattle.model.specs.Terms.{Earlier}
+use Rattle.theory.specs.Terms.{Earlier}
 use Rattle.sheet.specs.declared.reader.Card.{Card}
 use Rattle.norms.specs.Norms.{Accepts}
 use Rattle.base.specs.Table.{Under, rowIn, Atoms}

@@ -12,12 +12,12 @@ use Rattle.model.specs.Base.{gain, settledStage}
 use Rattle.model.specs.Sheet.{kindCount, fieldCount, cardOf}
 use Rattle.model.specs.Limits.{Limits}
 use Rattle.model.specs.Refusal.{refusal, firstOf, acceptChecks, Accepted, settleChecks, compareChecks, formChecks}
-use Rattle.model.specs.Widths.{Bytes}
+use Rattle.theory.specs.Widths.{Bytes}
 use Rattle.model.specs.Answer.{refused, given, Lent, different, settleOf, compareOf, formOf, tableOf, primeForm, written}
-use Rattle.model.proofs.Lists.{length-from, getD-from}
-use Rattle.model.proofs.Checks.{first-left, first-right}
-use Rattle.model.proofs.Answers.{demand1, table-length}
-use Rattle.model.proofs.Meanings.{meanings}
+use Rattle.theory.proofs.Lists.{length-from, getD-from}
+use Rattle.theory.proofs.Checks.{first-left, first-right}
+use Rattle.theory.proofs.Answers.{demand1, table-length}
+use Rattle.theory.proofs.Meanings.{meanings}
 use Rattle.sheet.proofs.Checking.{past-stops, past-passes, less-stops}
 use Rattle.base.specs.Stage.{BaseAt}
 use Rattle.filer.specs.Settlement.{tableIn}

@@ -11,20 +11,20 @@ use lib.Seq.{take-at}
 use Rattle.model.specs.Field.{Field, unit, at}
 use Rattle.model.specs.Card.{Live}
 use Rattle.model.specs.Base.{settledStage, settledRow}
-use Rattle.model.specs.Game.{Always, Answered}
+use Rattle.theory.specs.Game.{Always, Answered}
 use Rattle.model.specs.Sheet.{kindCount, fieldCount, cardOf, fieldOf}
 use Rattle.model.specs.Limits.{Limits}
 use Rattle.model.specs.Refusal.{Accepted, Finding, clear, refusal, firstOf, settleChecks, compareChecks, formChecks}
-use Rattle.model.specs.Terms.{Before, BaseOf, Stage, Settled as IsSettled}
-use Rattle.model.specs.Meanings.{Settles}
-use Rattle.model.specs.Demands.{Demand2, Demand3}
+use Rattle.theory.specs.Terms.{Before, BaseOf, Stage, Settled as IsSettled}
+use Rattle.theory.specs.Meanings.{Settles}
+use Rattle.theory.specs.Demands.{Demand2, Demand3}
 use Rattle.model.specs.Answer.{Answer, refused, given, Lent, same, different, settleOf, compareOf, formOf, rowOf, rowCheckOf, tableOf, primeForm, written}
-use Rattle.model.proofs.Lists.{length-from}
-use Rattle.model.proofs.Field.{unit-other}
-use Rattle.model.proofs.Sheets.{field-kinds}
-use Rattle.model.proofs.Answers.{demand1, table-length}
-use Rattle.model.proofs.Demands.{demands}
-use Rattle.model.proofs.Meanings.{meanings}
+use Rattle.theory.proofs.Lists.{length-from}
+use Rattle.theory.proofs.Field.{unit-other}
+use Rattle.theory.proofs.Sheets.{field-kinds}
+use Rattle.theory.proofs.Answers.{demand1, table-length}
+use Rattle.theory.proofs.Demands.{demands}
+use Rattle.theory.proofs.Meanings.{meanings}
 use Rattle.filer.specs.Answers.{settlingOf, findingOf, verdictOf, formingOf}
 use Rattle.filer.specs.Promises.{SettleAnswers, SettleMeans, RowAnswers, CompareAnswers, CompareMeans, CompareGames, FormAnswers, FormMeans, Promises}
 use Rattle.filer.specs.declared.answers.Settling.{Settling}

@@ -11,9 +11,9 @@ use Rattle.model.specs.Field.{at}
 use Rattle.model.specs.Limits.{mostKinds}
 use Rattle.model.specs.Refusal.{clear, refusal, outside, rowChecks}
 use Rattle.model.specs.Answer.{rowOf, rowCheckOf}
-use Rattle.model.proofs.Sheets.{clear-cons, clear-nil, small, not-small, not-less}
-use Rattle.model.proofs.Checks.{not-outside, from-outside, from-less, cons-none}
-use Rattle.model.proofs.Answers.{demand1}
+use Rattle.theory.proofs.Sheets.{clear-cons, clear-nil, small, not-small, not-less}
+use Rattle.theory.proofs.Checks.{not-outside, from-outside, from-less, cons-none}
+use Rattle.theory.proofs.Answers.{demand1}
 use Rattle.sheet.proofs.Checking.{test-stops, test-passes, past-stops, past-passes, less-stops}
 
 -- Kinds in range.

@@ -10,7 +10,7 @@ use Rattle.model.specs.Norm.{kindNorm}
 use Rattle.model.specs.Base.{roundsAt}
 use Rattle.model.specs.Sheet.{kindCount, fieldCount, cardOf, fieldOf}
 use Rattle.model.specs.Refusal.{Finding, clear, refusal, firstOf, acceptChecks, Accepted}
-use Rattle.model.specs.Widths.{Bytes}
+use Rattle.theory.specs.Widths.{Bytes}
 use Rattle.model.specs.Answer.{refused, given, same, different, settleOf, compareOf, formOf, written}
 use Rattle.sheet.specs.declared.reader.Card.{Card}
 use Rattle.sheet.specs.declared.checks.Checked.the-variants.{Passed, Refused}

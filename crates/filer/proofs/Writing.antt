@@ -11,7 +11,7 @@ use lib.Seq.{paste, paste-zero, paste-suc, length-paste, take-length}
 use Rattle.model.specs.Limits.{mostKinds}
 use Rattle.model.specs.Field.{at}
 use Rattle.model.specs.Answer.{written}
-use Rattle.model.proofs.Lists.{length-from, getD-from}
+use Rattle.theory.proofs.Lists.{length-from, getD-from}
 use Rattle.base.specs.Table.{rowIn}
 use Rattle.base.proofs.Tables.{row-at}
 use Rattle.filer.specs.Settlement.{tableIn}

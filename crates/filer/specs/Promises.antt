@@ -7,13 +7,13 @@ use lib.ListN.{length, take, drop}
 use Rattle.model.specs.Field.{unit, at}
 use Rattle.model.specs.Card.{On}
 use Rattle.model.specs.Norm.{IsNorm}
-use Rattle.model.specs.Expansion.{Expands, Bisimilar}
+use Rattle.theory.specs.Expansion.{Expands, Bisimilar}
 use Rattle.model.specs.Base.{roundsFor, settledStage}
-use Rattle.model.specs.Game.{Holds, Always, Parting, Parted, Strategy, Answered, Challenge}
+use Rattle.theory.specs.Game.{Holds, Always, Parting, Parted, Strategy, Answered, Challenge}
 use Rattle.model.specs.Sheet.{kindCount, fieldCount, cardOf, fieldOf}
 use Rattle.model.specs.Limits.{Limits}
 use Rattle.model.specs.Refusal.{Accepted, refusal, firstOf, settleChecks, compareChecks, formChecks}
-use Rattle.model.specs.Terms.{IsGain, Stage, BaseOf, Prime, Settled as IsSettled}
+use Rattle.theory.specs.Terms.{IsGain, Stage, BaseOf, Prime, Settled as IsSettled}
 use Rattle.model.specs.Answer.{settleOf, compareOf, formOf, rowOf, rowCheckOf, tableOf, primeForm, written}
 use Rattle.filer.specs.Answers.{settlingOf, findingOf, verdictOf, formingOf}
 use Rattle.filer.specs.declared.answers.Settling.{Settling}

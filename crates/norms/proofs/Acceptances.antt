@@ -14,10 +14,10 @@ use Rattle.model.specs.Norm.{kindNorm}
 use Rattle.model.specs.Sheet.{kindCount, cardOf}
 use Rattle.model.specs.Limits.{mostKinds, normLimit}
 use Rattle.model.specs.Refusal.{Check, check, Finding, clear, refusal, firstOf, sheetChecks, normChecks, acceptChecks, Accepted}
-use Rattle.model.proofs.Lists.{least-cases}
-use Rattle.model.proofs.Checks.{each-clear, first-of-each, first-left, first-right}
-use Rattle.model.proofs.Sheets.{sheet-clear}
-use Rattle.model.proofs.Limits.{limit-of}
+use Rattle.theory.proofs.Lists.{least-cases}
+use Rattle.theory.proofs.Checks.{each-clear, first-of-each, first-left, first-right}
+use Rattle.theory.proofs.Sheets.{sheet-clear}
+use Rattle.theory.proofs.Limits.{limit-of}
 use Rattle.sheet.specs.Reader.{headerOf, Reads, outcome, checkedOf}
 use Rattle.sheet.specs.declared.reader.Card.{Card}
 use Rattle.sheet.specs.declared.checks.Checked.the-variants.{Passed, Refused}

@@ -9,9 +9,9 @@ use borrow.Author.Count.{below-more}
 use lib.Dec.{T}
 use Rattle.model.specs.Field.{Field, weigh}
 use Rattle.model.specs.Norm.{ready}
-use Rattle.model.proofs.Exec.{Tells}
-use Rattle.model.proofs.Field.{weigh-next}
-use Rattle.model.proofs.Sweeps.{Ready, tells-ready}
+use Rattle.theory.proofs.Exec.{Tells}
+use Rattle.theory.proofs.Field.{weigh-next}
+use Rattle.theory.proofs.Sweeps.{Ready, tells-ready}
 
 -- A sum over fewer kinds is no more than one over all.
 pub weigh-prefix : (i n : ℕ) (w : ℕ → ℕ) (a : Field) → i ≤ n → weigh i w a ≤ weigh n w a

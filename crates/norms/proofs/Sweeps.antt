@@ -12,8 +12,8 @@ use Rattle.model.specs.Card.{Line}
 use Rattle.model.specs.Norm.{best, sweeps}
 use Rattle.model.specs.Sheet.{kindCount, counts, lineOf, cardOf}
 use Rattle.model.specs.Limits.{mostKinds, normLimit}
-use Rattle.model.proofs.Cut.{cutSweeps, cut-sweeps, cut-norm}
-use Rattle.model.proofs.Sweeps.{value-kind}
+use Rattle.theory.proofs.Cut.{cutSweeps, cut-sweeps, cut-norm}
+use Rattle.theory.proofs.Sweeps.{value-kind}
 use Rattle.sheet.specs.Reader.{Reads}
 use Rattle.sheet.specs.declared.reader.Card.{Card}
 use Rattle.sheet.proofs.Counts.{counts-below, counts-past, at-counts, from-set, counts-none}

@@ -16,8 +16,8 @@ use Rattle.model.specs.Sheet.{kindCount, fieldCount, cardOf, fieldOf}
 use Rattle.model.specs.Refusal.{refusal, firstOf, acceptChecks, Accepted}
 use Rattle.model.specs.Answer.{refused, given, written, rowOf, formOf, tableOf, primeForm}
 use Rattle.model.specs.Page.{refusedLine, lines, pageOf, printed}
-use Rattle.model.proofs.Lists.{length-from}
-use Rattle.model.proofs.Answers.{demand1}
+use Rattle.theory.proofs.Lists.{length-from}
+use Rattle.theory.proofs.Answers.{demand1}
 use Rattle.sheet.specs.declared.reader.Card.{Card}
 use Rattle.sheet.specs.declared.checks.Checked.the-variants.{Refused}
 use Rattle.sheet.proofs.Laws.{kinds-are, fields-are}

@@ -14,8 +14,8 @@ use Rattle.model.specs.Finite.{both}
 use Rattle.model.specs.Field.{Field, unit, at}
 use Rattle.model.specs.Card.{fire}
 use Rattle.model.specs.Sheet.{byte, u16At, kindCount, lineCount, fieldsOffset, linesOffset, counts, lineOf, fieldOf}
-use Rattle.model.proofs.Exec.{Tells, tells-lt}
-use Rattle.model.proofs.Field.{unit-same, unit-other}
+use Rattle.theory.proofs.Exec.{Tells, tells-lt}
+use Rattle.theory.proofs.Field.{unit-same, unit-other}
 use Rattle.player.specs.Says.{Fits, After}
 
 -- The counts of n kinds: those read below n, none from n on.

@@ -10,11 +10,11 @@ use lib.Dec.{ltb, eqb}
 use Rattle.model.specs.Finite.{both}
 use Rattle.model.specs.Field.{Field}
 use Rattle.model.specs.Card.{Line, Card, On, fire}
-use Rattle.model.specs.Expansion.{Reply, Simulates}
-use Rattle.model.specs.Game as model
+use Rattle.theory.specs.Expansion.{Reply, Simulates}
+use Rattle.theory.specs.Game as model
 use Rattle.model.specs.Sheet.{lineCount, lineOf, cardOf}
-use Rattle.model.proofs.Lists.{mem-from, from-mem}
-use Rattle.model.proofs.Moves.{sim-mono, expands-sym}
+use Rattle.theory.proofs.Lists.{mem-from, from-mem}
+use Rattle.theory.proofs.Moves.{sim-mono, expands-sym}
 use Rattle.player.specs.declared.game.Play.{Play}
 use Rattle.player.specs.declared.game.Play.the-variants.{Holds, Fails, Unplayed}
 use Rattle.player.specs.declared.game.Tried.the-variants.{Parted, Held}

@@ -5,8 +5,8 @@ use Prim.Native.Nat.{ℕ, _+_, _-_, _*_, _≤_, _<_}
 use lib.ListN.{length}
 use Rattle.model.specs.Field.{Field, at}
 use Rattle.model.specs.Card.{On, fire}
-use Rattle.model.specs.Expansion.{Reply}
-use Rattle.model.specs.Game as model
+use Rattle.theory.specs.Expansion.{Reply}
+use Rattle.theory.specs.Game as model
 use Rattle.model.specs.Sheet.{kindCount, lineOf, cardOf}
 use Rattle.player.specs.declared.game.Play.{Play}
 use Rattle.player.specs.declared.game.Play.the-variants.{Holds, Fails, Unplayed}

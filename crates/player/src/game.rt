@@ -13,8 +13,8 @@ ghost use lib.Dec.{ltb, eqb};
 ghost use Rattle.model.specs.Finite.{both};
 ghost use Rattle.model.specs.Field.{unit, at};
 ghost use Rattle.model.specs.Card.{On};
-ghost use Rattle.model.specs.Expansion.{Reply, Simulates};
-ghost use Rattle.model.specs.Game as model;
+ghost use Rattle.theory.specs.Expansion.{Reply, Simulates};
+ghost use Rattle.theory.specs.Game as model;
 ghost use Rattle.model.specs.Sheet.{kindCount, lineOf, cardOf, fieldOf};
 ghost use Rattle.player.specs.Says.{Fits, After, Says, AnsweredBy, Answers, Finds};
 

@@ -7,9 +7,9 @@ use native.Mathlib.Omega.{arith}
 use lib.Dec.{T, ltb, lt→ltb, eqb}
 use Rattle.model.specs.Sheet.{kindCount, codeCount, lineCount, lineOf}
 use Rattle.model.specs.Refusal.{Check, check, Finding, clear, refusal, firstOf, differ, headerChecks, lineChecks, sheetChecks}
-use Rattle.model.proofs.Exec.{Tells, tells-lt, tells-eq}
-use Rattle.model.proofs.Sheets.{not-small, not-less, clear-nil}
-use Rattle.model.proofs.Checks.{not-differ, all-clear, first-left, first-right, first-here, first-later, first-of-all}
+use Rattle.theory.proofs.Exec.{Tells, tells-lt, tells-eq}
+use Rattle.theory.proofs.Sheets.{not-small, not-less, clear-nil}
+use Rattle.theory.proofs.Checks.{not-differ, all-clear, first-left, first-right, first-here, first-later, first-of-all}
 use Rattle.sheet.specs.declared.reader.Card.{Card}
 use Rattle.sheet.specs.declared.checks.Checked.the-variants.{Passed, Refused}
 use Rattle.sheet.specs.Reader.{headerOf, outcome, checkedOf, numberChecks, layoutChecks}

@@ -12,9 +12,9 @@ use Rattle.model.specs.Card.{Line, On}
 use Rattle.model.specs.Limits.{mostKinds, mostCodes, mostLines, mostFields}
 use Rattle.model.specs.Sheet.{linesOffset, byte, u16At, kindCount, codeCount, lineCount, fieldCount, fieldsOffset, totalOf, counts, lineOf, cardOf, fieldOf}
 use Rattle.model.specs.Refusal.{clear, refusal, firstOf, headerChecks, lineChecks, sheetChecks}
-use Rattle.model.proofs.Lists.{length-from, mem-from, from-mem}
-use Rattle.model.proofs.Sheets.{then, first-append, then-clear, small}
-use Rattle.model.proofs.Checks.{from-outside, from-less, from-differ, cons-none, all-none}
+use Rattle.theory.proofs.Lists.{length-from, mem-from, from-mem}
+use Rattle.theory.proofs.Sheets.{then, first-append, then-clear, small}
+use Rattle.theory.proofs.Checks.{from-outside, from-less, from-differ, cons-none, all-none}
 use Rattle.sheet.specs.declared.reader.Card.{Card}
 use Rattle.sheet.specs.declared.checks.Checked.the-variants.{Passed, Refused}
 use Rattle.sheet.specs.Reader.{headerOf, Reads, checkedOf, lineCounts, fieldCounts, numberChecks, layoutChecks}

@@ -10,7 +10,7 @@ use Rattle.model.specs.Finite.{listFrom, leastFrom}
 use Rattle.model.specs.Field.{Field}
 use Rattle.model.specs.Card.{Line, fire}
 use Rattle.model.specs.Walk.{Seen, tryReplies, tryChallenges}
-use Rattle.model.proofs.Lists.{least-cases}
+use Rattle.theory.proofs.Lists.{least-cases}
 use Rattle.walker.specs.Rounds.{outcome, examined, usable, answers, linesBetween, nextLine}
 use Rattle.walker.specs.declared.game.Examined.{Examined}
 use Rattle.walker.specs.declared.game.Examined.the-variants.{Spent, Holds, Fails}

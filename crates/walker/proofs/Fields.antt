@@ -9,7 +9,7 @@ use lib.Seq.{getD-set-same, getD-set-other}
 use Rattle.model.specs.Field.{Field, unit, _⊕_, at}
 use Rattle.model.specs.Card.{Line, fire}
 use Rattle.model.specs.Limits.{mostRounds}
-use Rattle.model.proofs.Field.{unit-same, unit-other}
+use Rattle.theory.proofs.Field.{unit-same, unit-other}
 use Rattle.sheet.specs.Reader.{Reads, fieldCounts}
 use Rattle.sheet.specs.declared.reader.Card.{Card}
 use Rattle.sheet.proofs.Laws.{Bytes, field-under, field-counts-at}

@@ -13,7 +13,7 @@ use Rattle.model.specs.Field.{Field, at}
 use Rattle.model.specs.Card.{Line}
 use Rattle.model.specs.Limits.{mostCodes, mostLines}
 use Rattle.model.specs.Sheet.{lineCount, lineOf}
-use Rattle.model.proofs.Lists.{least-cases}
+use Rattle.theory.proofs.Lists.{least-cases}
 use Rattle.walker.specs.Rounds.{usable, answers, nextLine}
 use Rattle.walker.specs.Following.{hasCode, Long, RowSet, FollowsFrom, Follows}
 use Rattle.walker.proofs.Searches.{least-next, least-here, least-last, least-over}

@@ -11,8 +11,8 @@ use Rattle.model.specs.Sheet.{fieldCount, cardOf, fieldOf}
 use Rattle.model.specs.Walk.{walk}
 use Rattle.model.specs.Refusal.{Check, check, clear, refusal, firstOf, sheetChecks, walkChecks}
 use Rattle.model.specs.Answer.{Session, within, fullWalk, walkOf}
-use Rattle.model.proofs.Sheets.{not-small, not-less, clear-nil}
-use Rattle.model.proofs.Checks.{first-left, first-right, first-here, first-later}
+use Rattle.theory.proofs.Sheets.{not-small, not-less, clear-nil}
+use Rattle.theory.proofs.Checks.{first-left, first-right, first-here, first-later}
 use Rattle.walker.specs.Answers.{refusedOf}
 
 module _ (s : List ℕ) (i j limit : ℕ) (v : Session) where

@@ -4,7 +4,7 @@ use Prim.Native.Nat.{_-_, _≤_}
 use native.Mathlib.Omega.{arith}
 use lib.ListN.{length}
 use Rattle.model.specs.Field.{_⊕_, unit, at}
-use Rattle.model.proofs.Field.{unit-other}
+use Rattle.theory.proofs.Field.{unit-other}
 use Rattle.base.proofs.Tables.{Agree, agree-none, agree-more, agree-all, tells-same, differ, past}
 use Rattle.base.proofs.effect.leaves_equal.Statement.{statement}
 use Rattle.base.proofs.effect.leaves_equal.Tie as tie

@@ -1,7 +1,7 @@
 -- One token of a kind has one of that kind and none of any other.
 use mathlib.Core.Path.{sym}
 use native.Mathlib.Omega.{arith}
-use Rattle.model.proofs.Field.{unit-other}
+use Rattle.theory.proofs.Field.{unit-other}
 use Rattle.base.proofs.Tables.{unit-here}
 use Rattle.base.proofs.effect.one_of.Statement.{statement}
 use Rattle.base.proofs.effect.one_of.Tie as tie

@@ -2,7 +2,7 @@
 use borrow.Author.Needs.{needs}
 use native.Mathlib.Omega.{arith}
 use mathlib.Core.Path.{_≡_}
-use Rattle.model.specs.Widths.{Bytes}
+use Rattle.theory.specs.Widths.{Bytes}
 use Rattle.sheet.specs.declared.reader.Card.{Card}
 use Rattle.sheet.specs.declared.checks.Checked.the-variants.{Passed}
 use Rattle.sheet.proofs.Laws.{fields-most}

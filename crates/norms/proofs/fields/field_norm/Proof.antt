@@ -2,7 +2,7 @@
 use mathlib.Core.Path.{sym, _∙_}
 use native.Mathlib.Omega.{arith}
 use Rattle.model.specs.Field.{at}
-use Rattle.model.proofs.Field.{weigh-front}
+use Rattle.theory.proofs.Field.{weigh-front}
 use Rattle.norms.proofs.fields.field_norm.Statement.{statement}
 use Rattle.norms.proofs.fields.field_norm.Tie as tie
 

@@ -6,7 +6,7 @@ use Prim.Native.Nat.{ℕ, suc, _-_, _*_, _^_, _≤_}
 use native.Mathlib.Omega.{arith}
 use lib.ListN.{length}
 use Rattle.model.specs.Field.{weigh, at}
-use Rattle.model.proofs.Sweeps.{Ready}
+use Rattle.theory.proofs.Sweeps.{Ready}
 use Rattle.norms.specs.Sweep.{readValue}
 use Rattle.norms.proofs.Bounds.{bytes-fit}
 use Rattle.norms.proofs.Counts.{SumMore, sum-more, sum-same, ready-true, ready-false, ready-more}

@@ -4,7 +4,7 @@ use native.Mathlib.Omega.{arith}
 use Prim.Native.Nat.{ℕ, _-_, _≤_}
 use mathlib.Core.List.{List}
 use mathlib.Core.Path.{refl}
-use Rattle.model.specs.Game.{Holds}
+use Rattle.theory.specs.Game.{Holds}
 use Rattle.model.specs.Sheet.{cardOf, fieldOf}
 use Rattle.player.proofs.Rounds.{says-holds, pair-none, found-parted, found-held}
 use Rattle.player.proofs.game.parting.Statement.{statement}

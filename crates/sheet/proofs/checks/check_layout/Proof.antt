@@ -7,7 +7,7 @@ use lib.ListN.{length, drop}
 use Rattle.model.specs.Limits.{mostKinds, mostLines, mostFields}
 use Rattle.model.specs.Sheet.{u32At, linesOffset, fieldsOffset, totalOf}
 use Rattle.model.specs.Refusal.{firstOf, headerChecks}
-use Rattle.model.proofs.Sheets.{clear-nil}
+use Rattle.theory.proofs.Sheets.{clear-nil}
 use Rattle.sheet.specs.Reader.{layoutChecks}
 use Rattle.sheet.proofs.Laws.{numbers-limits}
 use Rattle.sheet.proofs.Reading.{fields-offset-read, total-read}

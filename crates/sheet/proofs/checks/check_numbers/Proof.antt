@@ -8,7 +8,7 @@ use lib.ListN.{drop}
 use Rattle.model.specs.Limits.{mostKinds, mostCodes, mostLines, mostFields}
 use Rattle.model.specs.Sheet.{kindCount, codeCount, lineCount, fieldCount}
 use Rattle.model.specs.Refusal.{outside, firstOf, headerChecks}
-use Rattle.model.proofs.Sheets.{clear-nil}
+use Rattle.theory.proofs.Sheets.{clear-nil}
 use Rattle.sheet.specs.declared.reader.Card.{Card}
 use Rattle.sheet.specs.Reader.{numberChecks}
 use Rattle.sheet.proofs.Checking.{refuses, passes, test-stops, test-passes, less-stops, less-passes}
