@@ -18,10 +18,10 @@ use Rattle.model.specs.Sheet.{kindCount, cardOf, fieldOf}
 use Rattle.model.specs.Refusal.{Accepted}
 use Rattle.theory.proofs.Lists.{least-cases}
 use Rattle.theory.proofs.Sheets.{certified, field-kinds}
-use Rattle.base.specs.Table.{formIn}
-use Rattle.base.specs.Stage.{BaseAt}
+use Rattle.tables.specs.Table.{formIn}
+use Rattle.rows.specs.Stage.{BaseAt}
 use Rattle.base.specs.Settle.{partedBy}
-use Rattle.base.proofs.StageRows.{base-form}
+use Rattle.rows.proofs.StageRows.{base-form}
 use Rattle.base.proofs.Verdict.{stage-norm, stage-form}
 
 -- The first of m numbers that pass a test, and the same with one number more.

@@ -27,10 +27,10 @@ use Rattle.theory.proofs.Plain.{plain, tells-equal, tells-plain}
 use Rattle.theory.proofs.Settling.{base, row-of, settled-to, sheet-settles, settled-only}
 use Rattle.theory.proofs.Program.{Equal, expands-forms}
 use Rattle.theory.proofs.Sheets.{certified}
-use Rattle.base.specs.Stage.{Classes, SameUses}
-use Rattle.base.proofs.Forms.{unit-kinds, row-kinds, row-equal}
-use Rattle.base.proofs.Lines.{kind-of, kind-in}
-use Rattle.base.proofs.Classes.{classes-expand}
+use Rattle.rows.specs.Stage.{Classes, SameUses}
+use Rattle.rows.proofs.Forms.{unit-kinds, row-kinds, row-equal}
+use Rattle.rows.proofs.Lines.{kind-of, kind-in}
+use Rattle.rows.proofs.Classes.{classes-expand}
 
 module _ (c : Card) (F : Found (c .lines) (c .kinds) (kindNorm c)) (q : ℕ) where
   abbrev w : ℕ → ℕ

@@ -19,7 +19,7 @@ use Rattle.norms.specs.Norms.{Accepts, acceptanceOf}
 use Rattle.norms.specs.declared.accept.Acceptance.{Acceptance}
 use Rattle.norms.proofs.Acceptances.{accepts, refused as found-refused}
 use Rattle.base.specs.declared.settle.Settled.{Settled}
-use Rattle.base.specs.Table.{formIn}
+use Rattle.tables.specs.Table.{formIn}
 use Rattle.base.specs.Settle.{FieldsFit, IsSettled}
 use Rattle.base.proofs.Outcomes.{settled-fit, prime-form, compare-different, compare-same}
 use Rattle.filer.specs.declared.settlement.Settlement.{Settlement}

@@ -12,8 +12,8 @@ use Rattle.model.specs.Limits.{mostKinds}
 use Rattle.model.specs.Field.{at}
 use Rattle.model.specs.Answer.{written}
 use Rattle.theory.proofs.Lists.{length-from, getD-from}
-use Rattle.base.specs.Table.{rowIn}
-use Rattle.base.proofs.Tables.{row-at}
+use Rattle.tables.specs.Table.{rowIn}
+use Rattle.tables.proofs.Tables.{row-at}
 use Rattle.filer.specs.Settlement.{tableIn}
 
 -- The buffer after the first i stores: there is room for all, and there are no more stores than entries.

@@ -3,9 +3,9 @@ ghost use mathlib.Core.Path.{_≡_};
 ghost use Rattle.filer.specs.Settlement.{IsSettlement};
 use base::settle::Settled;
 use base::settle::settle;
-use base::table::Base;
 use norms::accept::accept;
 use sheet::checks::Checked;
+use tables::table::Base;
 
 // What the checks 1 to 10 come to, the norms of the kinds, and what an accepted sheet settles to, with `first` the field that the others are compared with.
 pub struct Settlement {

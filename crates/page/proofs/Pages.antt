@@ -24,7 +24,7 @@ use Rattle.sheet.proofs.Laws.{kinds-are, fields-are}
 use Rattle.norms.specs.Norms.{Accepts}
 use Rattle.norms.proofs.Laws.{norms-at}
 use Rattle.norms.proofs.Acceptances.{refused as checks-refused}
-use Rattle.base.specs.Stage.{BaseAt}
+use Rattle.rows.specs.Stage.{BaseAt}
 use Rattle.filer.specs.Settlement.{IsSettlement, tableIn}
 use Rattle.filer.specs.declared.settlement.Settlement.{Settlement}
 use Rattle.filer.proofs.Calls.{limits, table-is}

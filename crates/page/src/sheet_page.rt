@@ -2,12 +2,12 @@
 use crate::fields::put_fields;
 use crate::kinds::put_kinds;
 use crate::pairs::put_pairs;
-use base::table::Base;
 use filer::settle::write_table;
 use filer::settlement::Settlement;
 use filer::settlement::settle_once;
 use sheet::Card;
 use sheet::checks::Checked;
+use tables::table::Base;
 use text::put_bytes;
 use text::put_head;
 use text::put_refused;
