@@ -21,9 +21,10 @@ use Rattle.model.specs.Limits.{mostKinds, mostRounds}
 use Rattle.model.specs.Refusal.{check, outside, Finding, clear, refusal, firstOf, sheetChecks, normChecks, Accepted, settleChecks, compareChecks, formChecks, walkChecks, rowChecks}
 use Rattle.model.specs.Answer.{Answer, Lent, tableOf, primeForm, refused, given, Session, Walked, same, different, settleOf, rowCheckOf, rowOf, verdict, written, compareOf, formOf, within, fullWalk, walkOf}
 use Rattle.theory.specs.Demands.{Demand1}
+use Rattle.model.proofs.Plain.{plain}
 use Rattle.theory.proofs.Exec.{Tells, tells-lt}
 use Rattle.theory.proofs.Sheets.{first-append, then-clear, certified, clear-cons, clear-nil, clear-none, small, not-small, not-less, call-checks}
-use Rattle.theory.proofs.Checks.{cons-none, from-less, first-right}
+use Rattle.theory.proofs.Checks.{cons-none, not-outside, from-outside, from-less, first-right}
 use Rattle.theory.proofs.Limits.{limits-accepted, accepted-limits}
 use Rattle.theory.proofs.Plain.{settled, verdict-cases}
 use Rattle.theory.proofs.Walks.{walk-not-spent}
@@ -45,27 +46,10 @@ module _ {A : Type 0} (x : A) (r : ℕ → ℕ → A) where
   call-refused clear k p e = never k p e
   call-refused (refusal j q) k p e = let i : j ≡ k = cc in let h : q ≡ p = cc in cc
 
-in-kinds : (n k size : ℕ) → List·Memᴰ (check 2 0 (outside 1 mostKinds n)) (rowChecks n k size)
-unfolding rowChecks
-in-kinds n k size = List·Memᴰ·head refl
-
-in-number : (n k size : ℕ) → List·Memᴰ (check 11 0 (not (ltb k n))) (rowChecks n k size)
-unfolding rowChecks
-in-number n k size = List·Memᴰ·tail (List·Memᴰ·head refl)
-
-in-size : (n k size : ℕ) → List·Memᴰ (check 12 0 (ltb size (n * n))) (rowChecks n k size)
-unfolding rowChecks
-in-size n k size = List·Memᴰ·tail (List·Memᴰ·tail (List·Memᴰ·head refl))
-
--- A table written row by row: its length, and entry j of row k.
+-- A table written row by row: entry j of row k.
 module _ (f : ℕ → ℕ → ℕ) (n : ℕ) where
   Rows : ℕ → ℕ → List ℕ
   Rows i m = concat (listFrom (λ k. listFrom (f k) 0 n) i m)
-
-  rows-length : (i m : ℕ) → length (Rows i m) ≡ m * n
-  unfolding Rows concat listFrom
-  rows-length i zero = omega arith
-  rows-length i (suc m) = length-append (listFrom (f i) 0 n) (Rows (suc i) m) ∙ omega (arith, length-from (f i) 0 n, rows-length (suc i) m)
 
   unroll : (i m : ℕ) (P : List ℕ → Type 0) → P (listFrom (f i) 0 n ++ Rows (suc i) m) → P (Rows i (suc m))
   unfolding Rows concat listFrom
@@ -83,10 +67,6 @@ module _ (f : ℕ → ℕ → ℕ) (n : ℕ) where
       let e : suc k * n + j ≡ length (listFrom (f i) 0 n) + (k * n + j) = omega (arith, length-from (f i) 0 n) in
       let z : i + suc k ≡ suc i + k = omega arith in
       rw (e, z) (unroll i m (λ r. getD r (length (listFrom (f i) 0 n) + (k * n + j)) 0 ≡ f (suc i + k) j) (getD-append-add (listFrom (f i) 0 n) (Rows (suc i) m) (k * n + j) 0 ∙ rows-at (suc i) m k j (omega arith) l))
-
-written-length : (xs buffer : List ℕ) → length xs ≤ length buffer → length (written xs buffer) ≡ length buffer
-unfolding written
-written-length xs buffer h = length-append xs (drop (length xs) buffer) ∙ omega (arith, length-drop (length xs) buffer)
 
 module _ (s : List ℕ) where
   settle-clear : Accepted s → (size : ℕ) → kindCount s * kindCount s ≤ size → firstOf (settleChecks s size) ≡ clear
@@ -166,61 +146,49 @@ module _ (s : List ℕ) where
   row-part n k table p h i e =
       omega (arith, ap length e, length-take n (drop (k * n) table), length-drop (k * n) table, mul-le-mul-right n h)
 
+  row-taken : (n k : ℕ) (table : List ℕ) → (rowCheckOf n k table ≡ clear) ↔ ((1 ≤ n) × (n ≤ mostKinds) × (k < n) × (n * n ≤ length table))
+  unfolding rowCheckOf rowChecks
+  row-taken n k table = (
+    (λ e.
+        let x = cons-none 2 0 _ _ e in
+        let y = cons-none 11 0 _ _ (x .1) in
+        let z = cons-none 12 0 _ _ (y .1) in
+        let w = from-outside 1 mostKinds n (x .0) in
+        (w .0, w .1, small k n (y .0), from-less (length table) (n * n) (z .0))),
+    (λ p. clear-cons 2 0 _ _ (not-outside 1 mostKinds n (p .0) (p .1))
+        (clear-cons 11 0 _ _ (not-small k n (p .2)) (clear-cons 12 0 _ [] (not-less (length table) (n * n) (p .3)) clear-nil))),
+  )
+
   row-refuses : (n k : ℕ) (table : List ℕ) → (rowOf n k table ≡ []) ↔ ((q : ℕ) × (p : ℕ) × (rowCheckOf n k table ≡ refusal q p))
-  unfolding rowOf rowCheckOf
-  row-refuses n k table = go (firstOf (rowChecks n k (length table))) refl
+  unfolding rowOf
+  row-refuses n k table = go (rowCheckOf n k table) refl
     where
-      low : (b : Bool) → Tells b (n < 1) → ¬ T (either b (ltb mostKinds n)) → 0 < n
-      low true t m = absurd (m tt)
-      low false t m = pos (decLt 0 n)
-        where
-          pos : Dec (0 < n) → 0 < n
-          pos (yes h) = h
-          pos (no h) = absurd (t .test (omega arith))
-
-      most : ¬ T (ltb (length table) (n * n)) → n * n ≤ length table
-      most m = go (decLt (length table) (n * n))
-        where
-          go : Dec (length table < n * n) → n * n ≤ length table
-          go (yes h) = absurd (m (tells-lt (length table) (n * n) .test h))
-          go (no h) = omega arith
-
-      go : (f : Finding) → firstOf (rowChecks n k (length table)) ≡ f
+      go : (f : Finding) → rowCheckOf n k table ≡ f
           → (_≡_ {A = List ℕ} (elim f as (λ _. List ℕ) [ clear ↦ take n (drop (k * n) table) | refusal _ _ ↦ [] ]) []) ↔ ((q : ℕ) × (p : ℕ) × (f ≡ refusal q p))
-      go clear e = ((λ x. absurd (row-part n k table (low (ltb n 1) (tells-lt n 1) (clear-none (in-kinds n k (length table)) e)) (small k n (clear-none (in-number n k (length table)) e)) (most (clear-none (in-size n k (length table)) e)) x)), (λ x. never (x .0) (x .1) (x .2)))
+      go clear e = let w = row-taken n k table .0 e in ((λ x. absurd (row-part n k table (w .0) (w .2) (w .3) x)), (λ x. never (x .0) (x .1) (x .2)))
       go (refusal q p) e = ((λ _. (q, p, refl)), (λ _. refl))
 
-  least-size : (size n : ℕ) → ¬ T (ltb size n) → n ≤ size
-  least-size size n m = go (decLt size n)
-    where
-      go : Dec (size < n) → n ≤ size
-      go (yes h) = absurd (m (tells-lt size n .test h))
-      go (no h) = omega arith
-
-  settle-size : (size : ℕ) → firstOf (settleChecks s size) ≡ clear → kindCount s * kindCount s ≤ size
+  settle-room : (size : ℕ) → firstOf (settleChecks s size) ≡ clear → kindCount s * kindCount s ≤ size
   unfolding settleChecks
-  settle-size size e =
-      least-size size (kindCount s * kindCount s) (clear-none (List·Memᴰ·head refl)
+  settle-room size e =
+      from-less size (kindCount s * kindCount s) (clear-none (List·Memᴰ·head refl)
       (then-clear (firstOf (sheetChecks s ++ normChecks s)) (firstOf (check 12 0 (ltb size (kindCount s * kindCount s)) ∷ [])) (sym (first-append (sheetChecks s ++ normChecks s) _) ∙ e) .1))
 
-  form-size : (i size : ℕ) → firstOf (formChecks s i size) ≡ clear → kindCount s ≤ size
+  form-room : (i size : ℕ) → firstOf (formChecks s i size) ≡ clear → kindCount s ≤ size
   unfolding formChecks
-  form-size i size e =
-      least-size size (kindCount s) (clear-none (List·Memᴰ·tail (List·Memᴰ·head refl))
+  form-room i size e =
+      from-less size (kindCount s) (clear-none (List·Memᴰ·tail (List·Memᴰ·head refl))
       (then-clear (firstOf (sheetChecks s ++ normChecks s)) (firstOf (check 11 0 (not (ltb i (fieldCount s))) ∷ check 12 0 (ltb size (kindCount s)) ∷ [])) (sym (first-append (sheetChecks s ++ normChecks s) _) ∙ e) .1))
-
-  pub table-length : length (tableOf s) ≡ kindCount s * kindCount s
-  unfolding tableOf Rows
-  table-length = rows-length _ (kindCount s) 0 (kindCount s)
-
-  form-count : (i : ℕ) → length (primeForm s i) ≡ kindCount s
-  unfolding primeForm
-  form-count i = length-from _ 0 (kindCount s)
 
   kept : {A : Type 0} (x : Answer A) (xs buffer : List ℕ) (f : Finding) → (f ≡ clear → length xs ≤ length buffer)
       → length ((elim f as (λ _. Lent A) [ clear ↦ record { answer = x; lent = written xs buffer } | refusal k p ↦ record { answer = refused k p; lent = buffer } ]) .lent) ≡ length buffer
-  kept x xs buffer clear h = written-length xs buffer (h refl)
+  kept x xs buffer clear h = plain .written-to xs buffer .long (h refl)
   kept x xs buffer (refusal k p) h = refl
+
+  past : {A : Type 0} (x : Answer A) (xs buffer : List ℕ) (f : Finding) (e : ℕ) → length xs ≤ e
+      → at ((elim f as (λ _. Lent A) [ clear ↦ record { answer = x; lent = written xs buffer } | refusal k p ↦ record { answer = refused k p; lent = buffer } ]) .lent) e ≡ at buffer e
+  past x xs buffer clear e h = plain .written-to xs buffer .past e h
+  past x xs buffer (refusal k p) e h = refl
 
   table-row : (k j : ℕ) → k < kindCount s → j < kindCount s
       → at (tableOf s) (k * kindCount s + j) ≡ settledRow (cardOf s) k j
@@ -263,10 +231,16 @@ module _ (s : List ℕ) where
     accepted = (accepted-limits s, limits-accepted s);
     settled = λ L table h. call-clear _ _ (firstOf (settleChecks s (length table))) (settle-clear (limits-accepted s L) (length table) h);
     table-row = table-row;
+    table-size = plain .table-size s;
+    form-size = plain .form-size s;
     settle-length = λ table.
-        kept (given (settledStage (cardOf s))) (tableOf s) table (firstOf (settleChecks s (length table))) (λ e. omega (arith, table-length, settle-size (length table) e));
+        kept (given (settledStage (cardOf s))) (tableOf s) table (firstOf (settleChecks s (length table))) (λ e. omega (arith, plain .table-size s, settle-room (length table) e));
     form-length = λ i buffer.
-        kept (given tt) (primeForm s i) buffer (firstOf (formChecks s i (length buffer))) (λ e. omega (arith, form-count i, form-size i (length buffer) e));
+        kept (given tt) (primeForm s i) buffer (firstOf (formChecks s i (length buffer))) (λ e. omega (arith, plain .form-size s i, form-room i (length buffer) e));
+    settle-past = λ table e h.
+        past (given (settledStage (cardOf s))) (tableOf s) table (firstOf (settleChecks s (length table))) e (omega (arith, plain .table-size s));
+    form-past = λ i buffer e h.
+        past (given tt) (primeForm s i) buffer (firstOf (formChecks s i (length buffer))) e (omega (arith, plain .form-size s i));
     called = λ L. called (limits-accepted s L);
     formed = λ L i buffer h k. call-clear _ _ (firstOf (formChecks s i (length buffer))) (form-clear (limits-accepted s L) i (length buffer) h k);
     settle-refused = λ table k p e. call-refused _ _ (firstOf (settleChecks s (length table))) k p e;
@@ -278,6 +252,7 @@ module _ (s : List ℕ) where
     walk-found = λ i j limit v e n. rw (walk-clear i j limit v e) (within-found v (fullWalk s i j limit) n);
     walk-draws = λ i j limit v e. rw (walk-clear i j limit v e) (within-draws v (fullWalk s i j limit) .0);
     walk-session = walk-loses;
+    row-taken = row-taken;
     row-part = λ n k table e. call-clear _ _ (rowCheckOf n k table) e;
     row-refused = row-refuses;
   }

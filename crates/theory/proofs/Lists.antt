@@ -9,14 +9,10 @@ use native.Mathlib.Omega.{arith}
 use lib.Dec.{T}
 use lib.ListN.{length, getD, List·getD-eq-default}
 use Rattle.model.specs.Finite.{all, pick, listFrom, below, leastFrom}
+pub use Rattle.model.proofs.Plain.{length-from}
 use Rattle.theory.proofs.Exec.{Tells, tells-all, tells-map}
 
 module _ {A : Type 0} (f : ℕ → A) where
-  pub length-from : (i m : ℕ) → length (listFrom f i m) ≡ m
-  unfolding listFrom
-  length-from i zero = refl
-  length-from i (suc m) = ap suc (length-from (suc i) m)
-
   pub getD-from : (i m k : ℕ) (d : A) → k < m → getD (listFrom f i m) k d ≡ f (i + k)
   unfolding listFrom
   getD-from i zero k d h = absurd (omega arith)
@@ -24,7 +20,7 @@ module _ {A : Type 0} (f : ℕ → A) where
   getD-from i (suc m) (suc k) d h = let e : suc i + k ≡ i + suc k = omega arith in getD-from (suc i) m k d (omega arith) ∙ ap f e
 
   pub getD-past : (i m k : ℕ) (d : A) → m ≤ k → getD (listFrom f i m) k d ≡ d
-  getD-past i m k d h = List·getD-eq-default (listFrom f i m) d (rw (length-from i m) h)
+  getD-past i m k d h = List·getD-eq-default (listFrom f i m) d (rw (length-from f i m) h)
 
   pub mem-from : (i m : ℕ) (x : A) → List·Memᴰ x (listFrom f i m) → (k : ℕ) × (k < m) × (x ≡ f (i + k))
   unfolding listFrom

@@ -24,7 +24,7 @@ use Rattle.theory.proofs.Exec.{Tells, tells-eq}
 use Rattle.theory.proofs.Sheets.{then, first-append, clear-cons, clear-nil, not-small, not-less}
 use Rattle.theory.proofs.Checks.{not-outside, from-outside, from-less, cons-none}
 use Rattle.theory.proofs.Limits.{accepted-limits}
-use Rattle.theory.proofs.Answers.{demand1, table-length}
+use Rattle.theory.proofs.Answers.{demand1}
 use Rattle.theory.proofs.Settling.{sheet-settles, sheet-primes}
 
 -- The header's checks but the last.
@@ -150,11 +150,9 @@ module _ (s : List ℕ) where
     n = kindCount s
 
     row-clear : (k : ℕ) → k < n → rowCheckOf n k (tableOf s) ≡ clear
-    unfolding rowCheckOf rowChecks
     row-clear k h =
         let L = accepted-limits s ok .kinds in
-        clear-cons 2 0 _ _ (not-outside 1 mostKinds n (L .0) (L .1))
-        (clear-cons 11 0 _ _ (not-small k n h) (clear-cons 12 0 _ [] (not-less (length (tableOf s)) (n * n) (omega (arith, table-length s))) clear-nil))
+        demand1 s .row-taken n k (tableOf s) .1 (L .0, L .1, h, omega (arith, demand1 s .table-size))
 
     row-shown : (k j : ℕ) → k < n → j < n → at (rowOf n k (tableOf s)) j ≡ settledRow (cardOf s) k j
     row-shown k j h i =

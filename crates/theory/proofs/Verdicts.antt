@@ -35,6 +35,7 @@ use Rattle.theory.proofs.Rows.{Least, finite, order-iff, form-is}
 use Rattle.theory.proofs.Plain.{plain, tidy, tells-equal, tells-plain, settled, settled-bisimilar, settled-always, same-iff, different-iff, different-parts}
 use Rattle.theory.proofs.Plays.{parts, parted-parting, parting-not, strategy-holds, plays-all}
 use Rattle.theory.proofs.Gain.{is-gain}
+use Rattle.model.proofs.Plain as model
 use Rattle.theory.proofs.Sheets.{clear-cons, clear-nil, not-small, field-kinds, call-checks, sheet-clear, tame, some-kind, certified}
 
 pub given-clear : {A : Type 0} (f : Finding) (x : A) → f ≡ clear → (elim f as (λ _. Answer A) [ clear ↦ given x | refusal k p ↦ refused k p ]) ≡ given x
@@ -236,7 +237,7 @@ module _ (s : List ℕ) (ok : Accepted s) where
           different-stage .1 (parting-not c (Stage N t) (Tidy N) (λ l o y u. tidy-fire N l y o u) (λ y z u v p. L .settled y z u v p) x (field-tidy i) (field-tidy j));
       different-parted = λ d r e.
           let x = different-parts c w (certified s ok) t (L .most) (L .settled) a b (field-tidy i) (field-tidy j) d r (given-same _ _ (sym (compare-is i j hi hj) ∙ e)) in
-          (parted-parting c r a b (parts c r a b (x .2)), parts c r a b (x .2), x .2, x .0, (norm c a, norm c b, gain c, norm-is i, norm-is j, is-gain s ok, x .1));
+          (parted-parting c r a b (parts c r a b (x .2)), parts c r a b (x .2), x .2, x .0, (norm c a, norm c b, gain c, norm-is i, norm-is j, is-gain s ok, (λ z. x .1 ∙ rw z (model.plain .rounds-none _ _)), (λ z. x .1 ∙ model.plain .rounds-some _ _ d z)));
       different-stage = λ d r e.
           let x = different-parts c w (certified s ok) t (L .most) (L .settled) a b (field-tidy i) (field-tidy j) d r (given-same _ _ (sym (compare-is i j hi hj) ∙ e)) in
           ((λ y. x .3 .0 (tells-plain c w (certified s ok) d a b .fact y)), (λ q h. tells-plain c w (certified s ok) q a b .test (x .3 .1 q h)));

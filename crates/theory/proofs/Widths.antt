@@ -14,7 +14,7 @@ use Rattle.model.specs.Finite.{listFrom}
 use Rattle.model.specs.Field.{Field, unit, weigh, at}
 use Rattle.model.specs.Card.{Line, Card, On}
 use Rattle.model.specs.Norm.{IsNorm, kindNorm, norm, gainOf}
-use Rattle.model.specs.Base.{stageRow, stageForm, settledForm, gain, roundsFor}
+use Rattle.model.specs.Base.{stageRow, stageForm, settledForm, gain}
 use Rattle.model.specs.Sheet.{byte, u16At, kindCount, lineCount, fieldCount, fieldsOffset, counts, lineOf, cardOf, fieldOf}
 use Rattle.model.specs.Limits.{mostKinds, normLimit}
 use Rattle.model.specs.Refusal.{Accepted}
@@ -64,14 +64,13 @@ count-weight n w a k h p =
     let y : a k * 1 ≤ a k * w k = mul-le-mul-left (a k) z in
     omega (arith, weigh-part n w a k h)
 
-rounds-most : (x g t X G K : ℕ) → x ≤ X → g ≤ G → t ≤ suc K → roundsFor x g t ≤ X + 1 + K * (G + 1)
-unfolding roundsFor
-rounds-most x g zero X G K h i j = omega arith
-rounds-most x g (suc t) X G K h i j =
+rounds-most : (r x g t X G K : ℕ) → (t ≡ 0 → r ≡ x + 1) → (0 < t → r ≡ x + 1 + (t - 1) * (g + 1)) → x ≤ X → g ≤ G → t ≤ suc K → r ≤ X + 1 + K * (G + 1)
+rounds-most r x g zero X G K none some h i j = omega (arith, none refl)
+rounds-most r x g (suc t) X G K none some h i j =
     let u : g + 1 ≤ G + 1 = omega arith in
-    let v : t ≤ K = omega arith in
-    let z : t * (g + 1) ≤ K * (G + 1) = mul-le-mul v u in
-    omega arith
+    let v : suc t - 1 ≤ K = omega arith in
+    let z : (suc t - 1) * (g + 1) ≤ K * (G + 1) = mul-le-mul v u in
+    omega (arith, some (omega arith))
 
 byte-most : (s : List ℕ) → Bytes s → (i : ℕ) → byte s i ≤ 255
 byte-most s h i = omega (arith, h i)
@@ -195,7 +194,7 @@ module _ (s : List ℕ) (bytes : Bytes s) where
         let x : z .0 ≤ mostFieldNorm = omega (arith, z .3 .1 (norm (cardOf s) (fieldOf s i)) (n .0), field-norm i) in
         let g : z .2 ≤ mostLeftNorm = omega (arith, gain-one (cardOf s) (z .2) (gain (cardOf s)) (z .5) (is-gain s ok), gain-most) in
         let m : t ≤ mostKinds = omega (arith, d .3, accepted-limits s ok .kinds .1) in
-        (m, omega (arith, z .6, rounds-most (min (z .0) (z .1)) (z .2) t mostFieldNorm mostLeftNorm (mostKinds - 1) (omega arith) g m))
+        (m, rounds-most r (min (z .0) (z .1)) (z .2) t mostFieldNorm mostLeftNorm (mostKinds - 1) (z .6) (z .7) (omega arith) g m)
 
     pub widths : Widths s
     unfolding IsLe

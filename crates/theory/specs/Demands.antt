@@ -2,17 +2,17 @@
 use mathlib.Core.List.{List, []}
 use mathlib.Core.Logic.{_↔_, _⊎_}
 use mathlib.Core.Path.{_≡_}
-use Prim.Native.Nat.{ℕ, _+_, _*_, _≤_, _<_, min}
+use Prim.Native.Nat.{ℕ, _+_, _-_, _*_, _≤_, _<_, min}
 use lib.ListN.{length, take, drop}
 use Rattle.model.specs.Field.{Field, at}
 use Rattle.model.specs.Card.{On}
 use Rattle.model.specs.Norm.{IsNorm}
 use Rattle.theory.specs.Expansion.{Expands, Bisimilar}
-use Rattle.model.specs.Base.{roundsFor, settledStage, settledRow}
+use Rattle.model.specs.Base.{settledStage, settledRow}
 use Rattle.theory.specs.Game.{Holds, Always, Parting, Parted, Strategy, Answered, Challenge}
 use Rattle.model.specs.Walk.{spent}
 use Rattle.model.specs.Sheet.{kindCount, fieldCount, cardOf, fieldOf}
-use Rattle.model.specs.Limits.{mostRounds, Limits}
+use Rattle.model.specs.Limits.{mostKinds, mostRounds, Limits}
 use Rattle.model.specs.Refusal.{Accepted, clear, refusal, firstOf, sheetChecks, settleChecks, compareChecks, formChecks, walkChecks}
 use Rattle.theory.specs.Terms.{OfKinds, IsGain, Stage, Prime}
 use Rattle.model.specs.Answer.{refused, given, Session, same, different, settleOf, compareOf, formOf, walkOf, rowOf, rowCheckOf, tableOf, primeForm, written, fullWalk}
@@ -27,9 +27,15 @@ pub record Demand1 (s : List ℕ) : Type 0 where
   -- "row by row in kind number, n × n of them"
   pub table-row : (k j : ℕ) → k < kindCount s → j < kindCount s
       → at (tableOf s) (k * kindCount s + j) ≡ settledRow (cardOf s) k j
+  pub table-size : length (tableOf s) ≡ kindCount s * kindCount s
+  -- "n counts"
+  pub form-size : (i : ℕ) → length (primeForm s i) ≡ kindCount s
   -- A lent buffer keeps its length, whatever the answer.
   pub settle-length : (table : List ℕ) → length (settleOf s table .lent) ≡ length table
   pub form-length : (i : ℕ) (buffer : List ℕ) → length (formOf s i buffer .lent) ≡ length buffer
+  -- "Bytes of a lent buffer past those named keep their values."
+  pub settle-past : (table : List ℕ) (e : ℕ) → kindCount s * kindCount s ≤ e → at (settleOf s table .lent) e ≡ at table e
+  pub form-past : (i : ℕ) (buffer : List ℕ) (e : ℕ) → kindCount s ≤ e → at (formOf s i buffer .lent) e ≡ at buffer e
   pub called : Limits s → (i j : ℕ) → i < fieldCount s → j < fieldCount s
       → (compareOf s i j ≡ given same) ⊎ ((t : ℕ) × (r : ℕ) × (compareOf s i j ≡ given (different t r)))
   pub formed : Limits s → (i : ℕ) (buffer : List ℕ) → i < fieldCount s → kindCount s ≤ length buffer
@@ -55,6 +61,8 @@ pub record Demand1 (s : List ℕ) : Type 0 where
   -- What is drawn is what the session loses, refused or not.
   pub walk-session : (i j limit : ℕ) (v : Session) → walkOf s i j limit v .after .left + walkOf s i j limit v .drawn ≡ v .left
   -- Row, of which the sheet is no part: "that part of the lent table" that begins at k × n, and "the part is empty just when that check refuses".
+  -- It is not refused just when n is 1 to 32, the kind is under n, and the table has n × n entries.
+  pub row-taken : (n k : ℕ) (table : List ℕ) → (rowCheckOf n k table ≡ clear) ↔ ((1 ≤ n) × (n ≤ mostKinds) × (k < n) × (n * n ≤ length table))
   pub row-part : (n k : ℕ) (table : List ℕ) → rowCheckOf n k table ≡ clear → rowOf n k table ≡ take n (drop (k * n) table)
   pub row-refused : (n k : ℕ) (table : List ℕ) → (rowOf n k table ≡ []) ↔ ((q : ℕ) × (p : ℕ) × (rowCheckOf n k table ≡ refusal q p))
 
@@ -83,7 +91,7 @@ pub record Demand3 (s : List ℕ) (i j : ℕ) : Type 0 where
   pub different-parted : (t r : ℕ) → compareOf s i j ≡ given (different t r) → Parting (cardOf s) (fieldOf s i) (fieldOf s j) × Parted (cardOf s) r (fieldOf s i) (fieldOf s j)
       × (¬ Holds (cardOf s) r (fieldOf s i) (fieldOf s j)) × (t ≤ kindCount s)
       × ((x : ℕ) × (y : ℕ) × (g : ℕ) × IsNorm (cardOf s) (fieldOf s i) x × IsNorm (cardOf s) (fieldOf s j) y × IsGain (cardOf s) g
-      × (r ≡ roundsFor (min x y) g t))
+      × (t ≡ 0 → r ≡ min x y + 1) × (0 < t → r ≡ min x y + 1 + (t - 1) * (g + 1)))
   -- "The stage is the least that does not relate the pair."
   pub different-stage : (t r : ℕ) → compareOf s i j ≡ given (different t r)
       → (¬ Stage (cardOf s) t (fieldOf s i) (fieldOf s j)) × ((q : ℕ) → q < t → Stage (cardOf s) q (fieldOf s i) (fieldOf s j))
