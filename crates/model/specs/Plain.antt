@@ -8,12 +8,12 @@ use Rattle.model.specs.Base.{roundsFor}
 use Rattle.model.specs.Sheet.{byte, u32At, kindCount, codeCount, lineCount, fieldCount, counts}
 use Rattle.model.specs.Answer.{written, tableOf, primeForm}
 
--- "unsigned, low byte first": a number written as two bytes, and as four.
+-- "unsigned, low byte first": a number written as two bytes, and as four, the low half first.
 abbrev pub twoBytes : ℕ → List ℕ
 twoBytes x = (x % 256) ∷ (x / 256) ∷ []
 
 abbrev pub fourBytes : ℕ → List ℕ
-fourBytes x = (x % 256) ∷ (x / 256 % 256) ∷ (x / 65536 % 256) ∷ (x / 16777216) ∷ []
+fourBytes x = twoBytes (x % 65536) ++ twoBytes (x / 65536)
 
 -- The table "The sheet", row by row: the header of n kinds, so many codes, m lines and f fields.
 abbrev pub headerBytes : ℕ → ℕ → ℕ → ℕ → List ℕ

@@ -33,6 +33,8 @@ pub mod Sheets
 pub mod Checks
 pub mod Limits
 pub mod Gain
+pub mod Places
+pub mod Headers
 pub mod Verdicts
 pub mod Walks
 pub mod Answers

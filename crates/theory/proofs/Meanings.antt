@@ -11,6 +11,8 @@ use Rattle.theory.specs.Meanings.{Games, Meanings}
 use Rattle.theory.proofs.Plays.{parts, parted-not}
 use Rattle.theory.proofs.Sheets.{firsts}
 use Rattle.theory.proofs.Gain.{sheet-norms}
+use Rattle.theory.proofs.Headers.{headers}
+use Rattle.theory.proofs.Places.{sheet-places}
 use Rattle.theory.proofs.Walks.{walks}
 use Rattle.theory.proofs.Decimals.{decimals}
 use Rattle.theory.proofs.Pages.{pages}
@@ -52,4 +54,4 @@ steps L R = (
 )
 
 pub meanings {ℓ} : Meanings {ℓ}
-meanings = record { firsts = firsts; norms = sheet-norms; steps = steps; games = games; walks = walks; settles = sheet-settles; primes = λ s ok. sheet-primes s ok; decimals = decimals; pages = pages; widths = widths }
+meanings = record { firsts = firsts; headers = headers; places = sheet-places; norms = sheet-norms; steps = steps; games = games; walks = walks; settles = sheet-settles; primes = λ s ok. sheet-primes s ok; decimals = decimals; pages = pages; widths = widths }

@@ -5,7 +5,7 @@ use mathlib.Core.Logic.{_↔_}
 use mathlib.Core.Path.{_≡_}
 use Prim.Native.Nat.{ℕ, suc, _+_, _*_, _/_, _%_, _≤_, _<_}
 use lib.Dec.{T}
-use lib.ListN.{length}
+use lib.ListN.{length, take}
 use Rattle.model.specs.Field.{Field, unit, weighFrom, at}
 use Rattle.model.specs.Card.{Line, Card, Live, liveCount, On, fire}
 use Rattle.model.specs.Norm.{Clears, IsNorm, kindNorm, norm}
@@ -14,10 +14,11 @@ use Rattle.theory.specs.Stages.{Lowers, Stages}
 use Rattle.model.specs.Base.{stageRow, settledStage, settledRow, gain}
 use Rattle.theory.specs.Game.{Challenge, sideOf, Holds, Parted, Strategy, Answered}
 use Rattle.model.specs.Walk.{apart, together}
-use Rattle.model.specs.Sheet.{linesOffset, kindCount, cardOf, fieldOf}
-use Rattle.model.specs.Limits.{mostKinds, mostLines, mostFields, mostInput}
-use Rattle.model.specs.Refusal.{Check, check, clear, refusal, firstOf, headerChecks, sheetChecks, Accepted}
+use Rattle.model.specs.Sheet.{linesOffset, kindCount, codeCount, lineCount, fieldCount, lineOf, cardOf, fieldOf}
+use Rattle.model.specs.Limits.{mostKinds, mostLines, mostFields, normLimit, mostInput}
+use Rattle.model.specs.Refusal.{Check, check, clear, refusal, firstOf, headerChecks, sheetChecks, acceptChecks, Accepted}
 use Rattle.model.specs.Answer.{tableOf, rowOf, fullWalk}
+use Rattle.model.specs.Plain.{headerBytes}
 use Rattle.theory.specs.Widths.{Bytes, Widths}
 use Rattle.model.specs.Page.{number, itself, refusedLine, pageOf, printed}
 use Rattle.theory.specs.Terms.{IsGain, Stage, BaseOf, Prime, Settled}
@@ -27,6 +28,23 @@ pub record Firsts (xs : List Check) : Type 0 where
   pub given-iff : (k p : ℕ) → (firstOf xs ≡ refusal k p)
       ↔ ((before : List Check) × (after : List Check) × (xs ≡ before ++ (check k p true ∷ after)) × ((x : Check) → List·Memᴰ x before → ¬ T (x .applies)))
   pub clear-iff : (firstOf xs ≡ clear) ↔ ((x : Check) → List·Memᴰ x xs → ¬ T (x .applies))
+
+-- Where each line's and each kind's refusal is found, of a sheet that passes what is checked before.
+pub record Places (s : List ℕ) : Type 0 where
+  -- "lines, in order": 7 at a line whose kind is not under n, where all lines before it pass both checks.
+  pub kind-place : firstOf (headerChecks s) ≡ clear → (j : ℕ) → (firstOf (sheetChecks s) ≡ refusal 7 j)
+      ↔ ((j < lineCount s) × (¬ (lineOf s j .kind < kindCount s)) × ((i : ℕ) → i < j → (lineOf s i .kind < kindCount s) × (lineOf s i .code < codeCount s)))
+  -- "same line, next": 8 at a line whose kind passes and whose code does not.
+  pub code-place : firstOf (headerChecks s) ≡ clear → (j : ℕ) → (firstOf (sheetChecks s) ≡ refusal 8 j)
+      ↔ ((j < lineCount s) × ((lineOf s j .kind < kindCount s) × (¬ (lineOf s j .code < codeCount s)))
+      × ((i : ℕ) → i < j → (lineOf s i .kind < kindCount s) × (lineOf s i .code < codeCount s)))
+  -- "a kind has no norm", at the "lowest such".
+  pub missing-place : firstOf (sheetChecks s) ≡ clear → (k : ℕ) → (firstOf (acceptChecks s) ≡ refusal 9 k)
+      ↔ ((k < kindCount s) × ((r : ℕ) → ¬ Clears (On (cardOf s)) r (unit k)) × ((j : ℕ) → j < k → (v : ℕ) × IsNorm (cardOf s) (unit j) v))
+  -- "a norm over 1,000,000", at the "lowest such": every kind has a norm, and those of lower kinds are within the limit.
+  pub over-place : firstOf (sheetChecks s) ≡ clear → (k : ℕ) → (firstOf (acceptChecks s) ≡ refusal 10 k)
+      ↔ ((k < kindCount s) × ((v : ℕ) × (normLimit < v) × IsNorm (cardOf s) (unit k) v) × ((j : ℕ) → j < kindCount s → (v : ℕ) × IsNorm (cardOf s) (unit j) v)
+      × ((j : ℕ) → j < k → (v : ℕ) × (v ≤ normLimit) × IsNorm (cardOf s) (unit j) v))
 
 -- Of a sheet that passes 1 to 8. "A kind has a norm if it can be cleared."
 pub record Norms (c : Card) : Type 0 where
@@ -95,6 +113,10 @@ pub record Pages {ℓ} (s : List ℕ) : Type (ℓ + 1) where
 -- What the terms mean, of every sheet that they speak of, with bisimulations of every universe.
 pub record Meanings {ℓ} : Type (ℓ + 1) where
   pub firsts : (xs : List Check) → Firsts xs
+  -- The header of a sheet of bytes that passes 1 to 6 is that of the table "The sheet", byte by byte.
+  pub headers : (s : List ℕ) → Bytes s → firstOf (headerChecks s) ≡ clear
+      → take linesOffset s ≡ headerBytes (kindCount s) (codeCount s) (lineCount s) (fieldCount s)
+  pub places : (s : List ℕ) → Places s
   pub norms : (s : List ℕ) → firstOf (sheetChecks s) ≡ clear → Norms (cardOf s)
   pub steps : (L : Line → Type 0) (R : Field → Field → Type ℓ) → Bisimulation L R ↔ StepBisimulation L R
   pub games : (c : Card) → Games c
