@@ -3,7 +3,7 @@ ghost use mathlib.Core.Path.{_≡_};
 ghost use Prim.Native.Nat.{_+_, _*_, _≤_, _<_};
 ghost use Rattle.model.specs.Field.{at};
 ghost use Rattle.model.specs.Sheet.{byte, u16At, kindCount, lineCount, fieldCount, linesOffset, lineOf, fieldOf};
-ghost use Rattle.player.specs.Says.{Fits};
+ghost use Rattle.player.specs.Fields.{Fits};
 
 // The byte as a number to count with.
 fn wide(x: u8) -> usize
@@ -81,7 +81,7 @@ pub fn line_left(s: &[u8], j: usize, k: usize) -> usize
 }
 
 // How many tokens of kind k, one of the card's, field i has.
-fn field_count(s: &[u8], i: usize, k: usize) -> usize
+pub fn field_count(s: &[u8], i: usize, k: usize) -> usize
     requires { ⌜ (kindCount (now s) ≤ 32) × (i < 65536) × (k < kindCount (now s)) ⌝ }
     ensures { λ r. ⌜ (r ≡ fieldOf (now (s .entry)) i k) × (r < 65536) ⌝ }
 {

@@ -13,11 +13,14 @@ may-use-requires c κs = search needs
 line-code-requires : tie.Need-line-code-requires
 line-code-requires c κs = search needs
 
+line-code-requires-2 : tie.Need-line-code-requires-2
+line-code-requires-2 c κs = search needs
+
 returns : tie.Need-returns
-returns c = ap (λ (q : ℕ). eqb q (c .before .before .before .before .args .code)) (c .line-code .ensures) ∙ both-second _ _ (sym (c .before .before .may-use .ensures) ∙ c .before .if1 .taken)
+returns c = ap (λ (q : ℕ). eqb q (c .line-code2 .result)) (c .before .line-code .ensures) ∙ ap (eqb _) (c .line-code2 .ensures) ∙ both-second _ _ (sym (c .before .before .before .may-use .ensures) ∙ c .before .before .if1 .taken)
 
 returns-2 : tie.Need-returns-2
 returns-2 c = both-none _ _ (sym (c .before .may-use .ensures) ∙ c .if1 .left)
 
 pub may-reply-spec : {M : Type 1} → statement M
-may-reply-spec = tie.close (tie.spec may-use-requires line-code-requires returns returns-2)
+may-reply-spec = tie.close (tie.spec may-use-requires line-code-requires line-code-requires-2 returns returns-2)

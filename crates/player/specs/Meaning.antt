@@ -1,0 +1,31 @@
+-- What the player's answers say of the game.
+use mathlib.Core.List.{List}
+use mathlib.Core.Logic.{_⊎_}
+use mathlib.Core.Path.{_≡_}
+use Prim.Native.Nat.{ℕ, _+_, _≤_, _<_}
+use Rattle.model.specs.Sheet.{kindCount, fieldCount, cardOf, fieldOf}
+use Rattle.model.specs.Walk.{walk}
+use Rattle.theory.specs.Game.{Holds}
+use Rattle.player.specs.declared.game.Tried.{Tried}
+use Rattle.player.specs.declared.game.Tried.the-variants.{Parted, Held, OutOfBudget, OutOfBounds}
+use Rattle.player.specs.Played.{mostKinds, mostRounds}
+
+module _ (s : List ℕ) (limit first second budget : ℕ) where
+  -- The two fields hold at r rounds.
+  abbrev pub HoldsAt : ℕ → Type 0
+  HoldsAt r = Holds (cardOf s) r (fieldOf s first) (fieldOf s second)
+
+  -- "the number of pairs examined, summed over the numbers of rounds tried": 1, 2, .., r.
+  abbrev pub pairsTo : ℕ → ℕ
+  pairsTo r = walk (cardOf s .lines) (fieldOf s first) (fieldOf s second) 1 r .count
+
+  -- A bound of the player: the kinds, the numbers of the fields, or the rounds after r.
+  abbrev pub Bound : ℕ → Type 0
+  Bound r = (mostKinds < kindCount s) ⊎ ((fieldCount s ≤ first) ⊎ ((fieldCount s ≤ second) ⊎ (mostRounds ≤ r)))
+
+  -- "A pair is parted within r rounds when it does not hold at r."
+  unfoldable pub Means : Tried → Type 0
+  Means (Parted r) = (r ≤ limit) × (¬ HoldsAt r) × ((q : ℕ) → q < r → HoldsAt q) × (pairsTo r ≤ budget)
+  Means (Held r) = (r ≡ limit) × ((q : ℕ) → q ≤ r → HoldsAt q) × (pairsTo r ≤ budget)
+  Means (OutOfBudget r) = (r < limit) × ((q : ℕ) → q ≤ r → HoldsAt q) × (budget < pairsTo (r + 1))
+  Means (OutOfBounds r) = (r ≤ limit) × ((q : ℕ) → q ≤ r → HoldsAt q) × Bound r

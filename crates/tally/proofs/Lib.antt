@@ -1,0 +1,2 @@
+-- Laws that the code cites.
+pub mod Judging  -- judgements, and tests that compare
