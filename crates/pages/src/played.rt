@@ -37,9 +37,9 @@ fn one_more(x: u64) -> u64 {
 }
 
 // The most pairs that the player looks at for one verdict, and the rounds that fields called same are played to.
-const BUDGET: usize = 2000;
+const BUDGET: usize = 300_000;
 
-const ROUNDS: u64 = 8;
+const ROUNDS: u64 = 5;
 
 // Field 0 against a later field: the verdict and the prime forms against what was played.
 fn with_pair(s: &[u8], settlement: Settlement, later: usize, tally: Tally) -> Tally
