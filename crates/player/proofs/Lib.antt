@@ -1,5 +1,4 @@
 -- Laws that the proofs of the player's functions cite.
-pub mod Fields  -- counts read from a sheet, fields filled count by count
 pub mod Cuts  -- a count that the budget may end
 pub mod Lines  -- challenges and replies by lines in order
 pub mod Pairs  -- a pair: itself, the first side's challenges, the second's

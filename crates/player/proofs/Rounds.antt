@@ -30,6 +30,10 @@ module _ (xs : List Line) (a b : Field) (v r : ℕ) where
   unfolding tried
   tried-one many l = rw (lt-ltb r mostRounds l, tried) refl
 
+  -- None is tried yet.
+  pub rounds-start : (limit : ℕ) → tried xs a b v r (limit - 0) ≡ tried xs a b v r limit
+  rounds-start limit = let z : limit - 0 ≡ limit = omega arith in ap (tried xs a b v r) z
+
   -- The same up to a limit; what all come to is `whole`.
   module _ {limit : ℕ} {whole : Tried} (from : tried xs a b v r (limit - r) ≡ whole) where
     pub rounds-end : limit ≤ r → Held r ≡ whole

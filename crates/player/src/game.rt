@@ -1,21 +1,19 @@
 // The round game, played. Every challenge is tried against every reply, up to the first that holds. Each pair that is looked at takes one
 // from a budget.
-use crate::reader::field;
-use crate::reader::fields;
-use crate::reader::kinds;
-use crate::reader::line_code;
-use crate::reader::line_kind;
-use crate::reader::line_left;
-use crate::reader::lines;
+use second_reader::field;
+use second_reader::field_after;
+use second_reader::fields;
+use second_reader::kinds;
+use second_reader::lines;
+use second_reader::may_reply;
+use second_reader::may_use;
 ghost use mathlib.Core.List.{[], _∷_};
 ghost use mathlib.Core.Path.{_≡_};
-ghost use Prim.Native.Nat.{_+_, _-_, _≤_, _<_};
-ghost use lib.Dec.{ltb, eqb};
-ghost use Rattle.model.specs.Finite.{both};
-ghost use Rattle.model.specs.Field.{unit, at};
+ghost use Prim.Native.Nat.{_+_, _≤_, _<_};
+ghost use Rattle.model.specs.Field.{at};
 ghost use Rattle.model.specs.Sheet.{kindCount, lineOf, cardOf};
 ghost use Rattle.model.specs.Walk.{tryReplies, tryChallenges, examine};
-ghost use Rattle.player.specs.Fields.{Fits, After};
+ghost use Rattle.second_reader.specs.Fields.{Fits};
 ghost use Rattle.player.specs.Played.{cut, leaves, tried, partingOf};
 
 // A part of the game: whether it holds, with what is left of the budget, or spent where it has more pairs than the budget.
@@ -33,60 +31,6 @@ pub enum Tried {
     Held(u64),
     OutOfBudget(u64),
     OutOfBounds(u64),
-}
-
-// "A field with a token of kind X may use a line of X": whether the field may use line j.
-fn may_use(s: &[u8], j: usize, a: &[usize; 32]) -> bool
-    requires { ⌜ (kindCount (now s) ≤ 32) × (j < 65536) ⌝ }
-    requires { ⌜ Fits (now s) 0 (now a) ⌝ }
-    ensures { λ r. ⌜ r ≡ ltb 0 (at (now (a .entry)) (lineOf (now (s .entry)) j .kind)) ⌝ }
-{
-    let k = line_kind(s, j);
-    if k < 32 { 0 < a[k] } else { false }
-}
-
-// "A reply is a line of the same code that the other side may use": whether line j replies to the challenge by `line`.
-fn may_reply(s: &[u8], j: usize, line: usize, b: &[usize; 32]) -> bool
-    requires { ⌜ (kindCount (now s) ≤ 32) × (j < 65536) × (line < 65536) ⌝ }
-    requires { ⌜ Fits (now s) 0 (now b) ⌝ }
-    ensures { λ r. ⌜ r ≡ both (ltb 0 (at (now (b .entry)) (lineOf (now (s .entry)) j .kind))) (eqb (lineOf (now (s .entry)) j .code) (lineOf (now (s .entry)) line .code)) ⌝ }
-{
-    if may_use(s, j, b) {
-        line_code(s, j) == line_code(s, line)
-    } else {
-        false
-    }
-}
-
-// What stands for tokens of kind k after line j is used: "one X goes, the counts come".
-fn count_after(s: &[u8], j: usize, k: usize, tokens: usize) -> usize
-    requires { ⌜ (kindCount (now s) ≤ 32) × (j < 65536) × (k < kindCount (now s)) × (tokens < 1000000) ⌝ }
-    ensures { λ r. ⌜ (r ≡ (tokens - unit (lineOf (now (s .entry)) j .kind) k) + lineOf (now (s .entry)) j .left k) × (r ≤ tokens + 255) ⌝ }
-{
-    let left = line_left(s, j, k);
-    if k != line_kind(s, j) {
-        return tokens + left;
-    }
-    if tokens == 0 {
-        return left;
-    }
-    tokens - 1 + left
-}
-
-// The field after line j is used.
-fn field_after(s: &[u8], j: usize, a: &[usize; 32]) -> [usize; 32]
-    requires { ⌜ (kindCount (now s) ≤ 32) × (j < 65536) ⌝ }
-    requires { ⌜ Fits (now s) 1 (now a) ⌝ }
-    ensures { λ r. ⌜ After (now (s .entry)) j (now (a .entry)) r ⌝ }
-{
-    let n = kinds(s);
-    let mut after = *a;
-    let mut k = 0;
-    while k < n {
-        after[k] = count_after(s, j, k, a[k]);
-        k += 1;
-    }
-    after
 }
 
 // Line j as the only reply of b to the challenge by `line`, which left x: the pair that it leaves, at `rounds` rounds. "The first side stays first":

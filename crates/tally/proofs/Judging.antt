@@ -11,7 +11,7 @@ use lib.ListN.{length, getD}
 use lib.Seq.{ext-getD}
 use Rattle.model.specs.Field.{Field}
 use Rattle.model.specs.Sheet.{kindCount, fieldCount, fieldOf}
-use Rattle.player.proofs.Fields.{field-past}
+use Rattle.second_reader.proofs.Counts.{field-past}
 use Rattle.player.specs.declared.game.Tried.{Tried}
 use Rattle.player.specs.declared.game.Tried.the-variants.{Parted}
 use Rattle.tally.specs.declared.tally.Called.{Called}

@@ -1,8 +1,8 @@
 // Verdicts held against what was played, and counted.
 use player::Tried;
-use player::reader::field_count;
-use player::reader::fields;
-use player::reader::kinds;
+use second_reader::field_count;
+use second_reader::fields;
+use second_reader::kinds;
 ghost use mathlib.Core.Path.{_≡_};
 ghost use lib.Dec.{ltb, leb};
 ghost use Rattle.model.specs.Finite as model;

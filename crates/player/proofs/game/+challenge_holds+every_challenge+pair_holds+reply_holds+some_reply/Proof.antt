@@ -8,7 +8,7 @@ use Rattle.model.specs.Field.{at}
 use Rattle.model.specs.Sheet.{lineOf, cardOf}
 use Rattle.model.specs.Walk.{tryReplies, tryChallenges}
 use Rattle.player.specs.Played.{cut, leaves}
-use Rattle.player.proofs.Fields.{fits-fewer, after-fits}
+use Rattle.second_reader.proofs.Counts.{fits-fewer, after-fits}
 use Rattle.player.proofs.Lines.{linesFrom, challenges, replies, runs-start, runs-next, runs-end, challenge-played, challenge-passed, reply-played, reply-passed}
 use Rattle.player.proofs.Pairs.{pair-spent, pair-zero, pair-sides, left-first, left-second}
 use borrow.Fn.Kinds.{In}
@@ -28,10 +28,10 @@ use Rattle.player.proofs.game.+challenge_holds+every_challenge+pair_hol
 use Rattle.player.proofs.game.some_reply.Reads as some-reply
 use Rattle.player.proofs.game.some_reply.Kinds as some-reply-kinds
 use Rattle.player.proofs.game.+challenge_holds+every_challenge+pair_holds+reply_holds+some_reply.Lts-some_reply as some-reply-lts
-use Rattle.player.proofs.game.field_after.Reads as field-after-reads
-use Rattle.player.proofs.game.may_reply.Reads as may-reply-reads
-use Rattle.player.proofs.game.may_use.Reads as may-use-reads
-use Rattle.player.proofs.reader.lines.Reads as lines-reads
+use Rattle.second_reader.proofs.moves.field_after.Reads as field-after-reads
+use Rattle.second_reader.proofs.moves.may_reply.Reads as may-reply-reads
+use Rattle.second_reader.proofs.moves.may_use.Reads as may-use-reads
+use Rattle.second_reader.proofs.reader.lines.Reads as lines-reads
 use Rattle.player.proofs.game.+challenge_holds+every_challenge+pair_holds+reply_holds+some_reply.{
   statement,
 }
@@ -271,7 +271,9 @@ some-reply-loop-holds : (t : ℕ) → some-reply-lts.Need-loop-holds (some-reply
 some-reply-loop-holds t c = (omega arith, runs-start (replies _ _ _ _) _ _)
 
 some-reply-reply-holds-requires : (t : ℕ) → some-reply-lts.Need-reply-holds-requires (some-reply-calls t) (some-reply-at t) some-reply.Post some-reply-Inv-loop some-reply-μ-loop
-some-reply-reply-holds-requires t c κs = (omega (arith, c .before .before .before .before .pre .0), ((c .before .before .before .before .pre .1 .0 .0, c .before .before .before .before .pre .1 .0 .1, omega (arith, c .before .before .lines .ensures)), c .before .before .before .before .pre .1 .1))
+some-reply-reply-holds-requires t c κs =
+    let p = c .before .before .before .before .pre in
+    (omega (arith, p .0), ((p .1 .0 .0, omega (arith, p .1 .0 .1, c .before .before .lines .ensures), omega (arith, c .before .before .lines .ensures)), p .1 .1))
 
 some-reply-enum-known-rest : (t : ℕ) → some-reply-lts.Need-enum-known-rest (some-reply-calls t) (some-reply-at t) some-reply.Post some-reply-Inv-loop some-reply-μ-loop
 some-reply-enum-known-rest t c = search needs

@@ -6,8 +6,8 @@ use Prim.Native.Nat.{_-_, _≤_}
 use Rattle.model.specs.Field.{at}
 use Rattle.model.specs.Sheet.{cardOf}
 use Rattle.player.specs.Played.{tried}
-use Rattle.player.proofs.Fields.{fits-fewer}
-use Rattle.player.proofs.Rounds.{rounds-end, rounds-bound, rounds-next}
+use Rattle.second_reader.proofs.Counts.{fits-fewer}
+use Rattle.player.proofs.Rounds.{rounds-start, rounds-end, rounds-bound, rounds-next}
 use Rattle.player.proofs.game.try_rounds.Statement.{statement}
 use Rattle.player.proofs.game.try_rounds.Tie as tie
 
@@ -18,7 +18,7 @@ abbrev μ-loop : tie.MeasureT-loop
 μ-loop s limit a b budget left₀ rounds₀ left rounds = limit - rounds
 
 loop-holds : tie.Need-loop-holds Inv-loop μ-loop
-loop-holds c = let z : c .before .args .limit - 0 ≡ c .before .args .limit = omega arith in (omega arith, rw z refl)
+loop-holds c = (omega arith, rounds-start _ _ _ _ 0 _)
 
 returns : tie.Need-returns Inv-loop μ-loop
 returns c = rounds-bound _ _ _ _ _ (c .before .before .loop .inv .1) (c .before .loop-test .taken) (c .if1 .taken)

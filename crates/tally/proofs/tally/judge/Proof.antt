@@ -45,16 +45,16 @@ judge-held-requires-3 : tie.Need-judge-held-requires-3
 judge-held-requires-3 c κs = search needs
 
 returns : tie.Need-returns
-returns c = search needs
+returns c = judged (c .before .before .enum-told .given .1) (c .enum-told2 .given .1)
 
 returns-2 : tie.Need-returns-2
-returns-2 c = search needs
+returns-2 c = judged (c .before .before .enum-told .given .1) (c .enum-told3 .given .1)
 
 returns-3 : tie.Need-returns-3
-returns-3 c = search needs
+returns-3 c = judged (c .before .before .enum-told .given .1) (c .enum-told4 .given .1)
 
 returns-4 : tie.Need-returns-4
-returns-4 c = search needs
+returns-4 c = judged (c .before .before .enum-told .given .1) (c .enum-told5 .given .1)
 
 returns-5 : tie.Need-returns-5
 returns-5 c = parted-agrees (c .before .before .before .before .before .called .given .1) (c .before .before .tried .given .1) (c .if1 .taken)

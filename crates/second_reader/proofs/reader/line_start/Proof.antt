@@ -4,9 +4,9 @@ use native.Mathlib.Omega.{arith}
 use mathlib.Core.Path.{ap}
 use Prim.Native.Nat.{ℕ, _+_, _*_}
 use Rattle.model.specs.Sheet.{linesOffset}
-use Rattle.player.proofs.Fields.{product-most}
-use Rattle.player.proofs.reader.line_start.Statement.{statement}
-use Rattle.player.proofs.reader.line_start.Tie as tie
+use Rattle.second_reader.proofs.Counts.{product-most}
+use Rattle.second_reader.proofs.reader.line_start.Statement.{statement}
+use Rattle.second_reader.proofs.reader.line_start.Tie as tie
 
 kinds-requires : tie.Need-kinds-requires
 kinds-requires c κs = search needs

@@ -16,7 +16,7 @@ use Rattle.model.specs.Card.{fire}
 use Rattle.model.specs.Sheet.{byte, u16At, kindCount, lineCount, fieldsOffset, linesOffset, counts, lineOf, fieldOf}
 use Rattle.theory.proofs.Exec.{Tells, tells-lt}
 use Rattle.theory.proofs.Field.{unit-same, unit-other}
-use Rattle.player.specs.Fields.{Fits, After}
+use Rattle.second_reader.specs.Fields.{Fits, After}
 
 -- The counts of n kinds: those read below n, none from n on.
 counts-below : (n : ℕ) (f : ℕ → ℕ) (k : ℕ) → k < n → counts n f k ≡ f k

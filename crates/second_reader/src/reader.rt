@@ -3,7 +3,7 @@ ghost use mathlib.Core.Path.{_≡_};
 ghost use Prim.Native.Nat.{_+_, _*_, _≤_, _<_};
 ghost use Rattle.model.specs.Field.{at};
 ghost use Rattle.model.specs.Sheet.{byte, u16At, kindCount, lineCount, fieldCount, linesOffset, lineOf, fieldOf};
-ghost use Rattle.player.specs.Fields.{Fits};
+ghost use Rattle.second_reader.specs.Fields.{Fits};
 
 // The byte as a number to count with.
 fn wide(x: u8) -> usize

@@ -6,9 +6,9 @@ use mathlib.Core.Path.{_≡_}
 use Rattle.model.specs.Field.{at}
 use Rattle.model.specs.Card.{fire}
 use Rattle.model.specs.Sheet.{lineOf}
-use Rattle.player.proofs.Fields.{Filled, filled-none, filled-more, filled-all, fire-past}
-use Rattle.player.proofs.game.field_after.Statement.{statement}
-use Rattle.player.proofs.game.field_after.Tie as tie
+use Rattle.second_reader.proofs.Counts.{Filled, filled-none, filled-more, filled-all, fire-past}
+use Rattle.second_reader.proofs.moves.field_after.Statement.{statement}
+use Rattle.second_reader.proofs.moves.field_after.Tie as tie
 
 abbrev Inv-loop : tie.InvT-loop
 Inv-loop s j a n after₀ k₀ after k = (k ≤ n) × Filled (fire (lineOf s j) (at a)) (λ q. at a q + 255) a after k

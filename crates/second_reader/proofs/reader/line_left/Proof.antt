@@ -1,9 +1,9 @@
 -- Then stand the counts.
 use borrow.Author.Needs.{needs}
 use mathlib.Core.Path.{_∙_}
-use Rattle.player.proofs.Fields.{left-at}
-use Rattle.player.proofs.reader.line_left.Statement.{statement}
-use Rattle.player.proofs.reader.line_left.Tie as tie
+use Rattle.second_reader.proofs.Counts.{left-at}
+use Rattle.second_reader.proofs.reader.line_left.Statement.{statement}
+use Rattle.second_reader.proofs.reader.line_left.Tie as tie
 
 line-start-requires : tie.Need-line-start-requires
 line-start-requires c κs = search needs

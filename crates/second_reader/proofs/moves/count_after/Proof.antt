@@ -1,9 +1,9 @@
 -- A token goes where the kind is the line's and there is one.
 use borrow.Author.Needs.{needs}
 use native.Mathlib.Omega.{arith}
-use Rattle.player.proofs.Fields.{other-kind, none-there, one-goes}
-use Rattle.player.proofs.game.count_after.Statement.{statement}
-use Rattle.player.proofs.game.count_after.Tie as tie
+use Rattle.second_reader.proofs.Counts.{other-kind, none-there, one-goes}
+use Rattle.second_reader.proofs.moves.count_after.Statement.{statement}
+use Rattle.second_reader.proofs.moves.count_after.Tie as tie
 
 line-left-requires : tie.Need-line-left-requires
 line-left-requires c κs = search needs

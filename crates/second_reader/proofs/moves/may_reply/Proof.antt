@@ -3,9 +3,9 @@ use borrow.Author.Needs.{needs}
 use Prim.Native.Nat.{ℕ}
 use mathlib.Core.Path.{sym, ap, _∙_}
 use lib.Dec.{eqb}
-use Rattle.player.proofs.Fields.{both-second, both-none}
-use Rattle.player.proofs.game.may_reply.Statement.{statement}
-use Rattle.player.proofs.game.may_reply.Tie as tie
+use Rattle.second_reader.proofs.Counts.{both-second, both-none}
+use Rattle.second_reader.proofs.moves.may_reply.Statement.{statement}
+use Rattle.second_reader.proofs.moves.may_reply.Tie as tie
 
 may-use-requires : tie.Need-may-use-requires
 may-use-requires c κs = search needs

@@ -6,9 +6,9 @@ use mathlib.Core.Path.{_≡_, sym, _∙_}
 use lib.ListN.{replicate}
 use Rattle.model.specs.Field.{at}
 use Rattle.model.specs.Sheet.{fieldOf}
-use Rattle.player.proofs.Fields.{Filled, filled-none, filled-more, filled-all, zeros-at, field-past, read-fits}
-use Rattle.player.proofs.reader.field.Statement.{statement}
-use Rattle.player.proofs.reader.field.Tie as tie
+use Rattle.second_reader.proofs.Counts.{Filled, filled-none, filled-more, filled-all, zeros-at, field-past, read-fits}
+use Rattle.second_reader.proofs.reader.field.Statement.{statement}
+use Rattle.second_reader.proofs.reader.field.Tie as tie
 
 abbrev Inv-loop : tie.InvT-loop
 Inv-loop s i n counts₀ k₀ counts k = (k ≤ n) × Filled (fieldOf s i) (λ _. 65535) (replicate 32 0) counts k

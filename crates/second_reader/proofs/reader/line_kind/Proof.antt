@@ -1,9 +1,9 @@
 -- The kind stands where the line starts.
 use borrow.Author.Needs.{needs}
 use mathlib.Core.Path.{_∙_}
-use Rattle.player.proofs.Fields.{kind-at}
-use Rattle.player.proofs.reader.line_kind.Statement.{statement}
-use Rattle.player.proofs.reader.line_kind.Tie as tie
+use Rattle.second_reader.proofs.Counts.{kind-at}
+use Rattle.second_reader.proofs.reader.line_kind.Statement.{statement}
+use Rattle.second_reader.proofs.reader.line_kind.Tie as tie
 
 line-start-requires : tie.Need-line-start-requires
 line-start-requires c κs = search needs

@@ -2,8 +2,8 @@
 use borrow.Author.Needs.{needs}
 use mathlib.Core.Path.{sym}
 use lib.ListN.{List·getD-eq-default}
-use Rattle.player.proofs.reader.byte_at.Statement.{statement}
-use Rattle.player.proofs.reader.byte_at.Tie as tie
+use Rattle.second_reader.proofs.reader.byte_at.Statement.{statement}
+use Rattle.second_reader.proofs.reader.byte_at.Tie as tie
 
 shared-slice-read-wide : tie.Need-shared-slice-read-wide
 shared-slice-read-wide c = search needs

@@ -5,9 +5,9 @@ use Prim.Native.Nat.{ℕ}
 use mathlib.Core.Path.{ap}
 use lib.Dec.{ltb}
 use Rattle.model.specs.Field.{at}
-use Rattle.player.proofs.Fields.{no-token}
-use Rattle.player.proofs.game.may_use.Statement.{statement}
-use Rattle.player.proofs.game.may_use.Tie as tie
+use Rattle.second_reader.proofs.Counts.{no-token}
+use Rattle.second_reader.proofs.moves.may_use.Statement.{statement}
+use Rattle.second_reader.proofs.moves.may_use.Tie as tie
 
 line-kind-requires : tie.Need-line-kind-requires
 line-kind-requires c κs = search needs

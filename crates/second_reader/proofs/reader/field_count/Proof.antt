@@ -3,9 +3,9 @@ use borrow.Author.Needs.{needs}
 use native.Mathlib.Omega.{arith}
 use Prim.Native.Nat.{_*_}
 use mathlib.Core.Path.{_∙_}
-use Rattle.player.proofs.Fields.{product-most, field-at}
-use Rattle.player.proofs.reader.field_count.Statement.{statement}
-use Rattle.player.proofs.reader.field_count.Tie as tie
+use Rattle.second_reader.proofs.Counts.{product-most, field-at}
+use Rattle.second_reader.proofs.reader.field_count.Statement.{statement}
+use Rattle.second_reader.proofs.reader.field_count.Tie as tie
 
 lines-requires : tie.Need-lines-requires
 lines-requires c κs = search needs

@@ -1,9 +1,9 @@
 -- The code stands next.
 use borrow.Author.Needs.{needs}
 use mathlib.Core.Path.{_∙_}
-use Rattle.player.proofs.Fields.{code-at}
-use Rattle.player.proofs.reader.line_code.Statement.{statement}
-use Rattle.player.proofs.reader.line_code.Tie as tie
+use Rattle.second_reader.proofs.Counts.{code-at}
+use Rattle.second_reader.proofs.reader.line_code.Statement.{statement}
+use Rattle.second_reader.proofs.reader.line_code.Tie as tie
 
 line-start-requires : tie.Need-line-start-requires
 line-start-requires c κs = search needs
