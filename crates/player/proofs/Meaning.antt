@@ -107,7 +107,7 @@ module _ (s : List ℕ) (limit first second budget : ℕ) where
   unfolding Holds
   holds-none q l = let z : q ≡ 0 = omega arith in rw z tt
 
-  found-means : (t : Tried) → Found (cardOf s) (fieldOf s first) (fieldOf s second) budget 0 limit t → Means s limit first second budget t
+  found-means : (t : Tried) → Found (cardOf s) (fieldOf s first) (fieldOf s second) budget 0 limit t → Means s first second limit budget t
   unfolding Found Means
   found-means (Parted r) f = (omega (arith, f .1), f .2, (λ q l. f .3 q (omega arith)), omega (arith, f .4, pairs-all (cardOf s) (fieldOf s first) (fieldOf s second) r))
   found-means (Held r) f = (omega (arith, f .0), f .1, omega (arith, f .2, pairs-all (cardOf s) (fieldOf s first) (fieldOf s second) r))
@@ -115,11 +115,11 @@ module _ (s : List ℕ) (limit first second budget : ℕ) where
   found-means (OutOfBounds r) f = (omega (arith, f .1), f .2, inr (inr (inr (f .3))))
 
   -- Every answer of the player means what it says.
-  pub parting-means : Means s limit first second budget (partingOf s limit first second budget)
+  pub parting-means : Means s first second limit budget (partingOf s limit first second budget)
   unfolding Means
   parting-means = go (decLt mostKinds (kindCount s)) (decLt first (fieldCount s)) (decLt second (fieldCount s))
     where
-      go : Dec (mostKinds < kindCount s) → Dec (first < fieldCount s) → Dec (second < fieldCount s) → Means s limit first second budget (partingOf s limit first second budget)
+      go : Dec (mostKinds < kindCount s) → Dec (first < fieldCount s) → Dec (second < fieldCount s) → Means s first second limit budget (partingOf s limit first second budget)
       go (yes h) f g = rw (← kinds-bound s limit first second budget h) (omega arith, holds-none, inl h)
       go (no h) (no f) g = rw (← first-bound s limit first second budget (omega arith) (omega arith)) (omega arith, holds-none, inr (inl (omega arith)))
       go (no h) (yes f) (no g) = rw (← second-bound s limit first second budget (omega arith) f (omega arith)) (omega arith, holds-none, inr (inr (inl (omega arith))))

@@ -10,7 +10,7 @@ use Rattle.player.specs.declared.game.Tried.{Tried}
 use Rattle.player.specs.declared.game.Tried.the-variants.{Parted, Held, OutOfBudget, OutOfBounds}
 use Rattle.player.specs.Played.{mostKinds, mostRounds}
 
-module _ (s : List ℕ) (limit first second budget : ℕ) where
+module _ (s : List ℕ) (first second : ℕ) where
   -- The two fields hold at r rounds.
   abbrev pub HoldsAt : ℕ → Type 0
   HoldsAt r = Holds (cardOf s) r (fieldOf s first) (fieldOf s second)
@@ -23,9 +23,10 @@ module _ (s : List ℕ) (limit first second budget : ℕ) where
   abbrev pub Bound : ℕ → Type 0
   Bound r = (mostKinds < kindCount s) ⊎ ((fieldCount s ≤ first) ⊎ ((fieldCount s ≤ second) ⊎ (mostRounds ≤ r)))
 
-  -- "A pair is parted within r rounds when it does not hold at r."
-  unfoldable pub Means : Tried → Type 0
-  Means (Parted r) = (r ≤ limit) × (¬ HoldsAt r) × ((q : ℕ) → q < r → HoldsAt q) × (pairsTo r ≤ budget)
-  Means (Held r) = (r ≡ limit) × ((q : ℕ) → q ≤ r → HoldsAt q) × (pairsTo r ≤ budget)
-  Means (OutOfBudget r) = (r < limit) × ((q : ℕ) → q ≤ r → HoldsAt q) × (budget < pairsTo (r + 1))
-  Means (OutOfBounds r) = (r ≤ limit) × ((q : ℕ) → q ≤ r → HoldsAt q) × Bound r
+  -- How far the player looked and why it stopped, where it was asked for so many rounds and given so many pairs. "A pair is parted within r rounds
+  -- when it does not hold at r."
+  unfoldable pub Means : ℕ → ℕ → Tried → Type 0
+  Means limit budget (Parted r) = (r ≤ limit) × (¬ HoldsAt r) × ((q : ℕ) → q < r → HoldsAt q) × (pairsTo r ≤ budget)
+  Means limit budget (Held r) = (r ≡ limit) × ((q : ℕ) → q ≤ r → HoldsAt q) × (pairsTo r ≤ budget)
+  Means limit budget (OutOfBudget r) = (r < limit) × ((q : ℕ) → q ≤ r → HoldsAt q) × (budget < pairsTo (r + 1))
+  Means limit budget (OutOfBounds r) = (r ≤ limit) × ((q : ℕ) → q ≤ r → HoldsAt q) × Bound r
