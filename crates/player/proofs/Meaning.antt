@@ -1,8 +1,8 @@
 -- What the answers say of the game.
 use mathlib.Core.Bool.{Bool, true, false}
 use mathlib.Core.List.{List}
-use mathlib.Core.Logic.{_⊎_, inl, inr}
-use mathlib.Core.Path.{_≡_, refl, sym, ap, _∙_}
+use mathlib.Core.Logic.{inl, inr}
+use mathlib.Core.Path.{_≡_, refl, ap, _∙_}
 use Prim.Native.Nat.{ℕ, zero, suc, _+_, _-_, _≤_, _<_}
 use native.Mathlib.Decide.{decLt}
 use native.Mathlib.Omega.{arith}
@@ -15,7 +15,7 @@ use Rattle.theory.proofs.Exec.{Tells}
 use Rattle.theory.proofs.Walks.{tells-examine, Holds-less}
 use Rattle.player.specs.declared.game.Tried.{Tried}
 use Rattle.player.specs.declared.game.Tried.the-variants.{Parted, Held, OutOfBudget, OutOfBounds}
-use Rattle.player.specs.Played.{mostKinds, mostRounds, cut, next, tried, partingOf}
+use Rattle.player.specs.Played.{mostKinds, mostRounds, tried, partingOf}
 use Rattle.player.specs.Meaning.{Means}
 use Rattle.player.proofs.Cuts.{over, under}
 use Rattle.player.proofs.Rounds.{tried-none, tried-bound, tried-one, kinds-bound, first-bound, second-bound, fields-tried}

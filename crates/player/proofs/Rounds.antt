@@ -1,12 +1,9 @@
 -- Laws of the numbers of rounds that are tried one after another.
-use mathlib.Core.Bool.{Bool, true, false}
 use mathlib.Core.List.{List}
 use mathlib.Core.Path.{_≡_, refl, sym, ap, _∙_}
 use Prim.Native.Nat.{ℕ, suc, _+_, _-_, _≤_, _<_}
 use native.Mathlib.Omega.{arith}
 use borrow.Author.Tests.{lt-ltb, le-ltb, le-leb, lt-leb}
-use lib.Dec.{ltb, leb}
-use Rattle.model.specs.Finite.{both}
 use Rattle.model.specs.Field.{Field}
 use Rattle.model.specs.Card.{Line}
 use Rattle.model.specs.Sheet.{kindCount, fieldCount, cardOf, fieldOf}

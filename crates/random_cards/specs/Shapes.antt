@@ -1,5 +1,5 @@
 -- The numbers of a small card that the generator makes.
-use Prim.Native.Nat.{_+_, _≤_, _<_}
+use Prim.Native.Nat.{_≤_, _<_}
 use Rattle.random_cards.specs.declared.cards.Shape.{Shape}
 
 pub record Small (c : Shape) : Type 0 where

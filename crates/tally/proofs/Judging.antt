@@ -6,7 +6,6 @@ use Prim.Native.Nat.{ℕ, _+_, _≤_, _<_}
 use native.Mathlib.Decide.{ℕ-discrete, decLt}
 use native.Mathlib.Omega.{arith}
 use borrow.Author.Tests.{le-leb, lt-leb, lt-ltb, le-ltb, eq-eqb, ne-eqb}
-use lib.Dec.{ltb, leb}
 use lib.ListN.{length, getD}
 use lib.Seq.{ext-getD}
 use Rattle.model.specs.Field.{Field}
@@ -15,7 +14,7 @@ use Rattle.second_reader.proofs.Counts.{field-past}
 use Rattle.player.specs.declared.game.Tried.{Tried}
 use Rattle.player.specs.declared.game.Tried.the-variants.{Parted}
 use Rattle.tally.specs.declared.tally.Called.{Called}
-use Rattle.tally.specs.declared.tally.Called.the-variants.{Same, Different}
+use Rattle.tally.specs.declared.tally.Called.the-variants.{Different}
 use Rattle.tally.specs.declared.tally.Judgement.{Judgement}
 use Rattle.tally.specs.declared.tally.Judgement.the-variants.{Agrees, Open, Wrong}
 use Rattle.tally.specs.declared.tally.Extent.the-variants.{InPart, NotAtAll}

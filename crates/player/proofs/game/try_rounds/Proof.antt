@@ -1,7 +1,7 @@
 -- What is left of the budget, at the rounds after those tried, comes to what all of it comes to from the first. The measure is what is left of the limit.
 use borrow.Author.Needs.{needs}
 use native.Mathlib.Omega.{arith}
-use mathlib.Core.Path.{_≡_, refl}
+use mathlib.Core.Path.{_≡_}
 use Prim.Native.Nat.{_-_, _≤_}
 use Rattle.model.specs.Field.{at}
 use Rattle.model.specs.Sheet.{cardOf}

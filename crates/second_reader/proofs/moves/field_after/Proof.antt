@@ -1,7 +1,7 @@
 -- The counts below k are those after the line. The measure is what is left of the kinds.
 use borrow.Author.Needs.{needs}
 use native.Mathlib.Omega.{arith}
-use Prim.Native.Nat.{ℕ, _+_, _-_, _≤_}
+use Prim.Native.Nat.{_+_, _-_, _≤_}
 use mathlib.Core.Path.{_≡_}
 use Rattle.model.specs.Field.{at}
 use Rattle.model.specs.Card.{fire}

@@ -1,7 +1,7 @@
 -- The counts below k are read. The measure is what is left of the kinds.
 use borrow.Author.Needs.{needs}
 use native.Mathlib.Omega.{arith}
-use Prim.Native.Nat.{ℕ, _-_, _≤_}
+use Prim.Native.Nat.{_-_, _≤_}
 use mathlib.Core.Path.{_≡_, sym, _∙_}
 use lib.ListN.{replicate}
 use Rattle.model.specs.Field.{at}
