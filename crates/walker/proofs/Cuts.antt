@@ -7,8 +7,8 @@ use native.Mathlib.Omega.{arith}
 use borrow.Author.Tests.{lt-ltb, le-ltb}
 use Rattle.model.specs.Walk.{Seen, more}
 use Rattle.walker.specs.Rounds.{outcome, within, examined}
-use Rattle.walker.specs.declared.game.Examined.{Examined}
-use Rattle.walker.specs.declared.game.Examined.the-variants.{Spent, Holds, Fails}
+use Rattle.walker.specs.declared.rounds.Examined.{Examined}
+use Rattle.walker.specs.declared.rounds.Examined.the-variants.{Spent, Holds, Fails}
 
 pub over : (left : ℕ) (h : Bool) (n : ℕ) → left < n → within left h n ≡ Spent
 unfolding within

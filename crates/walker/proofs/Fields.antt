@@ -13,7 +13,7 @@ use Rattle.theory.proofs.Field.{unit-same, unit-other}
 use Rattle.sheet.specs.Reader.{Reads, fieldCounts}
 use Rattle.sheet.specs.declared.reader.Card.{Card}
 use Rattle.sheet.proofs.Laws.{Bytes, field-under, field-counts-at}
-use Rattle.walker.specs.Rounds.{Bounded}
+use Rattle.walker.specs.Lines.{Bounded}
 
 -- A field without a token of kind k has none to lose.
 pub less-none : (a : List ℕ) (k : ℕ) → at a k ≡ 0 → at a ≡ (λ j. at a j - unit k j)

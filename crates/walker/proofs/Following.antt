@@ -14,10 +14,9 @@ use Rattle.model.specs.Card.{Line}
 use Rattle.model.specs.Limits.{mostCodes, mostLines}
 use Rattle.model.specs.Sheet.{lineCount, lineOf}
 use Rattle.theory.proofs.Lists.{least-cases}
-use Rattle.walker.specs.Rounds.{usable, answers, nextLine}
+use Rattle.walker.specs.Lines.{usable, answers, nextOf}
 use Rattle.walker.specs.Following.{hasCode, Long, RowSet, FollowsFrom, Follows}
-use Rattle.walker.proofs.Searches.{least-next, least-here, least-last, least-over}
-use Rattle.walker.proofs.Challenges.{next-within, next-test}
+use Rattle.walker.proofs.Searches.{least-next, least-here, least-last, least-over, next-within, next-test}
 
 -- The entries of a row, which starts at `start`, are set below a code.
 pub record Setting (start : ℕ) (number : ℕ → ℕ) (before after : List ℕ) (code : ℕ) : Type 0 where
@@ -65,7 +64,7 @@ follows-line {s} {line} {code} {before} {after} f h small e l kept r =
       entry = λ i c a b m. go i c a b m (decLt line i);
     }
   where
-    same : (c : ℕ) → c < mostCodes → Dec (c ≡ code) → at (set after (line * mostCodes + code) line) (line * mostCodes + c) ≡ nextLine (hasCode c) (lineOf s) line (lineCount s)
+    same : (c : ℕ) → c < mostCodes → Dec (c ≡ code) → at (set after (line * mostCodes + code) line) (line * mostCodes + c) ≡ nextOf (hasCode c) (lineOf s) line (lineCount s)
     same c m (yes q) =
         rw q (getD-set-same after (line * mostCodes + code) line 0 (omega (arith, kept, f .long))
         ∙ sym (least-here (λ j. hasCode code (lineOf s j)) line (lineCount s) h (eq-eqb _ _ (sym e))))
@@ -75,7 +74,7 @@ follows-line {s} {line} {code} {before} {after} f h small e l kept r =
         ∙ f .entry (line + 1) c (omega arith) (omega arith) m
         ∙ sym (least-next (λ j. hasCode c (lineOf s j)) line (lineCount s) h (ne-eqb _ _ (λ z. q (sym z ∙ sym e))))
 
-    go : (i c : ℕ) → line ≤ i → i ≤ lineCount s → c < mostCodes → Dec (line < i) → at (set after (line * mostCodes + code) line) (i * mostCodes + c) ≡ nextLine (hasCode c) (lineOf s) i (lineCount s)
+    go : (i c : ℕ) → line ≤ i → i ≤ lineCount s → c < mostCodes → Dec (line < i) → at (set after (line * mostCodes + code) line) (i * mostCodes + c) ≡ nextOf (hasCode c) (lineOf s) i (lineCount s)
     go i c a b m (yes q) =
         getD-set-other after (line * mostCodes + code) (i * mostCodes + c) line 0 (λ z. omega arith)
         ∙ r .kept (i * mostCodes + c) (omega arith)
@@ -114,19 +113,19 @@ module _ {s : List ℕ} {l : Line} {b : Field} {from : ℕ} where
     -- From a position up to which no line is a reply the table leads to the next line to be tried.
     seeking-from : (i : ℕ) → from ≤ i → i ≤ lineCount s → ((j : ℕ) → from ≤ j → j < i → answers l b (lineOf s j) ≡ false) → line ≡ at t (i * mostCodes + code) → Seeking s l b from line
     seeking-from i a fits f d =
-        let n : line ≡ nextLine (hasCode code) (lineOf s) i (lineCount s) = d ∙ table .entry i code (omega arith) fits small in
+        let n : line ≡ nextOf (hasCode code) (lineOf s) i (lineCount s) = d ∙ table .entry i code (omega arith) fits small in
         let w = next-within (hasCode code) (lineOf s) i (lineCount s) fits in
         record {
           later = omega (arith, n, w .0);
           within = omega (arith, n, w .1);
           coded = λ h.
               ap (λ (k : ℕ). eqb (lineOf s k .code) (l .code)) n
-              ∙ ap (λ (x : ℕ). eqb (lineOf s (nextLine (hasCode code) (lineOf s) i (lineCount s)) .code) x) (sym e)
+              ∙ ap (λ (x : ℕ). eqb (lineOf s (nextOf (hasCode code) (lineOf s) i (lineCount s)) .code) x) (sym e)
               ∙ next-test (hasCode code) (lineOf s) i (lineCount s) fits (omega (arith, n));
           passed = λ j u v. go n j u v (decLt j i);
         }
       where
-        go : line ≡ nextLine (hasCode code) (lineOf s) i (lineCount s) → (j : ℕ) → from ≤ j → j < line → Dec (j < i) → answers l b (lineOf s j) ≡ false
+        go : line ≡ nextOf (hasCode code) (lineOf s) i (lineCount s) → (j : ℕ) → from ≤ j → j < line → Dec (j < i) → answers l b (lineOf s j) ≡ false
         go n j u v (yes q) = f j u q
         go n j u v (no q) = answers-coded l b (lineOf s j) (rw e at (is-false (hasCode code (lineOf s j)) (least-cases (λ k. hasCode code (lineOf s k)) i (lineCount s - i) .2 j (omega arith) (rw n at v))))
 
@@ -141,12 +140,12 @@ module _ {s : List ℕ} {l : Line} {b : Field} {from : ℕ} where
         go j x y (no q) = k .passed j x (omega arith)
 
   module _ {line : ℕ} (k : Seeking s l b from line) (to : ℕ) (fits : to ≤ lineCount s) where
-    pub seeking-found : line < to → usable b (lineOf s line) ≡ true → line ≡ nextLine (answers l b) (lineOf s) from to
+    pub seeking-found : line < to → usable b (lineOf s line) ≡ true → line ≡ nextOf (answers l b) (lineOf s) from to
     seeking-found h u =
         sym (least-over (λ j. answers l b (lineOf s j)) to from line (k .later) (omega arith) (k .passed)
         ∙ least-here (λ j. answers l b (lineOf s j)) line to h (answers-usable l b (lineOf s line) true (k .coded (omega arith)) u))
 
-    pub seeking-ends : from ≤ to → to ≤ line → to ≡ nextLine (answers l b) (lineOf s) from to
+    pub seeking-ends : from ≤ to → to ≤ line → to ≡ nextOf (answers l b) (lineOf s) from to
     seeking-ends a h =
         sym (least-over (λ j. answers l b (lineOf s j)) to from to a (omega arith) (λ j u v. k .passed j u (omega arith))
         ∙ least-last (λ j. answers l b (lineOf s j)) to to (omega arith))

@@ -7,17 +7,18 @@ use native.Mathlib.Omega.{arith}
 use Rattle.model.specs.Field.{Field}
 use Rattle.model.specs.Card.{Line}
 use Rattle.model.specs.Walk.{Seen, more, tryChallenges, examine}
-use Rattle.walker.specs.Rounds.{within, examined, leaves}
-use Rattle.walker.specs.declared.game.Examined.{Examined}
-use Rattle.walker.specs.declared.game.Examined.the-variants.{Spent}
-use Rattle.walker.proofs.Cuts.{over, joined, follow, then-holds}
+use Rattle.theory.specs.Game.{first, second}
+use Rattle.walker.specs.Rounds.{examined}
+use Rattle.walker.specs.Challenges.{leaves}
+use Rattle.walker.specs.declared.rounds.Examined.the-variants.{Spent, Holds}
+use Rattle.walker.proofs.Cuts.{over, under, joined, follow, then-holds}
 
 module _ (xs : List Line) (a b : Field) where
   -- The challenges of both sides, where r rounds are left after the one that they begin.
   sides : ℕ → Seen
   sides r =
-      let s = tryChallenges (leaves false xs r) xs a b xs in
-      elim (s .holds) as (λ _. Seen) [ true ↦ more (s .count) (tryChallenges (leaves true xs r) xs b a xs) | false ↦ s ]
+      let s = tryChallenges (leaves first xs r) xs a b xs in
+      elim (s .holds) as (λ _. Seen) [ true ↦ more (s .count) (tryChallenges (leaves second xs r) xs b a xs) | false ↦ s ]
 
   -- "A pair examined at r rounds counts 1."
   counts-one : (r : ℕ) → examine xs (suc r) a b ≡ more 1 (sides r)
@@ -44,27 +45,16 @@ module _ (xs : List Line) (a b : Field) where
     pair-spent r e = sym (over v (examine xs r a b .holds) (examine xs r a b .count) (omega (arith, examines-some r)))
 
     -- "At 0 rounds it holds."
-    pub pair-holds : (r : ℕ) → r ≡ 0 → within v true 1 ≡ examined v (examine xs r a b)
+    pub pair-holds : (r : ℕ) → ¬ (v ≡ 0) → r ≡ 0 → Holds (v - 1) ≡ examined v (examine xs r a b)
     unfolding examine
-    pair-holds r e = rw e refl
+    pair-holds r n e = rw e (sym (under v true 1 (omega arith)))
 
     pub pair-next : (r : ℕ) → ¬ (v ≡ 0) → ¬ (r ≡ 0)
-        → examined v (examine xs r a b) ≡ follow true (examined (v - 1) (tryChallenges (leaves false xs (r - 1)) xs a b xs)) (tryChallenges (leaves true xs (r - 1)) xs b a xs)
+        → examined v (examine xs r a b) ≡ follow true (examined (v - 1) (tryChallenges (leaves first xs (r - 1)) xs a b xs)) (tryChallenges (leaves second xs (r - 1)) xs b a xs)
     unfolding sides
     pair-next r n m =
         let e : r ≡ suc (r - 1) = omega arith in
         ap (λ (q : ℕ). examined v (examine xs q a b)) e
         ∙ ap (examined v) (counts-one (r - 1))
         ∙ joined v (sides (r - 1) .holds) 1 (sides (r - 1) .count) (omega arith)
-        ∙ then-holds (v - 1) (tryChallenges (leaves true xs (r - 1)) xs b a xs) (tryChallenges (leaves false xs (r - 1)) xs a b xs)
-
--- The pair that is left, whoever challenged.
-module _ (xs : List Line) (r v : ℕ) (second : Bool) (x y : Field) where
-  module _ (found : Examined) (p q : Field) (e : p ≡ x) (d : q ≡ y) where
-    pub left-first : second ≡ false → found ≡ examined v (examine xs r p q) → found ≡ examined v (leaves second xs r x y)
-    unfolding leaves
-    left-first b f = f ∙ rw (b, e, d) refl
-
-    pub left-second : second ≡ true → found ≡ examined v (examine xs r q p) → found ≡ examined v (leaves second xs r x y)
-    unfolding leaves
-    left-second b f = f ∙ rw (b, e, d) refl
+        ∙ then-holds (v - 1) (tryChallenges (leaves second xs (r - 1)) xs b a xs) (tryChallenges (leaves first xs (r - 1)) xs a b xs)

@@ -9,7 +9,7 @@ use Rattle.model.specs.Field.{at}
 use Rattle.model.specs.Card.{Line}
 use Rattle.model.specs.Limits.{mostCodes, mostLines}
 use Rattle.model.specs.Sheet.{lineCount, lineOf}
-use Rattle.walker.specs.Rounds.{nextLine}
+use Rattle.walker.specs.Lines.{nextOf}
 
 -- Whether a line has a code.
 abbrev pub hasCode : ℕ → Line → Bool
@@ -27,7 +27,7 @@ pub record RowSet (i : ℕ) (number : ℕ → ℕ) (before after : List ℕ) : T
 -- In the rows from a position up stands, at each position and code, the first line from the position up that has the code, and the number of lines where there is none.
 pub record FollowsFrom (s : List ℕ) (from : ℕ) (t : List ℕ) : Type 0 where
   pub long : Long t
-  pub entry : (i c : ℕ) → from ≤ i → i ≤ lineCount s → c < mostCodes → at t (i * mostCodes + c) ≡ nextLine (hasCode c) (lineOf s) i (lineCount s)
+  pub entry : (i c : ℕ) → from ≤ i → i ≤ lineCount s → c < mostCodes → at t (i * mostCodes + c) ≡ nextOf (hasCode c) (lineOf s) i (lineCount s)
 
 -- The same in all rows.
 abbrev pub Follows : List ℕ → List ℕ → Type 0

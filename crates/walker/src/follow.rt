@@ -5,11 +5,21 @@ ghost use mathlib.Core.Path.{_≡_};
 ghost use Prim.Native.Nat.{_+_, _*_, _≤_, _<_};
 ghost use Rattle.model.specs.Field.{at};
 ghost use Rattle.model.specs.Limits.{mostCodes, mostLines};
+ghost use Rattle.model.specs.Sheet.{lineOf};
 ghost use Rattle.sheet.specs.Reader.{Reads};
 ghost use Rattle.walker.specs.Following.{Long, RowSet, FollowsFrom, Follows};
 
 // The entries of the table: 257 positions of 64 codes.
 pub const ENTRIES: usize = 16_448;
+
+// The entry of a row that a line belongs to: its code.
+pub fn row_entry(card: Card, s: &[u8], line: usize) -> usize
+    requires { ⌜ Reads (now s) card ⌝ }
+    requires { ⌜ line < card .lines ⌝ }
+    ensures { λ r. ⌜ (r ≡ lineOf (now (s .entry)) line .code) × (r < mostCodes) ⌝ }
+{
+    card.line_code(s, line)
+}
 
 // What stands in the table at a position and a code.
 pub fn following(t: &[u16], position: usize, code: usize) -> usize
@@ -53,7 +63,7 @@ fn line_row(card: Card, s: &[u8], t: &mut [u16], line: usize)
     requires { ⌜ line < card .lines ⌝ }
     ensures { λ _. ⌜ FollowsFrom (now (s .entry)) line (now (t .exit)) ⌝ }
 {
-    let code = card.line_code(s, line);
+    let code = row_entry(card, s, line);
     copy_row(t, line);
     t[line * Card::CODES + code] = line as u16;
 }

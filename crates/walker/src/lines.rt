@@ -1,12 +1,13 @@
-// The next line that a side may use.
+// The lines that a field may use.
 use crate::follow::following;
+use crate::follow::row_entry;
 use sheet::Card;
 ghost use mathlib.Core.Path.{_≡_};
 ghost use Prim.Native.Nat.{_≤_, _<_};
 ghost use Rattle.model.specs.Field.{at};
 ghost use Rattle.model.specs.Sheet.{lineOf};
 ghost use Rattle.sheet.specs.Reader.{Reads};
-ghost use Rattle.walker.specs.Rounds.{usable, answers, nextLine};
+ghost use Rattle.walker.specs.Lines.{usable, answers, nextOf};
 ghost use Rattle.walker.specs.Following.{Follows};
 
 // Whether the field may use line j.
@@ -17,22 +18,6 @@ pub fn may_use(card: Card, s: &[u8], j: usize, a: &[u32; 32]) -> bool
 {
     let kind = card.line_kind(s, j);
     0 < a[kind]
-}
-
-// The first line from `from` up to `to` that the field may use; `to` where it may use none.
-pub fn next_challenge(card: Card, s: &[u8], from: usize, to: usize, a: &[u32; 32]) -> usize
-    requires { ⌜ Reads (now s) card ⌝ }
-    requires { ⌜ (from ≤ to) × (to ≤ card .lines) ⌝ }
-    ensures { λ r. ⌜ r ≡ nextLine (usable (at (now (a .entry)))) (lineOf (now (s .entry))) from to ⌝ }
-{
-    let mut line = from;
-    while line < to {
-        if may_use(card, s, line, a) {
-            return line;
-        }
-        line += 1;
-    }
-    line
 }
 
 // The first line from `from` up to `to` that is a reply of the field to a challenge by `challenge`; `to` where none is. The table leads from one line of the challenge's code to the next.
@@ -47,9 +32,9 @@ pub fn next_reply(
 ) -> usize
     requires { ⌜ Reads (now s) card × Follows (now s) (now t) ⌝ }
     requires { ⌜ (from ≤ to) × (to ≤ card .lines) × (challenge < card .lines) ⌝ }
-    ensures { λ r. ⌜ r ≡ nextLine (answers (lineOf (now (s .entry)) challenge) (at (now (b .entry)))) (lineOf (now (s .entry))) from to ⌝ }
+    ensures { λ r. ⌜ r ≡ nextOf (answers (lineOf (now (s .entry)) challenge) (at (now (b .entry)))) (lineOf (now (s .entry))) from to ⌝ }
 {
-    let code = card.line_code(s, challenge);
+    let code = row_entry(card, s, challenge);
     let mut line = following(t, from, code);
     while line < to {
         if may_use(card, s, line, b) {

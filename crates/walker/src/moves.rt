@@ -7,7 +7,7 @@ ghost use Rattle.model.specs.Field.{unit, at};
 ghost use Rattle.model.specs.Card.{fire};
 ghost use Rattle.model.specs.Sheet.{lineOf};
 ghost use Rattle.sheet.specs.Reader.{Reads};
-ghost use Rattle.walker.specs.Rounds.{Bounded};
+ghost use Rattle.walker.specs.Lines.{Bounded};
 
 // The field with one token of kind k less, where it has one.
 fn less_one(a: [u32; 32], k: usize) -> [u32; 32]

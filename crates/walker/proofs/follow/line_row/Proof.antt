@@ -4,13 +4,13 @@ use native.Mathlib.Omega.{arith}
 use Prim.Native.Nat.{_<_}
 use lib.ListN.{length-set}
 use Rattle.model.specs.Limits.{mostCodes, mostLines}
-use Rattle.sheet.proofs.Laws.{lines-are, lines-most, codes-most, code-under}
+use Rattle.sheet.proofs.Laws.{lines-are, lines-most}
 use Rattle.walker.proofs.Following.{follows-line}
 use Rattle.walker.proofs.follow.line_row.Statement.{statement}
 use Rattle.walker.proofs.follow.line_row.Tie as tie
 
-line-code-requires : tie.Need-line-code-requires
-line-code-requires c κs = search needs
+row-entry-requires : tie.Need-row-entry-requires
+row-entry-requires c κs = search needs
 
 copy-row-requires : tie.Need-copy-row-requires
 copy-row-requires c κs =
@@ -21,11 +21,11 @@ cast-t : tie.Need-cast-t
 cast-t c = omega (arith, lines-most (c .before .before .before .before .before .before .before .pre .0 .0))
 
 -- The line and its code are below the limits.
-inside : (c : tie.After-slice-known2) → (c .before .before .before .before .before .before .before .args .line < mostLines) × (c .before .before .before .before .line-code .result < mostCodes)
+inside : (c : tie.After-slice-known2) → (c .before .before .before .before .before .before .before .args .line < mostLines) × (c .before .before .before .before .row-entry .result < mostCodes)
 inside c =
     let b = c .before .before .before .before .before .before .before in
     let R = b .pre .0 .0 in
-    (omega (arith, lines-most R), omega (arith, c .before .before .before .before .line-code .ensures, code-under R (b .args .line) (b .pre .1), codes-most R))
+    (omega (arith, lines-most R), c .before .before .before .before .row-entry .ensures .1)
 
 mul-t : tie.Need-mul-t
 mul-t c = omega (arith, inside c)
@@ -46,13 +46,13 @@ returns : tie.Need-returns
 returns c =
     let b = c .before .before .before .before .before .before .before in
     let R = b .pre .0 .0 in
-    follows-line (b .pre .0 .1) (omega (arith, lines-are R)) (inside c .0) (c .before .before .before .before .line-code .ensures) (inside c .1) (c .before .before .copy-row .kept .0) (c .before .before .copy-row .ensures)
+    follows-line (b .pre .0 .1) (omega (arith, lines-are R)) (inside c .0) (c .before .before .before .before .row-entry .ensures .0) (inside c .1) (c .before .before .copy-row .kept .0) (c .before .before .copy-row .ensures)
 
 pub line-row-spec : {M : Type 1} → statement M
 line-row-spec =
     tie.close
     (tie.spec
-    line-code-requires
+    row-entry-requires
     copy-row-requires
     cast-t
     mul-t

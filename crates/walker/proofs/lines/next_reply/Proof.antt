@@ -4,9 +4,8 @@ use native.Mathlib.Omega.{arith}
 use mathlib.Core.Path.{sym, _∙_}
 use Prim.Native.Nat.{_+_, _-_, _<_}
 use Rattle.model.specs.Field.{at}
-use Rattle.model.specs.Limits.{mostCodes}
 use Rattle.model.specs.Sheet.{lineOf}
-use Rattle.sheet.proofs.Laws.{lines-are, lines-most, codes-most, code-under}
+use Rattle.sheet.proofs.Laws.{lines-are, lines-most}
 use Rattle.walker.proofs.Following.{follows-later, Seeking, seeking-starts, seeking-on, seeking-found, seeking-ends}
 use Rattle.walker.proofs.lines.next_reply.Statement.{statement}
 use Rattle.walker.proofs.lines.next_reply.Tie as tie
@@ -17,25 +16,18 @@ Inv-loop card s t from to challenge b code line₀ line = Seeking s (lineOf s ch
 abbrev μ-loop : tie.MeasureT-loop
 μ-loop card s t from to challenge b code line₀ line = to - line
 
-line-code-requires : tie.Need-line-code-requires Inv-loop μ-loop
-line-code-requires c κs = search needs
-
--- The challenge's code is below the limit.
-code-small : (c : tie.After-line-code Inv-loop μ-loop) → c .line-code .result < mostCodes
-code-small c =
-    let b = c .before .before .before in
-    let R = b .pre .0 .0 in
-    omega (arith, c .line-code .ensures, code-under R (b .args .challenge) (b .pre .1 .2), codes-most R)
+row-entry-requires : tie.Need-row-entry-requires Inv-loop μ-loop
+row-entry-requires c κs = search needs
 
 following-requires : tie.Need-following-requires Inv-loop μ-loop
 following-requires c κs =
     let b = c .before .before .before in
-    (b .pre .0 .1 .long, omega (arith, b .pre .1, lines-most (b .pre .0 .0)), code-small c)
+    (b .pre .0 .1 .long, omega (arith, b .pre .1, lines-most (b .pre .0 .0)), c .row-entry .ensures .1)
 
 loop-holds : tie.Need-loop-holds Inv-loop μ-loop
 loop-holds c =
     let b = c .before .before .before .before in
-    seeking-starts (b .pre .0 .1) (c .before .line-code .result) _ (c .before .line-code .ensures) (code-small (c .before)) (omega (arith, b .pre .1, lines-are (b .pre .0 .0))) (c .following .ensures)
+    seeking-starts (b .pre .0 .1) (c .before .row-entry .result) _ (c .before .row-entry .ensures .0) (c .before .row-entry .ensures .1) (omega (arith, b .pre .1, lines-are (b .pre .0 .0))) (c .following .ensures)
 
 may-use-requires : tie.Need-may-use-requires Inv-loop μ-loop
 may-use-requires c κs = search needs
@@ -51,15 +43,15 @@ add-following c = search needs
 following-requires-2 : tie.Need-following-requires-2 Inv-loop μ-loop
 following-requires-2 c κs =
     let b = c .before .before .before .before .before .before .before .before in
-    (b .pre .0 .1 .long, omega (arith, b .pre .1, c .before .before .loop-test .taken, lines-most (b .pre .0 .0)), code-small (c .before .before .before .before .before))
+    (b .pre .0 .1 .long, omega (arith, b .pre .1, c .before .before .loop-test .taken, lines-most (b .pre .0 .0)), c .before .before .before .before .before .row-entry .ensures .1)
 
 loop-less : tie.Need-loop-less Inv-loop μ-loop
 loop-less c =
     let b = c .before .before .before .before .before .before .before .before .before in
     let l = c .before .before .before .before .loop in
     let h : l .line < b .args .to = c .before .before .before .loop-test .taken in
-    let code = c .before .before .before .before .before .before .line-code .result in
-    omega (arith, c .following2 .ensures, follows-later (b .pre .0 .1) (l .line + 1) code (omega (arith, b .pre .1, lines-are (b .pre .0 .0))) (code-small (c .before .before .before .before .before .before)))
+    let code = c .before .before .before .before .before .before .row-entry .result in
+    omega (arith, c .following2 .ensures, follows-later (b .pre .0 .1) (l .line + 1) code (omega (arith, b .pre .1, lines-are (b .pre .0 .0))) (c .before .before .before .before .before .before .row-entry .ensures .1))
 
 loop-again : tie.Need-loop-again Inv-loop μ-loop
 loop-again c =
@@ -67,7 +59,7 @@ loop-again c =
     let l = c .before .before .before .before .loop in
     let h : l .line < b .args .to = c .before .before .before .loop-test .taken in
     let d = c .before .before .before .before .before .before in
-    seeking-on (b .pre .0 .1) (d .line-code .result) _ (d .line-code .ensures) (code-small d) (l .line) (l .inv) (omega (arith, b .pre .1, lines-are (b .pre .0 .0))) (sym (c .before .before .may-use .ensures) ∙ c .before .if1 .left) (c .following2 .ensures)
+    seeking-on (b .pre .0 .1) (d .row-entry .result) _ (d .row-entry .ensures .0) (d .row-entry .ensures .1) (l .line) (l .inv) (omega (arith, b .pre .1, lines-are (b .pre .0 .0))) (sym (c .before .before .may-use .ensures) ∙ c .before .if1 .left) (c .following2 .ensures)
 
 returns-2 : tie.Need-returns-2 Inv-loop μ-loop
 returns-2 c =
@@ -80,7 +72,7 @@ next-reply-spec =
     (tie.spec
     Inv-loop
     μ-loop
-    line-code-requires
+    row-entry-requires
     following-requires
     loop-holds
     may-use-requires
