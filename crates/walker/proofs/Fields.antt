@@ -12,7 +12,7 @@ use Rattle.model.specs.Limits.{mostRounds}
 use Rattle.theory.proofs.Field.{unit-same, unit-other}
 use Rattle.sheet.specs.Reader.{Reads, fieldCounts}
 use Rattle.sheet.specs.declared.reader.Card.{Card}
-use Rattle.sheet.proofs.Laws.{Bytes, field-under, field-counts-at}
+use Rattle.sheet.proofs.Laws.{Bytes, field-under, field-counts-at, field-counts-length}
 use Rattle.walker.specs.Lines.{Bounded}
 
 -- A field without a token of kind k has none to lose.
@@ -31,14 +31,12 @@ less-set a k h = fun-ext (λ j. go j (ℕ-discrete j k))
     go j (no d) = omega (arith, getD-set-other a k j (at a k - 1) 0 d, unit-other k j d)
 
 -- The counts do not grow where a token goes.
-pub less-bounded : (r k : ℕ) (a rest : List ℕ) → at rest ≡ (λ j. at a j - unit k j) → Bounded r a → Bounded r rest
-unfolding Bounded
-less-bounded r k a rest e h j = omega (arith, ap (λ (f : Field). f j) e, h j)
+pub less-bounded : (r k : ℕ) (a rest : List ℕ) → at rest ≡ (λ j. at a j - unit k j) → length rest ≡ length a → Bounded r a → Bounded r rest
+less-bounded r k a rest e kept h = record { long = kept ∙ h .long; most = λ j. omega (arith, ap (λ (f : Field). f j) e, h .most j) }
 
 -- A line's counts are bytes, so that the sums stay small.
 pub addable : (l : Line) (rest counts : List ℕ) → at counts ≡ l .left → ((k : ℕ) → l .left k < 256) → Bounded 1 rest → (k : ℕ) → at rest k + at counts k < 2 ^ 32
-unfolding Bounded
-addable l rest counts e b h k = omega (arith, ap (λ (f : Field). f k) e, b k, h k)
+addable l rest counts e b h k = omega (arith, ap (λ (f : Field). f k) e, b k, h .most k)
 
 -- The two steps of a line's use.
 pub fired : (l : Line) (kind : ℕ) (a rest counts sum : List ℕ) → kind ≡ l .kind → at rest ≡ (λ j. at a j - unit kind j) → at counts ≡ l .left
@@ -48,16 +46,17 @@ fired l kind a rest counts sum e d f g =
     ∙ fun-ext (λ j. omega (arith, ap (λ (f : Field). f j) d, ap (λ (k : ℕ). unit k j) e, ap (λ (f : Field). f j) f))
 
 -- One round fewer is left, and a line's counts are bytes.
-pub fire-bounded : (r : ℕ) (l : Line) (a sum : List ℕ) → r < mostRounds → ((k : ℕ) → l .left k < 256) → at sum ≡ fire l (at a) → Bounded (r + 1) a → Bounded r sum
-unfolding Bounded
-fire-bounded r l a sum p q e h j = omega (arith, ap (λ (f : Field). f j) e, h j, q j)
+pub fire-bounded : (r : ℕ) (l : Line) (a sum : List ℕ) → r < mostRounds → ((k : ℕ) → l .left k < 256) → at sum ≡ fire l (at a) → length sum ≡ length a → Bounded (r + 1) a → Bounded r sum
+fire-bounded r l a sum p q e kept h = record { long = kept ∙ h .long; most = λ j. omega (arith, ap (λ (f : Field). f j) e, h .most j, q j) }
 
 -- With more rounds left the counts are smaller.
 pub bounded-less : (r q : ℕ) (a : List ℕ) → q ≤ r → Bounded r a → Bounded q a
-unfolding Bounded
-bounded-less r q a p h j = omega (arith, h j)
+bounded-less r q a p h = record { long = h .long; most = λ j. omega (arith, h .most j) }
 
 -- A field of the sheet is of counts of two bytes.
 pub field-bounded : {s : List ℕ} {card : Card} (read : Reads s card) (i : ℕ) (a : List ℕ) → a ≡ fieldCounts s i → Bytes s → Bounded mostRounds a
-unfolding Bounded
-field-bounded {s} read i a e b k = omega (arith, ap (λ (f : Field). f k) (ap at e ∙ field-counts-at read i), field-under s i b k)
+field-bounded {s} read i a e b =
+    record {
+      long = ap length e ∙ field-counts-length s i;
+      most = λ k. omega (arith, ap (λ (f : Field). f k) (ap at e ∙ field-counts-at read i), field-under s i b k);
+    }

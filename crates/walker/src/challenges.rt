@@ -1,4 +1,5 @@
 // The challenges to a pair of fields, a the first side's and b the second's, by number: the first side's by its lines, then the second's.
+use crate::follow::ENTRIES;
 use crate::lines::may_use;
 use crate::lines::next_reply;
 use sheet::Card;
@@ -52,7 +53,7 @@ pub fn next_challenge(
 pub fn next_answer(
     card: Card,
     s: &[u8],
-    t: &[u16],
+    t: &[u16; ENTRIES],
     number: usize,
     from: usize,
     to: usize,

@@ -75,7 +75,7 @@ fn spend(allowance: u32) -> Walked
 fn try_rounds(
     card: Card,
     s: &[u8],
-    t: &[u16],
+    t: &[u16; ENTRIES],
     a: &[u32; 32],
     b: &[u32; 32],
     limit: u64,

@@ -21,12 +21,19 @@ pub fn row_entry(card: Card, s: &[u8], line: usize) -> usize
     card.line_code(s, line)
 }
 
+// An entry as the number of a line.
+fn wide(entry: u16) -> usize
+    ensures { λ r. ⌜ r ≡ entry ⌝ }
+{
+    entry as usize
+}
+
 // What stands in the table at a position and a code.
-pub fn following(t: &[u16], position: usize, code: usize) -> usize
-    requires { ⌜ Long (now t) × (position ≤ mostLines) × (code < mostCodes) ⌝ }
+pub fn following(t: &[u16; ENTRIES], position: usize, code: usize) -> usize
+    requires { ⌜ (position ≤ mostLines) × (code < mostCodes) ⌝ }
     ensures { λ r. ⌜ r ≡ at (now (t .entry)) (position * mostCodes + code) ⌝ }
 {
-    t[position * Card::CODES + code] as usize
+    wide(t[position * Card::CODES + code])
 }
 
 // Sets the row of a position to one number.

@@ -1,4 +1,5 @@
 // The lines that a field may use.
+use crate::follow::ENTRIES;
 use crate::follow::following;
 use crate::follow::row_entry;
 use sheet::Card;
@@ -24,7 +25,7 @@ pub fn may_use(card: Card, s: &[u8], j: usize, a: &[u32; 32]) -> bool
 pub fn next_reply(
     card: Card,
     s: &[u8],
-    t: &[u16],
+    t: &[u16; ENTRIES],
     from: usize,
     to: usize,
     challenge: usize,

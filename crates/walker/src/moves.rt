@@ -9,32 +9,26 @@ ghost use Rattle.model.specs.Sheet.{lineOf};
 ghost use Rattle.sheet.specs.Reader.{Reads};
 ghost use Rattle.walker.specs.Lines.{Bounded};
 
-// The field with one token of kind k less, where it has one.
-fn less_one(a: [u32; 32], k: usize) -> [u32; 32]
-    ensures { λ r. ⌜ at r ≡ (λ j. at a j - unit k j) ⌝ }
+// One token of kind k goes, where the field has one.
+fn less_one(field: &mut [u32], k: usize)
+    ensures { λ _. ⌜ at (now (field .exit)) ≡ (λ j. at (now (field .entry)) j - unit k j) ⌝ }
 {
-    if 32 <= k {
-        return a;
+    if field.len() <= k {
+        return;
     }
-    let tokens = a[k];
-    if tokens == 0 {
-        return a;
+    let tokens = field[k];
+    if 0 < tokens {
+        field[k] = tokens - 1;
     }
-    let mut rest = a;
-    rest[k] = tokens - 1;
-    rest
 }
 
-// The field after it used line j.
-pub fn use_line(card: Card, s: &[u8], j: usize, a: &[u32; 32]) -> [u32; 32]
+// The field uses line j.
+pub fn use_line(card: Card, s: &[u8], j: usize, field: &mut [u32])
     requires { ⌜ Reads (now s) card ⌝ }
     requires { ⌜ j < card .lines ⌝ }
-    requires { ⌜ Bounded 1 (now a) ⌝ }
-    ensures { λ r. ⌜ at r ≡ fire (lineOf (now (s .entry)) j) (at (now (a .entry))) ⌝ }
+    requires { ⌜ Bounded 1 (now field) ⌝ }
+    ensures { λ _. ⌜ at (now (field .exit)) ≡ fire (lineOf (now (s .entry)) j) (at (now (field .entry))) ⌝ }
 {
-    let kind = card.line_kind(s, j);
-    let field = *a;
-    let mut left = less_one(field, kind);
-    add_counts(&mut left, card.line_counts(s, j));
-    left
+    less_one(field, card.line_kind(s, j));
+    add_counts(field, card.line_counts(s, j));
 }

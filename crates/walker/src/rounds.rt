@@ -4,6 +4,7 @@ use crate::challenges::first_line;
 use crate::challenges::next_answer;
 use crate::challenges::next_challenge;
 use crate::challenges::second_line;
+use crate::follow::ENTRIES;
 use crate::moves::use_line;
 use sheet::Card;
 ghost use mathlib.Core.Path.{_≡_};
@@ -28,7 +29,7 @@ pub enum Examined {
 pub fn challenge(
     card: Card,
     s: &[u8],
-    t: &[u16],
+    t: &[u16; ENTRIES],
     rounds: u64,
     from: usize,
     to: usize,
@@ -66,7 +67,7 @@ pub fn challenge(
 fn reply(
     card: Card,
     s: &[u8],
-    t: &[u16],
+    t: &[u16; ENTRIES],
     rounds: u64,
     number: usize,
     from: usize,
@@ -93,8 +94,10 @@ fn reply(
         return Examined::Holds(allowance - 1);
     }
     let lines = card.lines;
-    let x = use_line(card, s, first_line(lines, number, answer), a);
-    let y = use_line(card, s, second_line(lines, number, answer), b);
+    let mut x = *a;
+    use_line(card, s, first_line(lines, number, answer), &mut x);
+    let mut y = *b;
+    use_line(card, s, second_line(lines, number, answer), &mut y);
     let next = answer + 1;
     let middle = next + (to - next) / 2;
     match challenge(card, s, t, rounds, 0, 2 * lines, &x, &y, allowance - 1) {

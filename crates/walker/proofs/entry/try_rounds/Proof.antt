@@ -31,11 +31,11 @@ abbrev μ-loop : tie.MeasureT-loop
 μ-loop card s t a b limit allowance challenges left₀ rounds₀ left rounds = limit + 1 - rounds
 
 mul-challenges : tie.Need-mul-challenges Inv-loop μ-loop
-mul-challenges c = omega (arith, lines-most (c .before .before .before .pre .0 .0))
+mul-challenges c = omega (arith, lines-most (c .before .before .pre .0 .0))
 
 loop-holds : tie.Need-loop-holds Inv-loop μ-loop
 loop-holds c =
-    let a = c .before .before .before .args in
+    let a = c .before .before .args in
     let z : a .limit + 1 - 1 ≡ a .limit = omega arith in (
       omega arith,
       omega arith,
@@ -50,7 +50,7 @@ spend-requires c κs = search needs
 -- Nothing is left for the pair itself.
 returns : tie.Need-returns Inv-loop μ-loop
 returns c =
-    let a = c .before .before .before .before .before .before .before .args in
+    let a = c .before .before .before .before .before .before .args in
     let l = c .before .before .before .loop in
     c .spend .ensures
     ∙ tries-spent (cardOf (a .s .now) .lines) (at (a .a .now)) (at (a .b .now)) (record { left = a .session .left }) (l .left) (l .rounds) (a .limit + 1 - l .rounds) (l .inv .2) (a .limit - l .rounds) (omega (arith, c .before .before .loop-test .taken))
@@ -62,16 +62,16 @@ sub-challenge c = search needs
 
 challenge-requires : tie.Need-challenge-requires Inv-loop μ-loop
 challenge-requires c κs =
-    let p = c .before .before .before .before .before .before .pre in
+    let p = c .before .before .before .before .before .pre in
     let l = c .before .before .loop in
     let h : l .rounds ≤ mostRounds = omega (arith, p .1 .0, c .before .loop-test .taken) in
     (p .0, (omega (arith, l .inv), (bounded-less mostRounds (l .rounds) _ h (p .1 .1 .0), bounded-less mostRounds (l .rounds) _ h (p .1 .1 .1))))
 
 -- What the pair comes to at these rounds.
-pair-examined : (c : tie.After-challenge Inv-loop μ-loop) → c .challenge .result ≡ examined (c .before .before .before .loop .left) (examine (cardOf (c .before .before .before .before .before .before .before .args .s .now) .lines) (c .before .before .before .loop .rounds) (at (c .before .before .before .before .before .before .before .args .a .now)) (at (c .before .before .before .before .before .before .before .args .b .now)))
+pair-examined : (c : tie.After-challenge Inv-loop μ-loop) → c .challenge .result ≡ examined (c .before .before .before .loop .left) (examine (cardOf (c .before .before .before .before .before .before .args .s .now) .lines) (c .before .before .before .loop .rounds) (at (c .before .before .before .before .before .before .args .a .now)) (at (c .before .before .before .before .before .before .args .b .now)))
 pair-examined c =
     let l = c .before .before .before .loop in
-    c .challenge .ensures ∙ pair-challenged (c .before .before .before .before .before .before .before .pre .0 .0) (l .rounds) (l .left) (at (c .before .before .before .before .before .before .before .args .a .now)) (at (c .before .before .before .before .before .before .before .args .b .now)) (c .before .if1 .left) (λ z. omega (arith, l .inv .0))
+    c .challenge .ensures ∙ pair-challenged (c .before .before .before .before .before .before .pre .0 .0) (l .rounds) (l .left) (at (c .before .before .before .before .before .before .args .a .now)) (at (c .before .before .before .before .before .before .args .b .now)) (c .before .if1 .left) (λ z. omega (arith, l .inv .0))
 
 enum-known-rest : tie.Need-enum-known-rest Inv-loop μ-loop
 enum-known-rest c = search needs
@@ -81,13 +81,13 @@ enum-known-rest-2 c = search needs
 
 sub-t18 : tie.Need-sub-t18 Inv-loop μ-loop
 sub-t18 c =
-    let a = c .before .before .before .before .before .before .before .before .before .before .args in
+    let a = c .before .before .before .before .before .before .before .before .before .args in
     let l = c .before .before .before .before .before .before .loop in
     tries-within (cardOf (a .s .now) .lines) (at (a .a .now)) (at (a .b .now)) (record { left = a .session .left }) (l .left) (l .rounds) (a .limit + 1 - l .rounds) (l .inv .2) false _ (sym (pair-examined (c .before .before .before)) ∙ c .before .rest2 .given .1)
 
 returns-2 : tie.Need-returns-2 Inv-loop μ-loop
 returns-2 c =
-    let a = c .before .before .before .before .before .before .before .before .before .before .args in
+    let a = c .before .before .before .before .before .before .before .before .before .args in
     let l = c .before .before .before .before .before .before .loop in
     tries-apart (cardOf (a .s .now) .lines) (at (a .a .now)) (at (a .b .now)) (record { left = a .session .left }) (l .left) (l .rounds) (a .limit + 1 - l .rounds) (l .inv .2) (a .limit - l .rounds) (omega (arith, c .before .before .before .before .before .loop-test .taken)) _ (sym (pair-examined (c .before .before .before)) ∙ c .before .rest2 .given .1)
     ∙ l .inv .3
@@ -100,21 +100,21 @@ spend-requires-2 c κs = search needs
 
 returns-3 : tie.Need-returns-3 Inv-loop μ-loop
 returns-3 c =
-    let a = c .before .before .before .before .before .before .before .before .before .before .args in
+    let a = c .before .before .before .before .before .before .before .before .before .args in
     let l = c .before .before .before .before .before .before .loop in
     c .spend2 .ensures
     ∙ tries-spent (cardOf (a .s .now) .lines) (at (a .a .now)) (at (a .b .now)) (record { left = a .session .left }) (l .left) (l .rounds) (a .limit + 1 - l .rounds) (l .inv .2) (a .limit - l .rounds) (omega (arith, c .before .before .before .before .before .loop-test .taken)) (sym (pair-examined (c .before .before .before)) ∙ c .before .enum-told .given .1)
     ∙ l .inv .3
 
 add-rounds : tie.Need-add-rounds Inv-loop μ-loop
-add-rounds c = omega (arith, c .before .before .before .before .before .loop-test .taken, c .before .before .before .before .before .before .before .before .before .before .pre .1 .0)
+add-rounds c = omega (arith, c .before .before .before .before .before .loop-test .taken, c .before .before .before .before .before .before .before .before .before .pre .1 .0)
 
 loop-less : tie.Need-loop-less Inv-loop μ-loop
 loop-less c = omega (arith, c .before .before .before .before .before .loop-test .taken)
 
 loop-again : tie.Need-loop-again Inv-loop μ-loop
 loop-again c =
-    let a = c .before .before .before .before .before .before .before .before .before .before .args in
+    let a = c .before .before .before .before .before .before .before .before .before .args in
     let l = c .before .before .before .before .before .before .loop in
     let e = sym (pair-examined (c .before .before .before)) ∙ c .before .rest .given .1 in
     let z : a .limit + 1 - (l .rounds + 1) ≡ a .limit - l .rounds = omega arith in (
@@ -131,7 +131,7 @@ sub-t21 c = c .before .loop .inv .2
 
 returns-4 : tie.Need-returns-4 Inv-loop μ-loop
 returns-4 c =
-    let a = c .before .before .before .before .before .args in
+    let a = c .before .before .before .before .args in
     let l = c .before .loop in
     none-left (cardOf (a .s .now) .lines) (at (a .a .now)) (at (a .b .now)) (record { left = a .session .left }) (l .left) (l .rounds) (a .limit + 1 - l .rounds) (l .inv .2) (omega (arith, c .loop-test .left)) ∙ l .inv .3
 

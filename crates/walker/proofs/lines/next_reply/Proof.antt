@@ -21,12 +21,12 @@ row-entry-requires c κs = search needs
 
 following-requires : tie.Need-following-requires Inv-loop μ-loop
 following-requires c κs =
-    let b = c .before .before .before in
-    (b .pre .0 .1 .long, omega (arith, b .pre .1, lines-most (b .pre .0 .0)), c .row-entry .ensures .1)
+    let b = c .before .before in
+    (omega (arith, b .pre .1, lines-most (b .pre .0 .0)), c .row-entry .ensures .1)
 
 loop-holds : tie.Need-loop-holds Inv-loop μ-loop
 loop-holds c =
-    let b = c .before .before .before .before in
+    let b = c .before .before .before in
     seeking-starts (b .pre .0 .1) (c .before .row-entry .result) _ (c .before .row-entry .ensures .0) (c .before .row-entry .ensures .1) (omega (arith, b .pre .1, lines-are (b .pre .0 .0))) (c .following .ensures)
 
 may-use-requires : tie.Need-may-use-requires Inv-loop μ-loop
@@ -34,7 +34,7 @@ may-use-requires c κs = search needs
 
 returns : tie.Need-returns Inv-loop μ-loop
 returns c =
-    let b = c .before .before .before .before .before .before .before .before in
+    let b = c .before .before .before .before .before .before .before in
     seeking-found (c .before .before .before .loop .inv) (b .args .to) (omega (arith, b .pre .1, lines-are (b .pre .0 .0))) (c .before .before .loop-test .taken) (sym (c .before .may-use .ensures) ∙ c .if1 .taken)
 
 add-following : tie.Need-add-following Inv-loop μ-loop
@@ -42,12 +42,12 @@ add-following c = search needs
 
 following-requires-2 : tie.Need-following-requires-2 Inv-loop μ-loop
 following-requires-2 c κs =
-    let b = c .before .before .before .before .before .before .before .before in
-    (b .pre .0 .1 .long, omega (arith, b .pre .1, c .before .before .loop-test .taken, lines-most (b .pre .0 .0)), c .before .before .before .before .before .row-entry .ensures .1)
+    let b = c .before .before .before .before .before .before .before in
+    (omega (arith, b .pre .1, c .before .before .loop-test .taken, lines-most (b .pre .0 .0)), c .before .before .before .before .before .row-entry .ensures .1)
 
 loop-less : tie.Need-loop-less Inv-loop μ-loop
 loop-less c =
-    let b = c .before .before .before .before .before .before .before .before .before in
+    let b = c .before .before .before .before .before .before .before .before in
     let l = c .before .before .before .before .loop in
     let h : l .line < b .args .to = c .before .before .before .loop-test .taken in
     let code = c .before .before .before .before .before .before .row-entry .result in
@@ -55,7 +55,7 @@ loop-less c =
 
 loop-again : tie.Need-loop-again Inv-loop μ-loop
 loop-again c =
-    let b = c .before .before .before .before .before .before .before .before .before in
+    let b = c .before .before .before .before .before .before .before .before in
     let l = c .before .before .before .before .loop in
     let h : l .line < b .args .to = c .before .before .before .loop-test .taken in
     let d = c .before .before .before .before .before .before in
@@ -63,7 +63,7 @@ loop-again c =
 
 returns-2 : tie.Need-returns-2 Inv-loop μ-loop
 returns-2 c =
-    let b = c .before .before .before .before .before .before in
+    let b = c .before .before .before .before .before in
     seeking-ends (c .before .loop .inv) (b .args .to) (omega (arith, b .pre .1, lines-are (b .pre .0 .0))) (b .pre .1 .0) (c .loop-test .left)
 
 pub next-reply-spec : {M : Type 1} → statement M

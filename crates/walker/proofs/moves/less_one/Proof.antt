@@ -7,28 +7,31 @@ use Rattle.walker.proofs.moves.less_one.Statement.{statement}
 use Rattle.walker.proofs.moves.less_one.Tie as tie
 
 returns : tie.Need-returns
-returns c = less-none (c .before .args .t1) (c .before .args .k) (List·getD-eq-default (c .before .args .t1) 0 {n = c .before .args .k} (omega arith))
+returns c = let a = c .before .args in less-none (a .field .now) (a .k) (List·getD-eq-default (a .field .now) 0 {n = a .k} (omega arith))
 
 mul-tokens : tie.Need-mul-tokens
 mul-tokens c = search needs
 
-array-read-tokens : tie.Need-array-read-tokens
-array-read-tokens c = search needs
+slice-read-tokens : tie.Need-slice-read-tokens
+slice-read-tokens c = search needs
+
+sub-field : tie.Need-sub-field
+sub-field c = search needs
+
+mul-field : tie.Need-mul-field
+mul-field c = search needs
+
+slice-write-field : tie.Need-slice-write-field
+slice-write-field c = search needs
+
+same-length : tie.Need-same-length
+same-length c = search needs
 
 returns-2 : tie.Need-returns-2
-returns-2 c = less-none (c .before .before .args .t1) (c .before .before .args .k) (c .if2 .taken)
-
-sub-rest : tie.Need-sub-rest
-sub-rest c = search needs
-
-mul-rest : tie.Need-mul-rest
-mul-rest c = search needs
-
-array-write-rest : tie.Need-array-write-rest
-array-write-rest c = search needs
+returns-2 c = let a = c .before .before .before .args in less-set (a .field .now) (a .k) (omega arith)
 
 returns-3 : tie.Need-returns-3
-returns-3 c = less-set (c .before .before .args .t1) (c .before .before .args .k) (search needs)
+returns-3 c = let a = c .before .before .before .args in less-none (a .field .now) (a .k) (omega arith)
 
 pub less-one-spec : {M : Type 1} → statement M
 less-one-spec =
@@ -36,9 +39,10 @@ less-one-spec =
     (tie.spec
     returns
     mul-tokens
-    array-read-tokens
+    slice-read-tokens
+    sub-field
+    mul-field
+    slice-write-field
+    same-length
     returns-2
-    sub-rest
-    mul-rest
-    array-write-rest
     returns-3)

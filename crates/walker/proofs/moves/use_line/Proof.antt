@@ -18,41 +18,41 @@ line-kind-requires c κs = search needs
 less-one-requires : tie.Need-less-one-requires
 less-one-requires c κs = search needs
 
-slice-aggregate-add-counts : tie.Need-slice-aggregate-add-counts
-slice-aggregate-add-counts c = search needs
-
 line-counts-requires : tie.Need-line-counts-requires
 line-counts-requires c κs = search needs
 
 -- A line has no more counts than the field.
-shorter : (c : tie.After-line-counts) → length (c .line-counts .result .now) ≤ length (c .before .before .less-one .result)
+shorter : (c : tie.After-line-counts) → length (c .line-counts .result .now) ≤ length (c .before .before .before .before .less-one .last .0)
 shorter c =
-    let a = c .before .before .before .before .before .before .args in
-    let read = c .before .before .before .before .before .before .pre .0 in
-    omega (arith, ap length (c .line-counts .ensures), line-counts-length (a .s .now) (a .j), kinds-are read, kinds-most read, c .before .before .less-one .ok)
+    let a = c .before .before .before .before .before .before .before .before .before .args in
+    let read = c .before .before .before .before .before .before .before .before .before .pre .0 in
+    omega (arith, ap length (c .line-counts .ensures), line-counts-length (a .s .now) (a .j), kinds-are read, kinds-most read, c .before .before .before .before .before .before .before .before .before .pre .1 .1 .long, c .before .before .before .before .less-one .kept .0)
 
 -- The counts are those that the line leaves.
-leaves : (c : tie.After-line-counts) → at (c .line-counts .result .now) ≡ lineOf (c .before .before .before .before .before .before .args .s .now) (c .before .before .before .before .before .before .args .j) .left
-leaves c = ap at (c .line-counts .ensures) ∙ line-counts-at (c .before .before .before .before .before .before .args .s .now) (c .before .before .before .before .before .before .args .j)
+leaves : (c : tie.After-line-counts) → at (c .line-counts .result .now) ≡ lineOf (c .before .before .before .before .before .before .before .before .before .args .s .now) (c .before .before .before .before .before .before .before .before .before .args .j) .left
+leaves c = ap at (c .line-counts .ensures) ∙ line-counts-at (c .before .before .before .before .before .before .before .before .before .args .s .now) (c .before .before .before .before .before .before .before .before .before .args .j)
 
 add-counts-requires : tie.Need-add-counts-requires
 add-counts-requires c κs =
-    let a = c .before .before .before .before .before .before .args in
+    let a = c .before .before .before .before .before .before .before .before .before .args in
     record {
       within = shorter c;
-      fits = addable (lineOf (a .s .now) (a .j)) (c .before .before .less-one .result) (c .line-counts .result .now) (leaves c)
-          (left-under (a .s .now) (a .j) (λ k. omega (arith, c .before .before .before .before .before .shared-slice-known .given k)))
-          (less-bounded 1 _ _ _ (c .before .before .less-one .ensures) (c .before .before .before .before .before .before .pre .1 .1));
+      fits = addable (lineOf (a .s .now) (a .j)) (c .before .before .before .before .less-one .last .0) (c .line-counts .result .now) (leaves c)
+          (left-under (a .s .now) (a .j) (λ k. omega (arith, c .before .before .before .before .before .before .before .before .shared-slice-known .given k)))
+          (less-bounded 1 _ _ _ (c .before .before .before .before .less-one .ensures) (c .before .before .before .before .less-one .kept .0) (c .before .before .before .before .before .before .before .before .before .pre .1 .1));
     }
+
+same-length : tie.Need-same-length
+same-length c = search needs
 
 returns : tie.Need-returns
 returns c =
-    let a = c .before .before .before .before .before .before .before .before .args in
-    fired (lineOf (a .s .now) (a .j)) (c .before .before .before .before .before .before .line-kind .result) (a .a .now) (c .before .before .before .before .less-one .result) (c .before .before .line-counts .result .now) (c .before .add-counts .last .0)
-    (c .before .before .before .before .before .before .line-kind .ensures)
-    (c .before .before .before .before .less-one .ensures)
-    (leaves (c .before .before))
-    (ap at (c .before .add-counts .ensures) ∙ plus-at (c .before .before .before .before .less-one .result) (c .before .before .line-counts .result .now) (shorter (c .before .before)))
+    let a = c .before .before .before .before .before .before .before .before .before .before .before .before .args in
+    fired (lineOf (a .s .now) (a .j)) (c .before .before .before .before .before .before .before .before .line-kind .result) (a .field .now) (c .before .before .before .before .before .before .before .less-one .last .0) (c .before .before .before .line-counts .result .now) (c .before .before .add-counts .last .0)
+    (c .before .before .before .before .before .before .before .before .line-kind .ensures)
+    (c .before .before .before .before .before .before .before .less-one .ensures)
+    (leaves (c .before .before .before))
+    (ap at (c .before .before .add-counts .ensures) ∙ plus-at (c .before .before .before .before .before .before .before .less-one .last .0) (c .before .before .before .line-counts .result .now) (shorter (c .before .before .before)))
 
 pub use-line-spec : {M : Type 1} → statement M
 use-line-spec =
@@ -60,7 +60,7 @@ use-line-spec =
     (tie.spec
     line-kind-requires
     less-one-requires
-    slice-aggregate-add-counts
     line-counts-requires
     add-counts-requires
+    same-length
     returns)

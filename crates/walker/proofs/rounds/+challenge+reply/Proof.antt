@@ -3,7 +3,7 @@
 use borrow.Author.Needs.{needs}
 use native.Mathlib.Omega.{arith}
 use mathlib.Core.Bool.{true, false}
-use mathlib.Core.Path.{_≡_, _∙_}
+use mathlib.Core.Path.{_≡_, sym, _∙_}
 use Prim.Native.Nat.{ℕ, _+_, _*_, _-_, _/_, _≤_, _<_}
 use borrow.Fn.Kinds.{In}
 use borrow.Fn.PlainCycle.{Measures, is, falls, and}
@@ -71,16 +71,16 @@ challenge-rest t b from = Challenged (b .pre .1 .0 .0) (b .args .rounds - 1) (at
 
 challenge-returns : (t : ℕ) → challenge-lts.Need-returns (challenge-calls t) (challenge-at t) challenge.Post
 challenge-returns t c =
-    let a = c .before .before .before .before .args in
-    let p = c .before .before .before .before .pre .1 in
+    let a = c .before .before .before .args in
+    let p = c .before .before .before .pre .1 in
     challenge-none (p .0 .0) (a .rounds - 1) (at (a .a .now)) (at (a .b .now)) (a .from) (a .to) (a .allowance) (p .1 .0 .2) (c .before .next-challenge .result) (c .before .next-challenge .ensures) (c .if1 .taken)
 
 -- The challenge is one of those given.
-challenge-number : (t : ℕ) (c : challenge-lts.Else1 (challenge-calls t) (challenge-at t) challenge.Post) → (c .before .before .before .before .args .from ≤ c .before .next-challenge .result) × (c .before .next-challenge .result < c .before .before .before .before .args .to)
+challenge-number : (t : ℕ) (c : challenge-lts.Else1 (challenge-calls t) (challenge-at t) challenge.Post) → (c .before .before .before .args .from ≤ c .before .next-challenge .result) × (c .before .next-challenge .result < c .before .before .before .args .to)
 challenge-number t c =
-    let a = c .before .before .before .before .args in
+    let a = c .before .before .before .args in
     let n : (c .before .next-challenge .result ≡ a .to) → ⊥ = c .if1 .left in
-    let w = next-within (mayChallenge (at (a .a .now)) (at (a .b .now))) (challengeOf (a .s .now)) (a .from) (a .to) (c .before .before .before .before .pre .1 .1 .0 .2) in
+    let w = next-within (mayChallenge (at (a .a .now)) (at (a .b .now))) (challengeOf (a .s .now)) (a .from) (a .to) (c .before .before .before .pre .1 .1 .0 .2) in
     (omega (arith, w .0, c .before .next-challenge .ensures), omega (arith, w .1, c .before .next-challenge .ensures))
 
 challenge-add-next : (t : ℕ) → challenge-lts.Need-add-next (challenge-calls t) (challenge-at t) challenge.Post
@@ -97,8 +97,8 @@ challenge-sub-reply t c = search needs
 
 challenge-reply-requires : (t : ℕ) → challenge-lts.Need-reply-requires (challenge-calls t) (challenge-at t) challenge.Post
 challenge-reply-requires t c κs =
-    let p = c .before .before .before .before .pre in
-    let z : c .before .before .before .before .args .rounds - 1 + 1 ≡ c .before .before .before .before .args .rounds = omega (arith, p .1 .1 .0) in
+    let p = c .before .before .before .pre in
+    let z : c .before .before .before .args .rounds - 1 + 1 ≡ c .before .before .before .args .rounds = omega (arith, p .1 .1 .0) in
     let w = challenge-number t c in
     let m = lines-most (p .1 .0 .0) in
     (omega (arith, p .0, p .1 .1 .0, m), (p .1 .0, (omega (arith, p .1 .1 .0, w), (rw z (p .1 .1 .1 .0), rw z (p .1 .1 .1 .1)))))
@@ -108,7 +108,7 @@ challenge-enum-known-left t c = search needs
 
 challenge-challenge-requires : (t : ℕ) → challenge-lts.Need-challenge-requires (challenge-calls t) (challenge-at t) challenge.Post
 challenge-challenge-requires t c κs =
-    let p = c .before .before .before .before .before .before .before .before .pre in
+    let p = c .before .before .before .before .before .before .before .pre in
     let w = challenge-number t (c .before .before .before .before) in
     (omega (arith, p .0, p .1 .1 .0, w), (p .1 .0, (omega (arith, p .1 .1 .0, w), p .1 .1 .1)))
 
@@ -117,7 +117,7 @@ challenge-enum-known-rest t c = search needs
 
 challenge-challenge-requires-2 : (t : ℕ) → challenge-lts.Need-challenge-requires-2 (challenge-calls t) (challenge-at t) challenge.Post
 challenge-challenge-requires-2 t c κs =
-    let p = c .before .before .before .before .before .before .before .before .before .before .before .before .pre in
+    let p = c .before .before .before .before .before .before .before .before .before .before .before .pre in
     let w = challenge-number t (c .before .before .before .before .before .before .before .before) in
     (omega (arith, p .0, p .1 .1 .0, w), (p .1 .0, (omega (arith, p .1 .1 .0, w), p .1 .1 .1)))
 
@@ -135,21 +135,21 @@ challenge-enum-told-2 t c = search needs
 
 -- What the challenges after the first come to, by what is known of the first.
 challenge-after : (t : ℕ) (c : challenge-lts.After-reply (challenge-calls t) (challenge-at t) challenge.Post) (known : Examined) → c .reply .result ≡ known
-    → follow true known (challenge-rest t (c .before .before .before .before .before) (c .before .before .next-challenge .result + 1)) ≡ examined (c .before .before .before .before .before .args .allowance) (challenge-rest t (c .before .before .before .before .before) (c .before .before .before .before .before .args .from))
+    → follow true known (challenge-rest t (c .before .before .before .before) (c .before .before .next-challenge .result + 1)) ≡ examined (c .before .before .before .before .args .allowance) (challenge-rest t (c .before .before .before .before) (c .before .before .before .before .args .from))
 challenge-after t c known m =
-    let a = c .before .before .before .before .before .args in
-    let p = c .before .before .before .before .before .pre .1 in
+    let a = c .before .before .before .before .args in
+    let p = c .before .before .before .before .pre .1 in
     challenge-next (p .0 .0) (a .rounds - 1) (at (a .a .now)) (at (a .b .now)) (a .from) (a .to) (a .allowance) (p .1 .0 .2) (c .before .before .next-challenge .result) (c .before .before .next-challenge .ensures) (c .before .if1 .left)
     (c .reply .result) known (c .reply .ensures) m
 
 -- The same of the second half of them, by what is known of the first half.
 challenge-middle : (t : ℕ) (c : challenge-lts.After-challenge (challenge-calls t) (challenge-at t) challenge.Post) (known : Examined) → c .challenge .result ≡ known
-    → follow true known (challenge-rest t (c .before .before .before .before .before .before .before .before .before) (c .before .before .before .before .before .before .next-challenge .result + 1 + (c .before .before .before .before .before .before .before .before .before .args .to - (c .before .before .before .before .before .before .next-challenge .result + 1)) / 2)) ≡ examined (c .before .before .before .before .before .before .before .before .before .args .allowance) (challenge-rest t (c .before .before .before .before .before .before .before .before .before) (c .before .before .before .before .before .before .before .before .before .args .from))
+    → follow true known (challenge-rest t (c .before .before .before .before .before .before .before .before) (c .before .before .before .before .before .before .next-challenge .result + 1 + (c .before .before .before .before .before .before .before .before .args .to - (c .before .before .before .before .before .before .next-challenge .result + 1)) / 2)) ≡ examined (c .before .before .before .before .before .before .before .before .args .allowance) (challenge-rest t (c .before .before .before .before .before .before .before .before) (c .before .before .before .before .before .before .before .before .args .from))
 challenge-middle t c known m =
-    let a = c .before .before .before .before .before .before .before .before .before .args in
+    let a = c .before .before .before .before .before .before .before .before .args in
     let next = c .before .before .before .before .before .before .next-challenge .result + 1 in
     let w = challenge-number t (c .before .before .before .before .before) in
-    challenge-half (c .before .before .before .before .before .before .before .before .before .pre .1 .0 .0) (a .rounds - 1) (at (a .a .now)) (at (a .b .now)) next (a .to) (c .before .before .left .given .0 .0) (omega (arith, w)) (next + (a .to - next) / 2) (omega (arith, w)) (omega (arith, w))
+    challenge-half (c .before .before .before .before .before .before .before .before .pre .1 .0 .0) (a .rounds - 1) (at (a .a .now)) (at (a .b .now)) next (a .to) (c .before .before .left .given .0 .0) (omega (arith, w)) (next + (a .to - next) / 2) (omega (arith, w)) (omega (arith, w))
     (c .challenge .result) known (c .challenge .ensures) m
     ∙ challenge-after t (c .before .before .before .before) (Holds (c .before .before .left .given .0 .0)) (c .before .before .left .given .1)
 
@@ -176,23 +176,23 @@ abbrev reply-rest : (t : ℕ) → reply-lts.Start (reply-calls t) (reply-at t) r
 reply-rest t b from = Replied (b .pre .1 .0 .0) (b .args .rounds) (at (b .args .a .now)) (at (b .args .b .now)) (b .args .number) from (b .args .to)
 
 -- The reply is one of the lines given.
-reply-line : (t : ℕ) (c : reply-lts.Else1 (reply-calls t) (reply-at t) reply.Post) → (c .before .before .before .before .args .from ≤ c .before .next-answer .result) × (c .before .next-answer .result < c .before .before .before .before .args .to)
+reply-line : (t : ℕ) (c : reply-lts.Else1 (reply-calls t) (reply-at t) reply.Post) → (c .before .before .before .args .from ≤ c .before .next-answer .result) × (c .before .next-answer .result < c .before .before .before .args .to)
 reply-line t c =
-    let a = c .before .before .before .before .args in
+    let a = c .before .before .before .args in
     let n : (c .before .next-answer .result ≡ a .to) → ⊥ = c .if1 .left in
-    let w = next-within (mayReply (at (a .a .now)) (at (a .b .now)) (challengeOf (a .s .now) (a .number))) (lineOf (a .s .now)) (a .from) (a .to) (c .before .before .before .before .pre .1 .1 .0 .2) in
+    let w = next-within (mayReply (at (a .a .now)) (at (a .b .now)) (challengeOf (a .s .now) (a .number))) (lineOf (a .s .now)) (a .from) (a .to) (c .before .before .before .pre .1 .1 .0 .2) in
     (omega (arith, w .0, c .before .next-answer .ensures), omega (arith, w .1, c .before .next-answer .ensures))
 
 reply-returns : (t : ℕ) → reply-lts.Need-returns (reply-calls t) (reply-at t) reply.Post
 reply-returns t c =
-    let a = c .before .before .before .before .args in
-    let p = c .before .before .before .before .pre .1 in
+    let a = c .before .before .before .args in
+    let p = c .before .before .before .pre .1 in
     reply-none (p .0 .0) (a .rounds) (at (a .a .now)) (at (a .b .now)) (a .from) (a .to) (a .allowance) (p .1 .0 .2) (a .number) (c .before .next-answer .result) (c .before .next-answer .ensures) (c .if1 .taken)
 
 reply-returns-2 : (t : ℕ) → reply-lts.Need-returns-2 (reply-calls t) (reply-at t) reply.Post
 reply-returns-2 t c =
-    let a = c .before .before .before .before .before .args in
-    let p = c .before .before .before .before .before .pre .1 in
+    let a = c .before .before .before .before .args in
+    let p = c .before .before .before .before .pre .1 in
     reply-spent (p .0 .0) (a .rounds) (at (a .a .now)) (at (a .b .now)) (a .from) (a .to) (a .allowance) (p .1 .0 .2) (a .number) (c .before .before .next-answer .result) (c .before .before .next-answer .ensures) (c .before .if1 .left) (c .if2 .taken)
 
 reply-sub-t22 : (t : ℕ) → reply-lts.Need-sub-t22 (reply-calls t) (reply-at t) reply.Post
@@ -200,60 +200,66 @@ reply-sub-t22 t c = search needs
 
 reply-returns-3 : (t : ℕ) → reply-lts.Need-returns-3 (reply-calls t) (reply-at t) reply.Post
 reply-returns-3 t c =
-    let a = c .before .before .before .before .before .before .args in
-    let p = c .before .before .before .before .before .before .pre .1 in
+    let a = c .before .before .before .before .before .args in
+    let p = c .before .before .before .before .before .pre .1 in
     reply-last (p .0 .0) (a .rounds) (at (a .a .now)) (at (a .b .now)) (a .from) (a .to) (a .allowance) (p .1 .0 .2) (a .number) (c .before .before .before .next-answer .result) (c .before .before .before .next-answer .ensures) (c .before .before .if1 .left) (c .before .if2 .left) (c .if3 .taken)
 
 reply-first-line-requires : (t : ℕ) → reply-lts.Need-first-line-requires (reply-calls t) (reply-at t) reply.Post
 reply-first-line-requires t c κs = search needs
 
+reply-slice-aggregate-use-line : (t : ℕ) → reply-lts.Need-slice-aggregate-use-line (reply-calls t) (reply-at t) reply.Post
+reply-slice-aggregate-use-line t c = sym (c .before .before .before .before .before .before .before .before .pre .1 .1 .1 .0 .long)
+
 reply-use-line-requires : (t : ℕ) → reply-lts.Need-use-line-requires (reply-calls t) (reply-at t) reply.Post
 reply-use-line-requires t c κs =
-    let a = c .before .before .before .before .before .before .before .args in
-    let p = c .before .before .before .before .before .before .before .pre .1 in
-    (p .0 .0, (rw (c .first-line .ensures) (first-line-under (a .card .lines) (a .number) (c .before .before .before .before .next-answer .result) (omega (arith, p .1 .0, reply-line t (c .before .before .before)))), bounded-less (a .rounds + 1) 1 (a .a .now) (omega arith) (p .1 .1 .0)))
+    let a = c .before .before .before .before .before .before .before .before .args in
+    let p = c .before .before .before .before .before .before .before .before .pre .1 in
+    (p .0 .0, (rw (c .before .first-line .ensures) (first-line-under (a .card .lines) (a .number) (c .before .before .before .before .before .before .next-answer .result) (omega (arith, p .1 .0, reply-line t (c .before .before .before .before .before)))), bounded-less (a .rounds + 1) 1 (a .a .now) (omega arith) (p .1 .1 .0)))
 
 reply-second-line-requires : (t : ℕ) → reply-lts.Need-second-line-requires (reply-calls t) (reply-at t) reply.Post
 reply-second-line-requires t c κs = search needs
 
+reply-slice-aggregate-use-line-2 : (t : ℕ) → reply-lts.Need-slice-aggregate-use-line-2 (reply-calls t) (reply-at t) reply.Post
+reply-slice-aggregate-use-line-2 t c = sym (c .before .before .before .before .before .before .before .before .before .before .before .before .before .pre .1 .1 .1 .1 .long)
+
 reply-use-line-requires-2 : (t : ℕ) → reply-lts.Need-use-line-requires-2 (reply-calls t) (reply-at t) reply.Post
 reply-use-line-requires-2 t c κs =
-    let a = c .before .before .before .before .before .before .before .before .before .args in
-    let p = c .before .before .before .before .before .before .before .before .before .pre .1 in
-    (p .0 .0, (rw (c .second-line .ensures) (second-line-under (a .card .lines) (a .number) (c .before .before .before .before .before .before .next-answer .result) (p .1 .0 .1) (omega (arith, p .1 .0, reply-line t (c .before .before .before .before .before)))), bounded-less (a .rounds + 1) 1 (a .b .now) (omega arith) (p .1 .1 .1)))
+    let a = c .before .before .before .before .before .before .before .before .before .before .before .before .before .args in
+    let p = c .before .before .before .before .before .before .before .before .before .before .before .before .before .pre .1 in
+    (p .0 .0, (rw (c .before .second-line .ensures) (second-line-under (a .card .lines) (a .number) (c .before .before .before .before .before .before .before .before .before .before .before .next-answer .result) (p .1 .0 .1) (omega (arith, p .1 .0, reply-line t (c .before .before .before .before .before .before .before .before .before .before)))), bounded-less (a .rounds + 1) 1 (a .b .now) (omega arith) (p .1 .1 .1)))
 
 reply-add-next : (t : ℕ) → reply-lts.Need-add-next (reply-calls t) (reply-at t) reply.Post
-reply-add-next t c = omega (arith, reply-line t (c .before .before .before .before .before .before))
+reply-add-next t c = omega (arith, reply-line t (c .before .before .before .before .before .before .before .before .before .before .before .before))
 
 reply-sub-middle : (t : ℕ) → reply-lts.Need-sub-middle (reply-calls t) (reply-at t) reply.Post
-reply-sub-middle t c = omega (arith, reply-line t (c .before .before .before .before .before .before))
+reply-sub-middle t c = omega (arith, reply-line t (c .before .before .before .before .before .before .before .before .before .before .before .before))
 
 reply-add-middle : (t : ℕ) → reply-lts.Need-add-middle (reply-calls t) (reply-at t) reply.Post
-reply-add-middle t c = omega (arith, reply-line t (c .before .before .before .before .before .before))
+reply-add-middle t c = omega (arith, reply-line t (c .before .before .before .before .before .before .before .before .before .before .before .before))
 
 reply-mul-challenge : (t : ℕ) → reply-lts.Need-mul-challenge (reply-calls t) (reply-at t) reply.Post
-reply-mul-challenge t c = omega (arith, lines-most (c .before .before .before .before .before .before .before .before .before .before .pre .1 .0 .0))
+reply-mul-challenge t c = omega (arith, lines-most (c .before .before .before .before .before .before .before .before .before .before .before .before .before .before .before .pre .1 .0 .0))
 
 reply-sub-challenge : (t : ℕ) → reply-lts.Need-sub-challenge (reply-calls t) (reply-at t) reply.Post
 reply-sub-challenge t c = search needs
 
 -- The counts of the two fields left.
-left-bounded : (t : ℕ) (c : reply-lts.After-use-line2 (reply-calls t) (reply-at t) reply.Post) → Bounded (c .before .before .before .before .before .before .before .before .before .before .args .rounds) (c .before .before .use-line .result) × Bounded (c .before .before .before .before .before .before .before .before .before .before .args .rounds) (c .use-line2 .result)
+left-bounded : (t : ℕ) (c : reply-lts.After-use-line2 (reply-calls t) (reply-at t) reply.Post) → Bounded (c .before .before .before .before .before .before .before .before .before .before .before .before .before .before .args .rounds) (c .before .before .before .before .before .use-line .last .1 .1 .1 .0) × Bounded (c .before .before .before .before .before .before .before .before .before .before .before .before .before .before .args .rounds) (c .use-line2 .last .1 .1 .1 .0)
 left-bounded t c =
-    let a = c .before .before .before .before .before .before .before .before .before .before .args in
-    let p = c .before .before .before .before .before .before .before .before .before .before .pre .1 in (
-      fire-bounded (a .rounds) (lineOf (a .s .now) (c .before .before .before .first-line .result)) (a .a .now) (c .before .before .use-line .result) (p .1 .0 .0) (left-under (a .s .now) (c .before .before .before .first-line .result) (λ k. omega (arith, c .before .before .before .before .before .before .before .before .before .shared-slice-known .given k)))
-          (c .before .before .use-line .ensures) (p .1 .1 .0),
-      fire-bounded (a .rounds) (lineOf (a .s .now) (c .before .second-line .result)) (a .b .now) (c .use-line2 .result) (p .1 .0 .0) (left-under (a .s .now) (c .before .second-line .result) (λ k. omega (arith, c .before .before .before .before .before .before .before .before .before .shared-slice-known .given k)))
-          (c .use-line2 .ensures) (p .1 .1 .1),
+    let a = c .before .before .before .before .before .before .before .before .before .before .before .before .before .before .args in
+    let p = c .before .before .before .before .before .before .before .before .before .before .before .before .before .before .pre .1 in (
+      fire-bounded (a .rounds) (lineOf (a .s .now) (c .before .before .before .before .before .before .before .first-line .result)) (a .a .now) (c .before .before .before .before .before .use-line .last .1 .1 .1 .0) (p .1 .0 .0) (left-under (a .s .now) (c .before .before .before .before .before .before .before .first-line .result) (λ k. omega (arith, c .before .before .before .before .before .before .before .before .before .before .before .before .before .shared-slice-known .given k)))
+          (c .before .before .before .before .before .use-line .ensures) (c .before .before .before .before .before .use-line .kept .1 .1 .1 .0) (p .1 .1 .0),
+      fire-bounded (a .rounds) (lineOf (a .s .now) (c .before .before .second-line .result)) (a .b .now) (c .use-line2 .last .1 .1 .1 .0) (p .1 .0 .0) (left-under (a .s .now) (c .before .before .second-line .result) (λ k. omega (arith, c .before .before .before .before .before .before .before .before .before .before .before .before .before .shared-slice-known .given k)))
+          (c .use-line2 .ensures) (c .use-line2 .kept .1 .1 .1 .0) (p .1 .1 .1),
     )
 
 reply-challenge-requires : (t : ℕ) → reply-lts.Need-challenge-requires (reply-calls t) (reply-at t) reply.Post
 reply-challenge-requires t c κs =
-    let p = c .before .before .before .before .before .before .before .before .before .before .before .before .pre in
-    let n : (c .before .before .before .before .before .before .before .before .before .before .before .before .args .rounds ≡ 0) → ⊥ = c .before .before .before .before .before .before .if3 .left in
+    let p = c .before .before .before .before .before .before .before .before .before .before .before .before .before .before .before .before .before .pre in
+    let n : (c .before .before .before .before .before .before .before .before .before .before .before .before .before .before .before .before .before .args .rounds ≡ 0) → ⊥ = c .before .before .before .before .before .before .before .before .before .before .before .before .if3 .left in
     let m = lines-most (p .1 .0 .0) in
-    (omega (arith, p .0, p .1 .1 .0, m), (p .1 .0, (omega (arith, p .1 .1 .0), left-bounded t (c .before .before))))
+    (omega (arith, p .0, p .1 .1 .0, m), (p .1 .0, (omega (arith, p .1 .1 .0), left-bounded t (c .before .before .before))))
 
 reply-enum-known-left : (t : ℕ) → reply-lts.Need-enum-known-left (reply-calls t) (reply-at t) reply.Post
 reply-enum-known-left t c = search needs
@@ -263,8 +269,8 @@ reply-enum-known-left-2 t c = search needs
 
 reply-reply-requires : (t : ℕ) → reply-lts.Need-reply-requires (reply-calls t) (reply-at t) reply.Post
 reply-reply-requires t c κs =
-    let p = c .before .before .before .before .before .before .before .before .before .before .before .before .before .before .before .before .pre in
-    let w = reply-line t (c .before .before .before .before .before .before .before .before .before .before .before .before) in
+    let p = c .before .before .before .before .before .before .before .before .before .before .before .before .before .before .before .before .before .before .before .before .before .pre in
+    let w = reply-line t (c .before .before .before .before .before .before .before .before .before .before .before .before .before .before .before .before .before .before) in
     (omega (arith, p .0, p .1 .1 .0, w), (p .1 .0, (omega (arith, p .1 .1 .0, w), p .1 .1 .1)))
 
 reply-enum-known-rest : (t : ℕ) → reply-lts.Need-enum-known-rest (reply-calls t) (reply-at t) reply.Post
@@ -275,8 +281,8 @@ reply-enum-known-rest-2 t c = search needs
 
 reply-reply-requires-2 : (t : ℕ) → reply-lts.Need-reply-requires-2 (reply-calls t) (reply-at t) reply.Post
 reply-reply-requires-2 t c κs =
-    let p = c .before .before .before .before .before .before .before .before .before .before .before .before .before .before .before .before .before .before .before .before .pre in
-    let w = reply-line t (c .before .before .before .before .before .before .before .before .before .before .before .before .before .before .before .before) in
+    let p = c .before .before .before .before .before .before .before .before .before .before .before .before .before .before .before .before .before .before .before .before .before .before .before .before .before .pre in
+    let w = reply-line t (c .before .before .before .before .before .before .before .before .before .before .before .before .before .before .before .before .before .before .before .before .before .before) in
     (omega (arith, p .0, p .1 .1 .0, w), (p .1 .0, (omega (arith, p .1 .1 .0, w), p .1 .1 .1)))
 
 reply-enum-told : (t : ℕ) → reply-lts.Need-enum-told (reply-calls t) (reply-at t) reply.Post
@@ -287,22 +293,22 @@ reply-enum-told-2 t c = search needs
 
 -- What the replies after the first come to, by what is known of the challenges to the pair that the first leaves.
 reply-after : (t : ℕ) (c : reply-lts.After-challenge (reply-calls t) (reply-at t) reply.Post) (known : Examined) → c .challenge .result ≡ known
-    → follow false known (reply-rest t (c .before .before .before .before .before .before .before .before .before .before .before .before .before) (c .before .before .before .before .before .before .before .before .before .before .next-answer .result + 1)) ≡ examined (c .before .before .before .before .before .before .before .before .before .before .before .before .before .args .allowance) (reply-rest t (c .before .before .before .before .before .before .before .before .before .before .before .before .before) (c .before .before .before .before .before .before .before .before .before .before .before .before .before .args .from))
+    → follow false known (reply-rest t (c .before .before .before .before .before .before .before .before .before .before .before .before .before .before .before .before .before .before) (c .before .before .before .before .before .before .before .before .before .before .before .before .before .before .before .before .next-answer .result + 1)) ≡ examined (c .before .before .before .before .before .before .before .before .before .before .before .before .before .before .before .before .before .before .args .allowance) (reply-rest t (c .before .before .before .before .before .before .before .before .before .before .before .before .before .before .before .before .before .before) (c .before .before .before .before .before .before .before .before .before .before .before .before .before .before .before .before .before .before .args .from))
 reply-after t c known m =
-    let a = c .before .before .before .before .before .before .before .before .before .before .before .before .before .args in
-    let p = c .before .before .before .before .before .before .before .before .before .before .before .before .before .pre .1 in
-    reply-next (p .0 .0) (a .rounds) (at (a .a .now)) (at (a .b .now)) (a .from) (a .to) (a .allowance) (p .1 .0 .2) (a .number) (c .before .before .before .before .before .before .before .before .before .before .next-answer .result) (c .before .before .before .before .before .before .before .before .before .before .next-answer .ensures) (c .before .before .before .before .before .before .before .before .before .if1 .left)
-    (c .before .before .before .before .before .before .before .before .if2 .left) (c .before .before .before .before .before .before .before .if3 .left) (at (c .before .before .before .before .before .use-line .result)) (at (c .before .before .before .use-line2 .result)) (rw (← c .before .before .before .before .before .before .first-line .ensures) (c .before .before .before .before .before .use-line .ensures)) (rw (← c .before .before .before .before .second-line .ensures) (c .before .before .before .use-line2 .ensures))
+    let a = c .before .before .before .before .before .before .before .before .before .before .before .before .before .before .before .before .before .before .args in
+    let p = c .before .before .before .before .before .before .before .before .before .before .before .before .before .before .before .before .before .before .pre .1 in
+    reply-next (p .0 .0) (a .rounds) (at (a .a .now)) (at (a .b .now)) (a .from) (a .to) (a .allowance) (p .1 .0 .2) (a .number) (c .before .before .before .before .before .before .before .before .before .before .before .before .before .before .before .before .next-answer .result) (c .before .before .before .before .before .before .before .before .before .before .before .before .before .before .before .before .next-answer .ensures) (c .before .before .before .before .before .before .before .before .before .before .before .before .before .before .before .if1 .left)
+    (c .before .before .before .before .before .before .before .before .before .before .before .before .before .before .if2 .left) (c .before .before .before .before .before .before .before .before .before .before .before .before .before .if3 .left) (at (c .before .before .before .before .before .before .before .before .before .use-line .last .1 .1 .1 .0)) (at (c .before .before .before .before .use-line2 .last .1 .1 .1 .0)) (rw (← c .before .before .before .before .before .before .before .before .before .before .before .first-line .ensures) (c .before .before .before .before .before .before .before .before .before .use-line .ensures)) (rw (← c .before .before .before .before .before .before .second-line .ensures) (c .before .before .before .before .use-line2 .ensures))
     (c .challenge .result) known (c .challenge .ensures) m
 
 -- The same of the second half of them, by what is known of the first half.
 reply-middle : (t : ℕ) (c : reply-lts.After-reply (reply-calls t) (reply-at t) reply.Post) (known : Examined) → c .reply .result ≡ known
-    → follow false known (reply-rest t (c .before .before .before .before .before .before .before .before .before .before .before .before .before .before .before .before .before) (c .before .before .before .before .before .before .before .before .before .before .before .before .before .before .next-answer .result + 1 + (c .before .before .before .before .before .before .before .before .before .before .before .before .before .before .before .before .before .args .to - (c .before .before .before .before .before .before .before .before .before .before .before .before .before .before .next-answer .result + 1)) / 2)) ≡ examined (c .before .before .before .before .before .before .before .before .before .before .before .before .before .before .before .before .before .args .allowance) (reply-rest t (c .before .before .before .before .before .before .before .before .before .before .before .before .before .before .before .before .before) (c .before .before .before .before .before .before .before .before .before .before .before .before .before .before .before .before .before .args .from))
+    → follow false known (reply-rest t (c .before .before .before .before .before .before .before .before .before .before .before .before .before .before .before .before .before .before .before .before .before .before) (c .before .before .before .before .before .before .before .before .before .before .before .before .before .before .before .before .before .before .before .before .next-answer .result + 1 + (c .before .before .before .before .before .before .before .before .before .before .before .before .before .before .before .before .before .before .before .before .before .before .args .to - (c .before .before .before .before .before .before .before .before .before .before .before .before .before .before .before .before .before .before .before .before .next-answer .result + 1)) / 2)) ≡ examined (c .before .before .before .before .before .before .before .before .before .before .before .before .before .before .before .before .before .before .before .before .before .before .args .allowance) (reply-rest t (c .before .before .before .before .before .before .before .before .before .before .before .before .before .before .before .before .before .before .before .before .before .before) (c .before .before .before .before .before .before .before .before .before .before .before .before .before .before .before .before .before .before .before .before .before .before .args .from))
 reply-middle t c known m =
-    let a = c .before .before .before .before .before .before .before .before .before .before .before .before .before .before .before .before .before .args in
-    let next = c .before .before .before .before .before .before .before .before .before .before .before .before .before .before .next-answer .result + 1 in
-    let w = reply-line t (c .before .before .before .before .before .before .before .before .before .before .before .before .before) in
-    reply-half (c .before .before .before .before .before .before .before .before .before .before .before .before .before .before .before .before .before .pre .1 .0 .0) (a .rounds) (at (a .a .now)) (at (a .b .now)) next (a .to) (c .before .before .left2 .given .0 .0) (omega (arith, w)) (next + (a .to - next) / 2) (omega (arith, w)) (omega (arith, w))
+    let a = c .before .before .before .before .before .before .before .before .before .before .before .before .before .before .before .before .before .before .before .before .before .before .args in
+    let next = c .before .before .before .before .before .before .before .before .before .before .before .before .before .before .before .before .before .before .before .before .next-answer .result + 1 in
+    let w = reply-line t (c .before .before .before .before .before .before .before .before .before .before .before .before .before .before .before .before .before .before .before) in
+    reply-half (c .before .before .before .before .before .before .before .before .before .before .before .before .before .before .before .before .before .before .before .before .before .before .pre .1 .0 .0) (a .rounds) (at (a .a .now)) (at (a .b .now)) next (a .to) (c .before .before .left2 .given .0 .0) (omega (arith, w)) (next + (a .to - next) / 2) (omega (arith, w)) (omega (arith, w))
     (c .reply .result) known (a .number) (c .reply .ensures) m
     ∙ reply-after t (c .before .before .before .before) (Fails (c .before .before .left2 .given .0 .0)) (c .before .before .left2 .given .1)
 
@@ -354,8 +360,10 @@ pub +challenge+reply-spec : {M : Type 1} → statement M
     (reply-sub-t22 t)
     (reply-returns-3 t)
     (reply-first-line-requires t)
+    (reply-slice-aggregate-use-line t)
     (reply-use-line-requires t)
     (reply-second-line-requires t)
+    (reply-slice-aggregate-use-line-2 t)
     (reply-use-line-requires-2 t)
     (reply-add-next t)
     (reply-sub-middle t)
