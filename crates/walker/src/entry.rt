@@ -1,8 +1,8 @@
 // The walk as it is called: the checks, the numbers of rounds one after another, and the session.
-use crate::follow::ENTRIES;
-use crate::follow::fill_table;
-use crate::rounds::Examined;
-use crate::rounds::challenge;
+use game::rounds::Examined;
+use game::rounds::challenge;
+use moves::follow::ENTRIES;
+use moves::follow::fill_table;
 use sheet::Card;
 use sheet::Checked;
 use sheet::check_sheet;
@@ -14,8 +14,8 @@ ghost use Rattle.model.specs.Sheet.{cardOf};
 ghost use Rattle.model.specs.Walk as model;
 ghost use Rattle.model.specs.Answer.{within, walkOf};
 ghost use Rattle.sheet.specs.Reader.{Reads};
-ghost use Rattle.walker.specs.Lines.{Bounded};
-ghost use Rattle.walker.specs.Following.{Follows};
+ghost use Rattle.moves.specs.Lines.{Bounded};
+ghost use Rattle.moves.specs.Following.{Follows};
 ghost use Rattle.walker.specs.Answers.{sessionOf, walkedOf, refusedOf, spentOf};
 
 // "the allowance, 32 bits for all callers together, [belongs] to the session": what is left of it.

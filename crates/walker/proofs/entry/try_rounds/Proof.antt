@@ -11,10 +11,10 @@ use Rattle.model.specs.Sheet.{cardOf}
 use Rattle.model.specs.Walk.{examine, walk}
 use Rattle.model.specs.Answer.{within}
 use Rattle.sheet.proofs.Laws.{lines-most}
-use Rattle.walker.specs.Rounds.{examined}
-use Rattle.walker.proofs.Fields.{bounded-less}
-use Rattle.walker.proofs.Pairs.{pair-spent}
-use Rattle.walker.proofs.Steps.{pair-challenged}
+use Rattle.game.specs.Rounds.{examined}
+use Rattle.moves.proofs.Fields.{bounded-less}
+use Rattle.game.proofs.Pairs.{pair-spent}
+use Rattle.game.proofs.Steps.{pair-challenged}
 use Rattle.walker.proofs.Tries.{walkFrom, starts, none-left, tries-within, tries-spent, tries-apart, tries-on}
 use Rattle.walker.proofs.entry.try_rounds.Statement.{statement}
 use Rattle.walker.proofs.entry.try_rounds.Tie as tie

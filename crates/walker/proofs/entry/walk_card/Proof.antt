@@ -7,7 +7,7 @@ use Rattle.model.specs.Field.{at}
 use Rattle.model.specs.Sheet.{fieldCount}
 use Rattle.sheet.proofs.Laws.{fields-are, field-counts-at}
 use Rattle.walker.specs.Answers.{sessionOf}
-use Rattle.walker.proofs.Fields.{field-bounded}
+use Rattle.moves.proofs.Fields.{field-bounded}
 use Rattle.walker.proofs.Refusals.{full-walk, first-refused, second-refused, limit-refused, call-walks}
 use Rattle.walker.proofs.entry.walk_card.Statement.{statement}
 use Rattle.walker.proofs.entry.walk_card.Tie as tie
