@@ -106,9 +106,7 @@ fn try_rounds(
                     session: Session { left: rest },
                 };
             }
-            Examined::Spent => {
-                return spend(allowance);
-            }
+            Examined::Spent => return spend(allowance),
         }
         rounds += 1;
     }

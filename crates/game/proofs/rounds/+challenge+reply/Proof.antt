@@ -259,7 +259,8 @@ reply-challenge-requires t c κs =
     let p = c .before .before .before .before .before .before .before .before .before .before .before .before .before .before .before .before .before .pre in
     let n : (c .before .before .before .before .before .before .before .before .before .before .before .before .before .before .before .before .before .args .rounds ≡ 0) → ⊥ = c .before .before .before .before .before .before .before .before .before .before .before .before .if3 .left in
     let m = lines-most (p .1 .0 .0) in
-    (omega (arith, p .0, p .1 .1 .0, m), (p .1 .0, (omega (arith, p .1 .1 .0), left-bounded t (c .before .before .before))))
+    let w = left-bounded t (c .before .before .before) in
+    (omega (arith, p .0, p .1 .1 .0, m), (p .1 .0, (omega (arith, p .1 .1 .0), (search needs, search needs))))
 
 reply-enum-known-left : (t : ℕ) → reply-lts.Need-enum-known-left (reply-calls t) (reply-at t) reply.Post
 reply-enum-known-left t c = search needs

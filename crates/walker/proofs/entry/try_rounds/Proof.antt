@@ -83,7 +83,7 @@ sub-t18 : tie.Need-sub-t18 Inv-loop μ-loop
 sub-t18 c =
     let a = c .before .before .before .before .before .before .before .before .before .args in
     let l = c .before .before .before .before .before .before .loop in
-    tries-within (cardOf (a .s .now) .lines) (at (a .a .now)) (at (a .b .now)) (record { left = a .session .left }) (l .left) (l .rounds) (a .limit + 1 - l .rounds) (l .inv .2) false _ (sym (pair-examined (c .before .before .before)) ∙ c .before .rest2 .given .1)
+    omega (arith, l .inv .2, tries-within (cardOf (a .s .now) .lines) (at (a .a .now)) (at (a .b .now)) (record { left = a .session .left }) (l .left) (l .rounds) (a .limit + 1 - l .rounds) (l .inv .2) false _ (sym (pair-examined (c .before .before .before)) ∙ c .before .rest2 .given .1))
 
 returns-2 : tie.Need-returns-2 Inv-loop μ-loop
 returns-2 c =
@@ -127,7 +127,7 @@ loop-again c =
     )
 
 sub-t21 : tie.Need-sub-t21 Inv-loop μ-loop
-sub-t21 c = c .before .loop .inv .2
+sub-t21 c = omega (arith, c .before .loop .inv .2)
 
 returns-4 : tie.Need-returns-4 Inv-loop μ-loop
 returns-4 c =
