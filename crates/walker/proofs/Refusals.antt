@@ -21,7 +21,7 @@ module _ (s : List ℕ) (i j limit : ℕ) (v : Session) where
   unfolding walkOf
   found-refused k p e = rw (e, walkOf) refl
 
-  found-clear : firstOf (walkChecks s i j limit) ≡ clear → within v (fullWalk s i j limit) ≡ walkOf s i j limit v
+  pub found-clear : firstOf (walkChecks s i j limit) ≡ clear → within v (fullWalk s i j limit) ≡ walkOf s i j limit v
   unfolding walkOf
   found-clear e = rw (e, walkOf) refl
 

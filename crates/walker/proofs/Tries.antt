@@ -9,11 +9,11 @@ use Rattle.model.specs.Field.{Field}
 use Rattle.model.specs.Card.{Line}
 use Rattle.model.specs.Walk.{examine, apart, together, spent, Walk, walkOn, walk}
 use Rattle.model.specs.Answer.{given, Session, Walked, within}
-use Rattle.walker.specs.Rounds.{outcome, examined}
-use Rattle.walker.specs.declared.game.Examined.the-variants.{Spent, Holds, Fails}
-use Rattle.walker.proofs.Cuts.{when-spent, when-known}
+use Rattle.game.specs.Rounds.{outcome, examined}
+use Rattle.game.specs.declared.rounds.Examined.the-variants.{Spent, Holds, Fails}
+use Rattle.game.proofs.Cuts.{when-spent, when-known}
 
-spends : (v : Session) (w : Walk) → v .left < w .count → within v w ≡ record { answer = given spent; drawn = v .left; after = record { left = 0 } }
+pub spends : (v : Session) (w : Walk) → v .left < w .count → within v w ≡ record { answer = given spent; drawn = v .left; after = record { left = 0 } }
 unfolding within
 spends v w h = rw (lt-ltb (v .left) (w .count) h, within) refl
 
