@@ -1,7 +1,7 @@
 // Where the fields part from one of them: the least stage that does not relate the two. Stage 0 goes by their norms, every later stage by their forms.
-use norms::fields::field_norm;
 use sheet::Card;
 use tables::table::form_of_field;
+use weights::fields::field_norm;
 ghost use mathlib.Core.Path.{_≡_};
 ghost use mathlib.Core.Bool.{true};
 ghost use mathlib.Core.Logic.{_↔_};

@@ -18,7 +18,7 @@ use Rattle.theory.proofs.Lists.{length-from, getD-from}
 use Rattle.theory.proofs.Checks.{first-left, first-right}
 use Rattle.theory.proofs.Answers.{demand1}
 use Rattle.theory.proofs.Meanings.{meanings}
-use Rattle.sheet.proofs.Checking.{past-stops, past-passes, less-stops}
+use Rattle.validation.proofs.Checking.{past-stops, past-passes, less-stops}
 use Rattle.rows.specs.Stage.{BaseAt}
 use Rattle.filer.specs.Settlement.{tableIn}
 use Rattle.filer.proofs.Writing.{table-long, row-under, count-under, table-at}

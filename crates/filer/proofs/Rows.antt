@@ -13,7 +13,7 @@ use Rattle.model.specs.Refusal.{clear, refusal, outside, rowChecks}
 use Rattle.model.specs.Answer.{rowOf, rowCheckOf}
 use Rattle.theory.proofs.Checks.{from-outside}
 use Rattle.theory.proofs.Answers.{demand1}
-use Rattle.sheet.proofs.Checking.{test-stops, test-passes, past-stops, past-passes, less-stops}
+use Rattle.validation.proofs.Checking.{test-stops, test-passes, past-stops, past-passes, less-stops}
 
 -- Kinds in range.
 pub in-range : (n : ℕ) → outside 1 mostKinds n ≡ false → (1 ≤ n) × (n ≤ mostKinds)

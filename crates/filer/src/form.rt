@@ -15,8 +15,8 @@ use crate::settlement::Settlement;
 use crate::settlement::settle_once;
 use base::parting::field_form;
 use sheet::Card;
-use sheet::checks::Checked;
 use tables::table::Base;
+use validation::checks::Checked;
 
 // Any bytes, any field number and a buffer of any length; a refusal leaves the buffer as it was. No field is compared with the others, as in Settle.
 pub fn prime_form(s: &[u8], field: usize, buffer: &mut [u64]) -> Forming

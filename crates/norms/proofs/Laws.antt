@@ -16,7 +16,7 @@ use Rattle.sheet.specs.Reader.{Reads, lineCounts}
 use Rattle.sheet.specs.declared.reader.Card.{Card}
 use Rattle.sheet.proofs.Laws.{kinds-are, kinds-most, card-kinds, kind-under, left-under, line-counts-length, line-counts-at}
 use Rattle.norms.specs.Norms.{Accepts, normsOf}
-use Rattle.norms.proofs.Bounds.{counts-fit}
+use Rattle.weights.proofs.Bounds.{counts-fit}
 use Rattle.norms.proofs.Arrays.{array-at}
 
 -- What is made of the part that holds a line's counts is made of what the line leaves.

@@ -6,10 +6,10 @@ use filer::form::form_settled;
 use filer::settlement::Settlement;
 use filer::settlement::settle_once;
 use libc::STDOUT_FILENO;
-use sheet::checks::Checked;
 use tally::Called;
 use tally::Played;
 use tally::Tally;
+use validation::checks::Checked;
 ghost use Prim.Native.Nat.{_≤_};
 ghost use Rattle.filer.specs.Settlement.{IsSettlement};
 

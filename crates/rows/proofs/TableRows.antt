@@ -10,7 +10,7 @@ use lib.ListN.{length, take, drop}
 use lib.Seq.{drop-drop}
 use Rattle.model.specs.Field.{Field, at, weigh}
 use Rattle.model.specs.Limits.{mostKinds}
-use Rattle.norms.proofs.Counts.{weigh-within}
+use Rattle.weights.proofs.Counts.{weigh-within}
 use Rattle.tables.specs.Table.{Under, rowIn, formIn, withRow}
 use Rattle.rows.specs.Forms.{RowSet}
 use Rattle.tables.proofs.Tables.{lent-under, replaced-before, replaced-in, replaced-after, with-row, with-others}

@@ -1,5 +1,4 @@
 // The row of a kind at stage t + 1: the first candidate that passes, or the kind itself.
-use norms::order::earlier;
 use products::expansion::one_token;
 use products::product::passes;
 use sheet::Card;
@@ -7,6 +6,7 @@ use tables::effect::RowCandidate;
 use tables::effect::candidate;
 use tables::table::form_of;
 use tables::table::is_atom;
+use weights::order::earlier;
 ghost use mathlib.Core.Path.{_≡_};
 ghost use mathlib.Core.Bool.{true};
 ghost use mathlib.Core.Logic.{_↔_};

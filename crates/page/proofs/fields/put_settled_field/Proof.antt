@@ -5,7 +5,7 @@ use native.Mathlib.Omega.{arith}
 use lib.ListN.{length, take, replicate}
 use lib.Seq.{length-take-le}
 use Rattle.sheet.proofs.Laws.{kinds-most}
-use Rattle.text.specs.Line.{fieldText, fieldAt}
+use Rattle.listing.specs.Line.{fieldText, fieldAt}
 use Rattle.text.proofs.Append.{reads-as}
 use Rattle.page.proofs.Pages.{form-part}
 use borrow.Author.Needs.{needs}

@@ -7,7 +7,7 @@ use lib.ListN.{length}
 use Rattle.model.specs.Finite.{concat, listFrom}
 use Rattle.model.specs.Field.{at}
 use Rattle.text.specs.Appended.{Appended}
-use Rattle.text.specs.Line.{kindText, kindAt, kindsText}
+use Rattle.listing.specs.Line.{kindText, kindAt, kindsText}
 use Rattle.text.proofs.Append.{reads-as}
 use Rattle.text.proofs.Sequence.{no-text, next-text}
 use Rattle.page.proofs.Pages.{row-length}

@@ -5,7 +5,7 @@ use native.Mathlib.Omega.{arith}
 use Rattle.model.specs.Finite.{concat, listFrom}
 use Rattle.model.specs.Answer.{compareOf}
 use Rattle.text.specs.Appended.{Appended}
-use Rattle.text.specs.Line.{pairText, pairAt, pairsText}
+use Rattle.verdicts.specs.Pair.{pairText, pairAt, pairsText}
 use Rattle.text.proofs.Append.{reads-as}
 use Rattle.text.proofs.Sequence.{no-text, later-text}
 use Rattle.page.proofs.pairs.put_pairs.Statement.{statement}
