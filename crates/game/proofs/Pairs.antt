@@ -35,7 +35,7 @@ module _ (xs : List Line) (a b : Field) where
       go true = let e : suc (s .count) + t .count ≡ 1 + (s .count + t .count) = omega arith in ap (λ (n : ℕ). record { holds = t .holds; count = n }) e
       go false = refl
 
-  pub examines-some : (r : ℕ) → 0 < examine xs r a b .count
+  examines-some : (r : ℕ) → 0 < examine xs r a b .count
   unfolding examine
   examines-some zero = omega arith
   examines-some (suc r) = rw (counts-one r) (omega arith)

@@ -1,4 +1,4 @@
--- Laws of challenges and replies by lines in order: those that cannot be used are passed over, and each of the others follows the one before.
+-- Laws of a run through a list in order, as of challenges or of replies: members that do not pass a test are passed over, and each of the others follows the one before.
 use mathlib.Core.Bool.{Bool, true, false}
 use mathlib.Core.List.{List, [], _∷_, _++_}
 use mathlib.Core.Path.{_≡_, refl, sym, ap, _∙_}
@@ -13,7 +13,7 @@ use Rattle.game.specs.declared.rounds.Examined.the-variants.{Spent, Hold
 use Rattle.moves.proofs.Searches.{next-within, next-test}
 use Rattle.game.proofs.Cuts.{under, follow}
 
--- A run through lines: at none of them it is h, a line that does not pass is passed over, and after one that does, the rest follow where it is h.
+-- A run through a list: at no member it is h, a member that does not pass is passed over, and after one that does, the rest follow where it is h.
 pub record Runs {A : Type 0} (p : A → Bool) (h : Bool) (one : A → Seen) (run : List A → Seen) : Type 0 where
   pub none : run [] ≡ record { holds = h; count = 0 }
   pub pass : (l : A) (ls : List A) → p l ≡ false → run (l ∷ ls) ≡ run ls
@@ -30,7 +30,7 @@ module _ {A : Type 0} {p : A → Bool} {h : Bool} {one : A → Seen} {run : List
       go true = refl
       go false = refl
 
-  -- Some lines, and then others.
+  -- Some members, and then others.
   appended : (ls ms : List A) (v : ℕ) → examined v (run (ls ++ ms)) ≡ follow h (examined v (run ls)) (run ms)
   appended [] ms v = follow-empty v (run ms) ∙ ap (λ (e : Examined). follow h e (run ms)) (empty v)
   appended (l ∷ ls) ms v = go (p l) refl (appended ls ms)
@@ -53,7 +53,7 @@ module _ {A : Type 0} {p : A → Bool} {h : Bool} {one : A → Seen} {run : List
           ∙ ap (λ (x : Examined). follow h x (run ms)) (sym (runs .step v l ls e))
 
   module _ (f : ℕ → A) where
-    -- Lines that do not pass are passed over.
+    -- Members that do not pass are passed over.
     passed-over : (j m : ℕ) → run (listFrom f j m) ≡ run (listFrom f (leastFrom (λ i. p (f i)) j m) (j + m - leastFrom (λ i. p (f i)) j m))
     unfolding leastFrom listFrom
     passed-over j zero = let e : j + 0 - j ≡ 0 = omega arith in rw e refl
@@ -96,14 +96,14 @@ module _ {A : Type 0} {p : A → Bool} {h : Bool} {one : A → Seen} {run : List
           passed-over from (to - from)
           ∙ ap (λ (n : ℕ). run (listFrom f (nextOf p f from to) (n - nextOf p f from to))) d
 
-      -- None of the lines passes.
+      -- None passes.
       pub run-none : (k : ℕ) → k ≡ nextOf p f from to → k ≡ to → outcome h v ≡ examined v (run (between f from to))
       unfolding listFrom
       run-none k e d =
           let z : to - nextOf p f from to ≡ 0 = omega arith in
           empty v ∙ ap (examined v) (sym (split ∙ rw z refl))
 
-      -- The next line that passes, and then the others.
+      -- The next that passes, and then the others.
       pub run-next : (k : ℕ) → k ≡ nextOf p f from to → ¬ (k ≡ to)
           → examined v (run (between f from to)) ≡ follow h (examined v (one (f k))) (run (between f (k + 1) to))
       run-next k e n =
@@ -112,7 +112,7 @@ module _ {A : Type 0} {p : A → Bool} {h : Bool} {one : A → Seen} {run : List
           ap (examined v) (split ∙ ap (λ (i : ℕ). run (between f i to)) (sym e))
           ∙ run-first k to v l (rw e (next-test p f from to fits (rw e at l)))
 
-      -- The lines up to a middle, and then the others.
+      -- Those up to a middle, and then the others.
       pub run-halves : (middle : ℕ) → from ≤ middle → middle ≤ to
           → examined v (run (between f from to)) ≡ follow h (examined v (run (between f from middle))) (run (between f middle to))
       run-halves middle a b =

@@ -14,8 +14,7 @@ use Rattle.model.specs.Walk.{Seen, more, tryReplies, tryChallenges, examine}
 use Rattle.theory.specs.Game.{first, second, sideOf}
 use Rattle.moves.specs.Lines.{answers, between}
 use Rattle.game.specs.Rounds.{examined}
-use Rattle.game.specs.Challenges.{Challenge, challengeOf, firstLine, secondLine, leaves, mayChallenge, mayReply, replied, challenged}
-use Rattle.game.specs.declared.rounds.Examined.{Examined}
+use Rattle.game.specs.Challenges.{Challenge, challengeOf, firstLine, secondLine, leaves, mayChallenge, replied, challenged}
 use Rattle.game.proofs.Cuts.{follow, then-holds, then-fails}
 use Rattle.game.proofs.Runs.{Runs, run-halves}
 

@@ -7,15 +7,14 @@ use native.Mathlib.Omega.{arith}
 use Rattle.model.specs.Finite.{listFrom}
 use Rattle.model.specs.Field.{Field}
 use Rattle.model.specs.Card.{Line, fire}
-use Rattle.model.specs.Sheet.{lineCount, lineOf, cardOf}
+use Rattle.model.specs.Sheet.{lineOf, cardOf}
 use Rattle.model.specs.Walk.{Seen, examine}
-use Rattle.theory.specs.Game.{sideOf}
 use Rattle.sheet.specs.Reader.{Reads}
 use Rattle.sheet.specs.declared.reader.Card.{Card}
 use Rattle.sheet.proofs.Laws.{lines-are, card-lines}
 use Rattle.moves.specs.Lines.{between, nextOf}
 use Rattle.game.specs.Rounds.{examined}
-use Rattle.game.specs.Challenges.{challengeOf, firstLine, secondLine, leaves, mayChallenge, mayReply, replied, challenged}
+use Rattle.game.specs.Challenges.{challengeOf, firstLine, secondLine, mayChallenge, mayReply, replied, challenged}
 use Rattle.game.specs.declared.rounds.Examined.{Examined}
 use Rattle.game.specs.declared.rounds.Examined.the-variants.{Holds, Fails, Spent}
 use Rattle.game.proofs.Cuts.{follow}

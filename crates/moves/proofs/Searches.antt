@@ -1,4 +1,4 @@
--- Laws of the search for the next line that passes a test.
+-- Laws of the search for the next number that passes a test.
 use mathlib.Core.Bool.{Bool, true, false}
 use mathlib.Core.Logic.{_⊎_, inl, inr}
 use mathlib.Core.Path.{_≡_, refl, sym, ap, _∙_}
@@ -42,7 +42,7 @@ module _ (p : ℕ → Bool) (to : ℕ) where
       let e : from + (line - from) ≡ line = omega arith in
       over (line - from) from (omega arith) (λ j u v. f j u (omega arith)) ∙ ap (λ (i : ℕ). leastFrom p i (to - i)) e
 
--- None of the lines before `line` passes.
+-- None of the numbers before `line` passes.
 module _ (p : ℕ → Bool) (from to : ℕ) where
   pub record Searching (line : ℕ) : Type 0 where
     pub within : line ≤ to

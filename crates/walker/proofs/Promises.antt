@@ -2,18 +2,15 @@
 use mathlib.Core.List.{List}
 use mathlib.Core.Logic.{_↔_, Iff·trans}
 use mathlib.Core.Path.{_≡_, refl, sym, ap, _∙_}
-use Prim.Native.Nat.{ℕ, _+_, _≤_, _<_}
+use Prim.Native.Nat.{ℕ, _<_}
 use native.Mathlib.Decide.{decLt}
 use native.Mathlib.Omega.{arith}
-use Rattle.theory.specs.Game.{Holds}
 use Rattle.theory.specs.Meanings.{Walks}
 use Rattle.theory.proofs.Answers.{demand1}
 use Rattle.theory.proofs.Meanings.{meanings}
-use Rattle.model.specs.Sheet.{fieldCount, cardOf, fieldOf}
-use Rattle.model.specs.Limits.{mostRounds}
-use Rattle.model.specs.Refusal.{Finding, clear, refusal, firstOf, sheetChecks, walkChecks}
+use Rattle.model.specs.Refusal.{Finding, clear, refusal, firstOf, walkChecks}
 use Rattle.model.specs.Walk.{WalkAnswer, apart, together, spent}
-use Rattle.model.specs.Answer.{Answer as Given, refused, given, Walked as Model, fullWalk, walkOf}
+use Rattle.model.specs.Answer.{refused, given, Walked as Model, fullWalk, walkOf}
 use Rattle.walker.specs.Answers.{answerOf, sessionOf, walkedOf}
 use Rattle.walker.specs.Promises.{WalkAnswers, WalkMeans, Promises}
 use Rattle.walker.specs.declared.entry.Answer.{Answer}
