@@ -1,4 +1,4 @@
--- Laws of the challenges to a pair by number, and of the replies to one of them.
+-- Laws of the challenges to a pair by number, and of the pair that a challenge and its reply leave.
 use mathlib.Core.Bool.{true, false}
 use mathlib.Core.List.{List}
 use mathlib.Core.Path.{_≡_, refl, sym, ap, _∙_}
@@ -10,29 +10,21 @@ use Rattle.model.specs.Finite.{listFrom}
 use Rattle.model.specs.Field.{Field}
 use Rattle.model.specs.Card.{Line, fire}
 use Rattle.model.specs.Sheet.{lineCount, lineOf}
-use Rattle.model.specs.Walk.{Seen, more, tryReplies, tryChallenges, examine}
+use Rattle.model.specs.Walk.{Seen, more, tryChallenges, examine}
 use Rattle.theory.specs.Game.{first, second, sideOf}
-use Rattle.moves.specs.Lines.{answers, between}
-use Rattle.game.specs.Rounds.{examined}
-use Rattle.game.specs.Challenges.{Challenge, challengeOf, firstLine, secondLine, leaves, mayChallenge, replied, challenged}
-use Rattle.game.proofs.Cuts.{follow, then-holds, then-fails}
-use Rattle.game.proofs.Runs.{Runs, run-halves}
+use Rattle.theory.specs.Counted.{cut, leaves}
+use Rattle.theory.proofs.Counted.{follow, then-holds}
+use Rattle.theory.proofs.Runs.{Runs, run-halves}
+use Rattle.moves.specs.Lines.{between}
+use Rattle.game.specs.Challenges.{Challenge, challengeOf, firstLine, secondLine, mayChallenge, replied, challenged}
 
--- The challenges in their order are a run, and so are the replies to one of them.
-pub challenges : (a b : Field) (xs : List Line) (r : ℕ) → Runs (mayChallenge a b) true (λ h. replied a b xs r h xs) (challenged a b xs r)
+-- The challenges by number are a run.
+pub numbered : (a b : Field) (xs : List Line) (r : ℕ) → Runs (mayChallenge a b) true (λ h. replied a b xs r h xs) (challenged a b xs r)
 unfolding challenged
-challenges a b xs r = record {
+numbered a b xs r = record {
   none = refl;
   pass = λ h hs e. rw (e, challenged) refl;
-  step = λ v h hs e. ap (examined v) (rw (e, challenged) refl) ∙ then-holds v (challenged a b xs r hs) (replied a b xs r h xs);
-}
-
-pub replies : (see : Field → Field → Seen) (l : Line) (x b : Field) → Runs (answers l b) false (λ m. see x (fire m b)) (tryReplies see l x b)
-unfolding tryReplies
-replies see l x b = record {
-  none = refl;
-  pass = λ m ms e. rw (e, tryReplies) refl;
-  step = λ v m ms e. ap (examined v) (rw (e, tryReplies) refl) ∙ then-fails v (tryReplies see l x b ms) (see x (fire m b));
+  step = λ v h hs e. ap (cut v) (rw (e, challenged) refl) ∙ then-holds v (challenged a b xs r hs) (replied a b xs r h xs);
 }
 
 -- The lines that the two sides use in a round, by who challenges.
@@ -98,7 +90,7 @@ module _ (s : List ℕ) where
 
     -- All of them: the first side's, and then the second's.
     pub both-sides : (v : ℕ) → xs ≡ listFrom (lineOf s) 0 (lineCount s)
-        → examined v (challenged a b xs r (between (challengeOf s) 0 (2 * lineCount s))) ≡ follow true (examined v (tryChallenges (leaves first xs r) xs a b xs)) (tryChallenges (leaves second xs r) xs b a xs)
+        → cut v (challenged a b xs r (between (challengeOf s) 0 (2 * lineCount s))) ≡ follow true (cut v (tryChallenges (leaves first xs r) xs a b xs)) (tryChallenges (leaves second xs r) xs b a xs)
     both-sides v e =
         let m : lineCount s - 0 ≡ lineCount s = omega arith in
         let n : 2 * lineCount s - lineCount s ≡ lineCount s = omega arith in
@@ -110,9 +102,9 @@ module _ (s : List ℕ) where
         ap (λ (k : ℕ). challenged a b xs r (listFrom (challengeOf s) (lineCount s) k)) n ∙ second-side (lineCount s) (lineCount s) (omega arith)
         ∙ ap (λ (k : ℕ). tryChallenges (leaves second xs r) xs b a (listFrom (lineOf s) k (lineCount s))) z ∙ ap (tryChallenges (leaves second xs r) xs b a) (sym e)
         in
-        run-halves (challenges a b xs r) (challengeOf s) 0 (2 * lineCount s) v (omega arith) (lineCount s) (omega arith) (omega arith)
-        ∙ ap (λ (w : Seen). follow true (examined v w) (challenged a b xs r (between (challengeOf s) (lineCount s) (2 * lineCount s)))) p
-        ∙ ap (λ (w : Seen). follow true (examined v (tryChallenges (leaves first xs r) xs a b xs)) w) q
+        run-halves (numbered a b xs r) (challengeOf s) 0 (2 * lineCount s) v (lineCount s) (omega arith) (omega arith)
+        ∙ ap (λ (w : Seen). follow true (cut v w) (challenged a b xs r (between (challengeOf s) (lineCount s) (2 * lineCount s)))) p
+        ∙ ap (λ (w : Seen). follow true (cut v (tryChallenges (leaves first xs r) xs a b xs)) w) q
 
     -- "The first side stays first in every later pair, whoever challenged": the pair that a challenge and its reply leave.
     pub left-pair : (number answer : ℕ)

@@ -6,8 +6,9 @@ use lib.Dec.{ltb}
 use Rattle.model.specs.Field.{Field}
 use Rattle.model.specs.Card.{Line, fire}
 use Rattle.model.specs.Sheet.{lineCount, lineOf}
-use Rattle.model.specs.Walk.{Seen, more, tryReplies, examine}
+use Rattle.model.specs.Walk.{Seen, more, tryReplies}
 use Rattle.theory.specs.Game.{Side, first, second, sideOf}
+use Rattle.theory.specs.Counted.{leaves}
 use Rattle.moves.specs.Lines.{usable, answers}
 
 -- "A challenge is a side and a line that this side may use." (Whether it may, the fields of the moment say.)
@@ -29,11 +30,6 @@ firstLine lines number answer = elim (ltb number lines) [ true ↦ number | fals
 
 unfoldable pub secondLine : ℕ → ℕ → ℕ → ℕ
 secondLine lines number answer = elim (ltb number lines) [ true ↦ answer | false ↦ number - lines ]
-
--- "The first side stays first in every later pair, whoever challenged": the pair of the challenger's field x and the other's field y, at r rounds.
-unfoldable pub leaves : Side → List Line → ℕ → Field → Field → Seen
-leaves first xs r x y = examine xs r x y
-leaves second xs r x y = examine xs r y x
 
 module _ (a b : Field) where
   -- Whether the side may use the line, and whether a line is a reply of the other side.

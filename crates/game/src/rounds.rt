@@ -17,10 +17,11 @@ ghost use Prim.Native.Nat.{_+_, _-_, _*_, _≤_, _<_};
 ghost use Rattle.model.specs.Field.{at};
 ghost use Rattle.model.specs.Limits.{mostRounds};
 ghost use Rattle.model.specs.Sheet.{lineOf, cardOf};
+ghost use Rattle.theory.specs.Counted.{cut};
 ghost use Rattle.sheet.specs.Reader.{Reads};
 ghost use Rattle.moves.specs.Lines.{Bounded, between};
 ghost use Rattle.moves.specs.Following.{Follows};
-ghost use Rattle.game.specs.Rounds.{examined};
+ghost use Rattle.game.specs.Rounds.{countedOf};
 ghost use Rattle.game.specs.Challenges.{challengeOf, replied, challenged};
 
 // A part of the walk: whether it holds, with what is left of the allowance, or spent where its count passes the allowance.
@@ -46,7 +47,7 @@ pub fn challenge(
     requires { ⌜ (0 < rounds) × (rounds ≤ mostRounds) × (from ≤ to) × (to ≤ 2 * card .lines) ⌝ }
     requires { ⌜ Bounded rounds (now a) × Bounded rounds (now b) ⌝ }
     ensures { λ r. ⌜
-        r ≡ examined allowance (challenged (at (now (a .entry))) (at (now (b .entry))) (cardOf (now (s .entry)) .lines) (rounds - 1)
+        countedOf r ≡ cut allowance (challenged (at (now (a .entry))) (at (now (b .entry))) (cardOf (now (s .entry)) .lines) (rounds - 1)
         (between (challengeOf (now (s .entry))) from to)) ⌝ }
 {
     let number = next_challenge(card, s, from, to, a, b);
@@ -85,7 +86,7 @@ fn reply(
     requires { ⌜ (rounds < mostRounds) × (number < 2 * card .lines) × (from ≤ to) × (to ≤ card .lines) ⌝ }
     requires { ⌜ Bounded (rounds + 1) (now a) × Bounded (rounds + 1) (now b) ⌝ }
     ensures { λ r. ⌜
-        r ≡ examined allowance (replied (at (now (a .entry))) (at (now (b .entry))) (cardOf (now (s .entry)) .lines) rounds
+        countedOf r ≡ cut allowance (replied (at (now (a .entry))) (at (now (b .entry))) (cardOf (now (s .entry)) .lines) rounds
         (challengeOf (now (s .entry)) number) (between (lineOf (now (s .entry))) from to)) ⌝ }
 {
     let answer = next_answer(card, s, t, number, from, to, a, b);

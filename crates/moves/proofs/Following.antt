@@ -13,10 +13,10 @@ use Rattle.model.specs.Field.{Field, at}
 use Rattle.model.specs.Card.{Line}
 use Rattle.model.specs.Limits.{mostCodes, mostLines}
 use Rattle.model.specs.Sheet.{lineCount, lineOf}
-use Rattle.theory.proofs.Lists.{least-cases}
+use Rattle.theory.proofs.Lists.{least-cases, least-within, least-test}
 use Rattle.moves.specs.Lines.{usable, answers, nextOf}
 use Rattle.moves.specs.Following.{hasCode, Long, RowSet, FollowsFrom, Follows}
-use Rattle.moves.proofs.Searches.{least-next, least-here, least-last, least-over, next-within, next-test}
+use Rattle.moves.proofs.Searches.{least-next, least-here, least-last, least-over}
 
 -- The entries of a row, which starts at `start`, are set below a code.
 pub record Setting (start : ℕ) (number : ℕ → ℕ) (before after : List ℕ) (code : ℕ) : Type 0 where
@@ -83,7 +83,7 @@ follows-line {s} {line} {code} {before} {after} f h small e l kept r =
 
 -- The line that follows a position is none before it.
 pub follows-later : {s t : List ℕ} → Follows s t → (i c : ℕ) → i ≤ lineCount s → c < mostCodes → i ≤ at t (i * mostCodes + c)
-follows-later {s} {t} table i c h l = rw (table .entry i c (omega arith) h l) (next-within (hasCode c) (lineOf s) i (lineCount s) h .0)
+follows-later {s} {t} table i c h l = rw (table .entry i c (omega arith) h l) (least-within (λ k. hasCode c (lineOf s k)) i (lineCount s) h .0)
 
 -- Whether a reply may be used decides where it has the code.
 answers-usable : (l : Line) (b : Field) (m : Line) (can : Bool) → eqb (m .code) (l .code) ≡ true → usable b m ≡ can → answers l b m ≡ can
@@ -114,14 +114,14 @@ module _ {s : List ℕ} {l : Line} {b : Field} {from : ℕ} where
     seeking-from : (i : ℕ) → from ≤ i → i ≤ lineCount s → ((j : ℕ) → from ≤ j → j < i → answers l b (lineOf s j) ≡ false) → line ≡ at t (i * mostCodes + code) → Seeking s l b from line
     seeking-from i a fits f d =
         let n : line ≡ nextOf (hasCode code) (lineOf s) i (lineCount s) = d ∙ table .entry i code (omega arith) fits small in
-        let w = next-within (hasCode code) (lineOf s) i (lineCount s) fits in
+        let w = least-within (λ k. hasCode code (lineOf s k)) i (lineCount s) fits in
         record {
           later = omega (arith, n, w .0);
           within = omega (arith, n, w .1);
           coded = λ h.
               ap (λ (k : ℕ). eqb (lineOf s k .code) (l .code)) n
               ∙ ap (λ (x : ℕ). eqb (lineOf s (nextOf (hasCode code) (lineOf s) i (lineCount s)) .code) x) (sym e)
-              ∙ next-test (hasCode code) (lineOf s) i (lineCount s) fits (omega (arith, n));
+              ∙ least-test (λ k. hasCode code (lineOf s k)) i (lineCount s) fits (omega (arith, n));
           passed = λ j u v. go n j u v (decLt j i);
         }
       where

@@ -1,13 +1,9 @@
 -- Laws of the search for the next number that passes a test.
 use mathlib.Core.Bool.{Bool, true, false}
-use mathlib.Core.Logic.{_⊎_, inl, inr}
 use mathlib.Core.Path.{_≡_, refl, sym, ap, _∙_}
 use Prim.Native.Nat.{ℕ, zero, suc, _+_, _-_, _≤_, _<_}
 use native.Mathlib.Omega.{arith}
-use lib.Dec.{T}
 use Rattle.model.specs.Finite.{leastFrom}
-use Rattle.theory.proofs.Lists.{least-cases}
-use Rattle.moves.specs.Lines.{nextOf}
 
 -- The search by its first number: that passes, or the search goes on, or there is none.
 module _ (p : ℕ → Bool) (line to : ℕ) where
@@ -60,28 +56,3 @@ module _ (p : ℕ → Bool) (from to : ℕ) where
 
     pub searching-ends : to ≤ line → line ≡ leastFrom p from (to - from)
     searching-ends h = sym (least-last p line to h) ∙ so-far .same
-
-is-true : (b : Bool) → T b → b ≡ true
-is-true true t = refl
-is-true false t = absurd t
-
--- The next is one of those given, and passes the test where there is one.
-module _ {A : Type 0} (p : A → Bool) (f : ℕ → A) (from to : ℕ) (fits : from ≤ to) where
-  Least : ℕ → Type 0
-  Least k = (k ≡ from + (to - from)) ⊎ ((k < from + (to - from)) × T (p (f k)))
-
-  pub next-within : (from ≤ nextOf p f from to) × (nextOf p f from to ≤ to)
-  unfolding Least
-  next-within = let t = least-cases (λ j. p (f j)) from (to - from) in (t .1, go (t .0))
-    where
-      go : Least (nextOf p f from to) → nextOf p f from to ≤ to
-      go (inl e) = omega arith
-      go (inr e) = omega (arith, e .0)
-
-  pub next-test : nextOf p f from to < to → p (f (nextOf p f from to)) ≡ true
-  unfolding Least
-  next-test h = is-true _ (go (least-cases (λ j. p (f j)) from (to - from) .0))
-    where
-      go : Least (nextOf p f from to) → T (p (f (nextOf p f from to)))
-      go (inl e) = absurd (omega arith)
-      go (inr e) = e .1

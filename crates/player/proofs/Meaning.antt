@@ -9,33 +9,25 @@ use native.Mathlib.Omega.{arith}
 use Rattle.model.specs.Field.{Field}
 use Rattle.model.specs.Card.{Line, Card}
 use Rattle.model.specs.Sheet.{kindCount, fieldCount, cardOf, fieldOf}
-use Rattle.model.specs.Walk.{Seen, examine, apart, together, Walk, walkOn, walk}
+use Rattle.model.specs.Walk.{Seen, examine, Walk, walk}
 use Rattle.theory.specs.Game.{Holds}
 use Rattle.theory.proofs.Exec.{Tells}
-use Rattle.theory.proofs.Walks.{tells-examine, Holds-less}
+use Rattle.theory.proofs.Walks.{tells-examine, Holds-less, walk-parts, walk-holds}
+use Rattle.theory.proofs.Counted.{over, under}
 use Rattle.player.specs.declared.game.Tried.{Tried}
 use Rattle.player.specs.declared.game.Tried.the-variants.{Parted, Held, OutOfBudget, OutOfBounds}
 use Rattle.player.specs.Played.{mostKinds, mostRounds, tried, partingOf}
 use Rattle.player.specs.Meaning.{Means}
-use Rattle.player.proofs.Cuts.{over, under}
 use Rattle.player.proofs.Rounds.{tried-none, tried-bound, tried-one, kinds-bound, first-bound, second-bound, fields-tried}
 
--- The pairs of one number of rounds, and of those after it.
-module _ (xs : List Line) (a b : Field) (r : ℕ) where
-  walk-one : walk xs a b r (suc zero) .count ≡ examine xs r a b .count
-  unfolding walk
-  walk-one = go (s .holds)
-    where
-      s : Seen
-      s = examine xs r a b
-
-      go : (h : Bool) → (elim h as (λ _. Walk) [ true ↦ walkOn (s .count) (record { found = together; count = 0 }) | false ↦ record { found = apart r; count = s .count } ]) .count ≡ s .count
-      go true = omega arith
-      go false = refl
-
-  walk-on : (n : ℕ) → examine xs r a b .holds ≡ true → walk xs a b r (suc n) .count ≡ examine xs r a b .count + walk xs a b (suc r) n .count
-  unfolding walk
-  walk-on n e = rw (e, walk) refl
+-- The pairs of one number of rounds.
+walk-one : (xs : List Line) (a b : Field) (r : ℕ) → walk xs a b r (suc zero) .count ≡ examine xs r a b .count
+unfolding walk
+walk-one xs a b r = go (examine xs r a b .holds) refl
+  where
+    go : (h : Bool) → examine xs r a b .holds ≡ h → walk xs a b r (suc zero) .count ≡ examine xs r a b .count
+    go true e = rw (walk-holds xs a b r zero e) (omega arith)
+    go false e = rw (walk-parts xs a b r zero e) refl
 
 module _ (c : Card) (a b : Field) where
   abbrev HoldsTo : ℕ → Type 0
@@ -70,7 +62,7 @@ module _ (c : Card) (a b : Field) where
       let z : q - r ≡ suc (q - (r + 1)) = omega arith in
       let y : suc (r + 1) ≡ r + 1 + 1 = omega arith in
       ap (λ (n : ℕ). walk (c .lines) a b (r + 1) n .count) z
-      ∙ walk-on (c .lines) a b (r + 1) (q - (r + 1)) e
+      ∙ ap (λ (w : Walk). w .count) (walk-holds (c .lines) a b (r + 1) (q - (r + 1)) e)
       ∙ ap (λ (i : ℕ). seen r .count + walk (c .lines) a b i (q - (r + 1)) .count) y
 
   -- The pair holds at r + 1 rounds: what is found after them is found after r.

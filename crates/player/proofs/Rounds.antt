@@ -8,8 +8,8 @@ use Rattle.model.specs.Field.{Field}
 use Rattle.model.specs.Card.{Line}
 use Rattle.model.specs.Sheet.{kindCount, fieldCount, cardOf, fieldOf}
 use Rattle.model.specs.Walk.{examine}
-use Rattle.player.specs.Played.{mostKinds, mostRounds, cut, next, tried, partingOf}
-use Rattle.player.specs.declared.game.Play.{Play}
+use Rattle.theory.specs.Counted.{Counted, cut}
+use Rattle.player.specs.Played.{mostKinds, mostRounds, next, tried, partingOf}
 use Rattle.player.specs.declared.game.Tried.{Tried}
 use Rattle.player.specs.declared.game.Tried.the-variants.{Held, OutOfBounds}
 
@@ -39,11 +39,11 @@ module _ (xs : List Line) (a b : Field) (v r : ℕ) where
     pub rounds-bound : r < limit → mostRounds ≤ r → OutOfBounds r ≡ whole
     rounds-bound h l = let e : limit - r ≡ suc (limit - (r + 1)) = omega arith in sym (tried-bound (limit - (r + 1)) l) ∙ ap (tried xs a b v r) (sym e) ∙ from
 
-    pub rounds-next : r < limit → r < mostRounds → (found known : Play) → found ≡ cut v (examine xs (r + 1) a b) → found ≡ known
+    pub rounds-next : r < limit → r < mostRounds → {found known : Counted} → found ≡ cut v (examine xs (r + 1) a b) → found ≡ known
         → next r known (λ left. tried xs a b left (r + 1) (limit - (r + 1))) ≡ whole
-    rounds-next h l found known d k =
+    rounds-next h l d k =
         let e : limit - r ≡ suc (limit - (r + 1)) = omega arith in
-        ap (λ (p : Play). next r p (λ left. tried xs a b left (r + 1) (limit - (r + 1)))) (sym k ∙ d)
+        ap (λ (p : Counted). next r p (λ left. tried xs a b left (r + 1) (limit - (r + 1)))) (sym k ∙ d)
         ∙ sym (tried-one (limit - (r + 1)) l)
         ∙ ap (tried xs a b v r) (sym e)
         ∙ from

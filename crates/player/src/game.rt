@@ -13,8 +13,9 @@ ghost use Prim.Native.Nat.{_+_, _≤_, _<_};
 ghost use Rattle.model.specs.Field.{at};
 ghost use Rattle.model.specs.Sheet.{kindCount, lineOf, cardOf};
 ghost use Rattle.model.specs.Walk.{tryReplies, tryChallenges, examine};
+ghost use Rattle.theory.specs.Counted.{cut, leaves};
 ghost use Rattle.second_reader.specs.Fields.{Fits};
-ghost use Rattle.player.specs.Played.{cut, leaves, tried, partingOf};
+ghost use Rattle.player.specs.Played.{countedOf, challenger, tried, partingOf};
 
 // A part of the game: whether it holds, with what is left of the budget, or spent where it has more pairs than the budget.
 pub enum Play {
@@ -48,7 +49,7 @@ fn reply_holds(
     requires { ⌜ (kindCount (now s) ≤ 32) × (line < 65536) × (j < 65536) ⌝ }
     requires { ⌜ Fits (now s) rounds (now x) × Fits (now s) (rounds + 1) (now b) ⌝ }
     ensures { λ r. ⌜
-        r ≡ cut budget (tryReplies (leaves second (cardOf (now (s .entry)) .lines) rounds) (lineOf (now (s .entry)) line)
+        countedOf r ≡ cut budget (tryReplies (leaves (challenger second) (cardOf (now (s .entry)) .lines) rounds) (lineOf (now (s .entry)) line)
         (at (now (x .entry))) (at (now (b .entry))) (lineOf (now (s .entry)) j ∷ [])) ⌝ }
 {
     if may_reply(s, j, line, b) {
@@ -76,7 +77,7 @@ fn some_reply(
     requires { ⌜ (kindCount (now s) ≤ 32) × (line < 65536) ⌝ }
     requires { ⌜ Fits (now s) rounds (now x) × Fits (now s) (rounds + 1) (now b) ⌝ }
     ensures { λ r. ⌜
-        r ≡ cut budget (tryReplies (leaves second (cardOf (now (s .entry)) .lines) rounds) (lineOf (now (s .entry)) line)
+        countedOf r ≡ cut budget (tryReplies (leaves (challenger second) (cardOf (now (s .entry)) .lines) rounds) (lineOf (now (s .entry)) line)
         (at (now (x .entry))) (at (now (b .entry))) (cardOf (now (s .entry)) .lines)) ⌝ }
 {
     let m = lines(s);
@@ -112,7 +113,7 @@ fn challenge_holds(
     requires { ⌜ (kindCount (now s) ≤ 32) × (j < 65536) ⌝ }
     requires { ⌜ Fits (now s) (rounds + 1) (now a) × Fits (now s) (rounds + 1) (now b) ⌝ }
     ensures { λ r. ⌜
-        r ≡ cut budget (tryChallenges (leaves second (cardOf (now (s .entry)) .lines) rounds) (cardOf (now (s .entry)) .lines)
+        countedOf r ≡ cut budget (tryChallenges (leaves (challenger second) (cardOf (now (s .entry)) .lines) rounds) (cardOf (now (s .entry)) .lines)
         (at (now (a .entry))) (at (now (b .entry))) (lineOf (now (s .entry)) j ∷ [])) ⌝ }
 {
     if may_use(s, j, a) {
@@ -135,7 +136,7 @@ fn every_challenge(
     requires { ⌜ kindCount (now s) ≤ 32 ⌝ }
     requires { ⌜ Fits (now s) (rounds + 1) (now a) × Fits (now s) (rounds + 1) (now b) ⌝ }
     ensures { λ r. ⌜
-        r ≡ cut budget (tryChallenges (leaves second (cardOf (now (s .entry)) .lines) rounds) (cardOf (now (s .entry)) .lines)
+        countedOf r ≡ cut budget (tryChallenges (leaves (challenger second) (cardOf (now (s .entry)) .lines) rounds) (cardOf (now (s .entry)) .lines)
         (at (now (a .entry))) (at (now (b .entry))) (cardOf (now (s .entry)) .lines)) ⌝ }
 {
     let m = lines(s);
@@ -163,7 +164,7 @@ fn every_challenge(
 fn pair_holds(s: &[u8], rounds: u64, a: &[usize; 32], b: &[usize; 32], budget: usize) -> Play
     requires { ⌜ kindCount (now s) ≤ 32 ⌝ }
     requires { ⌜ Fits (now s) rounds (now a) × Fits (now s) rounds (now b) ⌝ }
-    ensures { λ r. ⌜ r ≡ cut budget (examine (cardOf (now (s .entry)) .lines) rounds (at (now (a .entry))) (at (now (b .entry)))) ⌝ }
+    ensures { λ r. ⌜ countedOf r ≡ cut budget (examine (cardOf (now (s .entry)) .lines) rounds (at (now (a .entry))) (at (now (b .entry)))) ⌝ }
 {
     if budget == 0 {
         return Play::Spent;

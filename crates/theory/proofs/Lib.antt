@@ -25,6 +25,9 @@ pub mod Fewest
 pub mod Cut
 pub mod Enumerate
 pub mod Rows
+-- Pairs examined where an allowance may end the count: one part after another, and runs through lists.
+pub mod Counted
+pub mod Runs
 -- Document 01: the plain comparison, whole games, sheets, checks, limits, calls, widths, decimals, pages.
 pub mod Plain
 pub mod Paper

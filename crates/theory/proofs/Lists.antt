@@ -1,9 +1,9 @@
 -- Lists of f i, f (i + 1), .. and the model's searches over them.
 use mathlib.Core.Bool.{Bool, true, false}
-use mathlib.Core.List.{List, [], _∷_, List·Memᴰ, List·Memᴰ·head, List·Memᴰ·tail}
+use mathlib.Core.List.{List, [], _∷_, _++_, List·Memᴰ, List·Memᴰ·head, List·Memᴰ·tail}
 use mathlib.Core.Logic.{_⊎_, inl, inr}
 use mathlib.Core.Path.{_≡_, refl, _∙_, ap}
-use Prim.Native.Nat.{ℕ, zero, suc, _+_, _≤_, _<_}
+use Prim.Native.Nat.{ℕ, zero, suc, _+_, _-_, _≤_, _<_}
 use native.Mathlib.Decide.{ℕ-discrete}
 use native.Mathlib.Omega.{arith}
 use lib.Dec.{T}
@@ -38,6 +38,16 @@ module _ {A : Type 0} (f : ℕ → A) where
   from-mem i (suc m) (suc k) h =
       let e : suc i + k ≡ i + suc k = omega arith in
       List·Memᴰ·tail (rw (ap f e) at (from-mem (suc i) m k (omega arith)))
+
+  pub from-append : (i m n : ℕ) → listFrom f i (m + n) ≡ listFrom f i m ++ listFrom f (i + m) n
+  unfolding listFrom
+  from-append i zero n = let e : 0 + n ≡ n = omega arith in let d : i ≡ i + 0 = omega arith in ap (listFrom f i) e ∙ ap (λ (j : ℕ). listFrom f j n) d
+  from-append i (suc m) n =
+      let e : suc m + n ≡ suc (m + n) = omega arith in
+      let d : suc i + m ≡ i + suc m = omega arith in
+      ap (listFrom f i) e
+      ∙ ap (λ (xs : List A). f i ∷ xs) (from-append (suc i) m n)
+      ∙ ap (λ (j : ℕ). f i ∷ (listFrom f (suc i) m ++ listFrom f j n)) d
 
 pub mem-below : (n k : ℕ) → List·Memᴰ k (below n) → k < n
 unfolding below
@@ -92,3 +102,28 @@ least-cases p i (suc m) = go (p i) refl (least-cases p (suc i) m)
         at : (k : ℕ) → i ≤ k → k < leastFrom p (suc i) m → Dec (k ≡ i) → ¬ T (p k)
         at k h l (yes q) t = rw (ap p q ∙ e) at t
         at k h l (no q) t = r .2 k (omega arith) l t
+
+is-true : (b : Bool) → T b → b ≡ true
+is-true true t = refl
+is-true false t = absurd t
+
+-- The least from one number up to another is one of them, and passes where there is one.
+module _ (p : ℕ → Bool) (from to : ℕ) (fits : from ≤ to) where
+  Found : ℕ → Type 0
+  Found k = (k ≡ from + (to - from)) ⊎ ((k < from + (to - from)) × T (p k))
+
+  pub least-within : (from ≤ leastFrom p from (to - from)) × (leastFrom p from (to - from) ≤ to)
+  unfolding Found
+  least-within = let t = least-cases p from (to - from) in (t .1, go (t .0))
+    where
+      go : Found (leastFrom p from (to - from)) → leastFrom p from (to - from) ≤ to
+      go (inl e) = omega arith
+      go (inr e) = omega (arith, e .0)
+
+  pub least-test : leastFrom p from (to - from) < to → p (leastFrom p from (to - from)) ≡ true
+  unfolding Found
+  least-test h = is-true _ (go (least-cases p from (to - from) .0))
+    where
+      go : Found (leastFrom p from (to - from)) → T (p (leastFrom p from (to - from)))
+      go (inl e) = absurd (omega arith)
+      go (inr e) = e .1

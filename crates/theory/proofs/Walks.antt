@@ -156,6 +156,16 @@ module _ (c : Card) where
             pick (inr x) = inr (x .0, x .1, omega (arith, x .2), x .3, x .4)
         go false t g = inr (at, refl, omega arith, (λ x. t .test x), h)
 
+-- The walk by what its first number of rounds comes to.
+module _ (xs : List Line) (a b : Field) (r many : ℕ) where
+  pub walk-parts : examine xs r a b .holds ≡ false → walk xs a b r (suc many) ≡ record { found = apart r; count = examine xs r a b .count }
+  unfolding walk
+  walk-parts e = rw (e, walk) refl
+
+  pub walk-holds : examine xs r a b .holds ≡ true → walk xs a b r (suc many) ≡ walkOn (examine xs r a b .count) (walk xs a b (suc r) many)
+  unfolding walk
+  walk-holds e = rw (e, walk) refl
+
 -- It never finds spent: that is the allowance's.
 pub walk-not-spent : (xs : List Line) (a b : Field) (many at : ℕ) → ¬ (walk xs a b at many .found ≡ spent)
 unfolding walk

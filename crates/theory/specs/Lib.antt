@@ -3,6 +3,8 @@ pub mod Expansion
 pub mod Stages
 pub mod Terms
 pub mod Game
+-- Pairs examined and counted, where an allowance may end the count.
+pub mod Counted
 -- What is claimed: how large numbers grow, what the terms that compute mean, and the demands.
 pub mod Widths
 pub mod Meanings

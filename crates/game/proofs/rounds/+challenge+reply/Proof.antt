@@ -10,15 +10,16 @@ use borrow.Fn.PlainCycle.{Measures, is, falls, and}
 use Rattle.model.specs.Field.{at}
 use Rattle.model.specs.Sheet.{lineOf}
 use Rattle.model.specs.Walk.{Seen}
+use Rattle.theory.specs.Counted.{cut}
+use Rattle.theory.proofs.Lists.{least-within}
+use Rattle.theory.proofs.Counted.{follow}
 use Rattle.sheet.proofs.Laws.{lines-most, left-under}
 use Rattle.moves.specs.Lines.{Bounded}
-use Rattle.game.specs.Rounds.{examined}
+use Rattle.game.specs.Rounds.{countedOf}
 use Rattle.game.specs.Challenges.{challengeOf, mayChallenge, mayReply}
 use Rattle.game.specs.declared.rounds.Examined.{Examined}
 use Rattle.game.specs.declared.rounds.Examined.the-variants.{Holds, Fails, Spent}
 use Rattle.moves.proofs.Fields.{fire-bounded, bounded-less}
-use Rattle.moves.proofs.Searches.{next-within}
-use Rattle.game.proofs.Cuts.{follow}
 use Rattle.game.proofs.Sides.{first-line-under, second-line-under}
 use Rattle.game.proofs.Steps.{Challenged, Replied, challenge-none, challenge-next, challenge-half, reply-none, reply-spent, reply-last, reply-next, reply-half}
 use Rattle.game.proofs.rounds.challenge.Reads as challenge
@@ -80,7 +81,7 @@ challenge-number : (t : ℕ) (c : challenge-lts.Else1 (challenge-calls t) (chall
 challenge-number t c =
     let a = c .before .before .before .args in
     let n : (c .before .next-challenge .result ≡ a .to) → ⊥ = c .if1 .left in
-    let w = next-within (mayChallenge (at (a .a .now)) (at (a .b .now))) (challengeOf (a .s .now)) (a .from) (a .to) (c .before .before .before .pre .1 .1 .0 .2) in
+    let w = least-within (λ k. mayChallenge (at (a .a .now)) (at (a .b .now)) (challengeOf (a .s .now) k)) (a .from) (a .to) (c .before .before .before .pre .1 .1 .0 .2) in
     (omega (arith, w .0, c .before .next-challenge .ensures), omega (arith, w .1, c .before .next-challenge .ensures))
 
 challenge-add-next : (t : ℕ) → challenge-lts.Need-add-next (challenge-calls t) (challenge-at t) challenge.Post
@@ -135,22 +136,22 @@ challenge-enum-told-2 t c = search needs
 
 -- What the challenges after the first come to, by what is known of the first.
 challenge-after : (t : ℕ) (c : challenge-lts.After-reply (challenge-calls t) (challenge-at t) challenge.Post) (known : Examined) → c .reply .result ≡ known
-    → follow true known (challenge-rest t (c .before .before .before .before) (c .before .before .next-challenge .result + 1)) ≡ examined (c .before .before .before .before .args .allowance) (challenge-rest t (c .before .before .before .before) (c .before .before .before .before .args .from))
+    → follow true (countedOf known) (challenge-rest t (c .before .before .before .before) (c .before .before .next-challenge .result + 1)) ≡ cut (c .before .before .before .before .args .allowance) (challenge-rest t (c .before .before .before .before) (c .before .before .before .before .args .from))
 challenge-after t c known m =
     let a = c .before .before .before .before .args in
     let p = c .before .before .before .before .pre .1 in
     challenge-next (p .0 .0) (a .rounds - 1) (at (a .a .now)) (at (a .b .now)) (a .from) (a .to) (a .allowance) (p .1 .0 .2) (c .before .before .next-challenge .result) (c .before .before .next-challenge .ensures) (c .before .if1 .left)
-    (c .reply .result) known (c .reply .ensures) m
+    (countedOf known) (rw (← m) (c .reply .ensures))
 
 -- The same of the second half of them, by what is known of the first half.
 challenge-middle : (t : ℕ) (c : challenge-lts.After-challenge (challenge-calls t) (challenge-at t) challenge.Post) (known : Examined) → c .challenge .result ≡ known
-    → follow true known (challenge-rest t (c .before .before .before .before .before .before .before .before) (c .before .before .before .before .before .before .next-challenge .result + 1 + (c .before .before .before .before .before .before .before .before .args .to - (c .before .before .before .before .before .before .next-challenge .result + 1)) / 2)) ≡ examined (c .before .before .before .before .before .before .before .before .args .allowance) (challenge-rest t (c .before .before .before .before .before .before .before .before) (c .before .before .before .before .before .before .before .before .args .from))
+    → follow true (countedOf known) (challenge-rest t (c .before .before .before .before .before .before .before .before) (c .before .before .before .before .before .before .next-challenge .result + 1 + (c .before .before .before .before .before .before .before .before .args .to - (c .before .before .before .before .before .before .next-challenge .result + 1)) / 2)) ≡ cut (c .before .before .before .before .before .before .before .before .args .allowance) (challenge-rest t (c .before .before .before .before .before .before .before .before) (c .before .before .before .before .before .before .before .before .args .from))
 challenge-middle t c known m =
     let a = c .before .before .before .before .before .before .before .before .args in
     let next = c .before .before .before .before .before .before .next-challenge .result + 1 in
     let w = challenge-number t (c .before .before .before .before .before) in
     challenge-half (c .before .before .before .before .before .before .before .before .pre .1 .0 .0) (a .rounds - 1) (at (a .a .now)) (at (a .b .now)) next (a .to) (c .before .before .left .given .0 .0) (omega (arith, w)) (next + (a .to - next) / 2) (omega (arith, w)) (omega (arith, w))
-    (c .challenge .result) known (c .challenge .ensures) m
+    (countedOf known) (rw (← m) (c .challenge .ensures))
     ∙ challenge-after t (c .before .before .before .before) (Holds (c .before .before .left .given .0 .0)) (c .before .before .left .given .1)
 
 challenge-returns-2 : (t : ℕ) → challenge-lts.Need-returns-2 (challenge-calls t) (challenge-at t) challenge.Post
@@ -180,7 +181,7 @@ reply-line : (t : ℕ) (c : reply-lts.Else1 (reply-calls t) (reply-at t) reply.P
 reply-line t c =
     let a = c .before .before .before .args in
     let n : (c .before .next-answer .result ≡ a .to) → ⊥ = c .if1 .left in
-    let w = next-within (mayReply (at (a .a .now)) (at (a .b .now)) (challengeOf (a .s .now) (a .number))) (lineOf (a .s .now)) (a .from) (a .to) (c .before .before .before .pre .1 .1 .0 .2) in
+    let w = least-within (λ k. mayReply (at (a .a .now)) (at (a .b .now)) (challengeOf (a .s .now) (a .number)) (lineOf (a .s .now) k)) (a .from) (a .to) (c .before .before .before .pre .1 .1 .0 .2) in
     (omega (arith, w .0, c .before .next-answer .ensures), omega (arith, w .1, c .before .next-answer .ensures))
 
 reply-returns : (t : ℕ) → reply-lts.Need-returns (reply-calls t) (reply-at t) reply.Post
@@ -294,23 +295,23 @@ reply-enum-told-2 t c = search needs
 
 -- What the replies after the first come to, by what is known of the challenges to the pair that the first leaves.
 reply-after : (t : ℕ) (c : reply-lts.After-challenge (reply-calls t) (reply-at t) reply.Post) (known : Examined) → c .challenge .result ≡ known
-    → follow false known (reply-rest t (c .before .before .before .before .before .before .before .before .before .before .before .before .before .before .before .before .before .before) (c .before .before .before .before .before .before .before .before .before .before .before .before .before .before .before .before .next-answer .result + 1)) ≡ examined (c .before .before .before .before .before .before .before .before .before .before .before .before .before .before .before .before .before .before .args .allowance) (reply-rest t (c .before .before .before .before .before .before .before .before .before .before .before .before .before .before .before .before .before .before) (c .before .before .before .before .before .before .before .before .before .before .before .before .before .before .before .before .before .before .args .from))
+    → follow false (countedOf known) (reply-rest t (c .before .before .before .before .before .before .before .before .before .before .before .before .before .before .before .before .before .before) (c .before .before .before .before .before .before .before .before .before .before .before .before .before .before .before .before .next-answer .result + 1)) ≡ cut (c .before .before .before .before .before .before .before .before .before .before .before .before .before .before .before .before .before .before .args .allowance) (reply-rest t (c .before .before .before .before .before .before .before .before .before .before .before .before .before .before .before .before .before .before) (c .before .before .before .before .before .before .before .before .before .before .before .before .before .before .before .before .before .before .args .from))
 reply-after t c known m =
     let a = c .before .before .before .before .before .before .before .before .before .before .before .before .before .before .before .before .before .before .args in
     let p = c .before .before .before .before .before .before .before .before .before .before .before .before .before .before .before .before .before .before .pre .1 in
     reply-next (p .0 .0) (a .rounds) (at (a .a .now)) (at (a .b .now)) (a .from) (a .to) (a .allowance) (p .1 .0 .2) (a .number) (c .before .before .before .before .before .before .before .before .before .before .before .before .before .before .before .before .next-answer .result) (c .before .before .before .before .before .before .before .before .before .before .before .before .before .before .before .before .next-answer .ensures) (c .before .before .before .before .before .before .before .before .before .before .before .before .before .before .before .if1 .left)
     (c .before .before .before .before .before .before .before .before .before .before .before .before .before .before .if2 .left) (c .before .before .before .before .before .before .before .before .before .before .before .before .before .if3 .left) (at (c .before .before .before .before .before .before .before .before .before .use-line .last .1 .1 .1 .0)) (at (c .before .before .before .before .use-line2 .last .1 .1 .1 .0)) (rw (← c .before .before .before .before .before .before .before .before .before .before .before .first-line .ensures) (c .before .before .before .before .before .before .before .before .before .use-line .ensures)) (rw (← c .before .before .before .before .before .before .second-line .ensures) (c .before .before .before .before .use-line2 .ensures))
-    (c .challenge .result) known (c .challenge .ensures) m
+    (countedOf known) (rw (← m) (c .challenge .ensures))
 
 -- The same of the second half of them, by what is known of the first half.
 reply-middle : (t : ℕ) (c : reply-lts.After-reply (reply-calls t) (reply-at t) reply.Post) (known : Examined) → c .reply .result ≡ known
-    → follow false known (reply-rest t (c .before .before .before .before .before .before .before .before .before .before .before .before .before .before .before .before .before .before .before .before .before .before) (c .before .before .before .before .before .before .before .before .before .before .before .before .before .before .before .before .before .before .before .before .next-answer .result + 1 + (c .before .before .before .before .before .before .before .before .before .before .before .before .before .before .before .before .before .before .before .before .before .before .args .to - (c .before .before .before .before .before .before .before .before .before .before .before .before .before .before .before .before .before .before .before .before .next-answer .result + 1)) / 2)) ≡ examined (c .before .before .before .before .before .before .before .before .before .before .before .before .before .before .before .before .before .before .before .before .before .before .args .allowance) (reply-rest t (c .before .before .before .before .before .before .before .before .before .before .before .before .before .before .before .before .before .before .before .before .before .before) (c .before .before .before .before .before .before .before .before .before .before .before .before .before .before .before .before .before .before .before .before .before .before .args .from))
+    → follow false (countedOf known) (reply-rest t (c .before .before .before .before .before .before .before .before .before .before .before .before .before .before .before .before .before .before .before .before .before .before) (c .before .before .before .before .before .before .before .before .before .before .before .before .before .before .before .before .before .before .before .before .next-answer .result + 1 + (c .before .before .before .before .before .before .before .before .before .before .before .before .before .before .before .before .before .before .before .before .before .before .args .to - (c .before .before .before .before .before .before .before .before .before .before .before .before .before .before .before .before .before .before .before .before .next-answer .result + 1)) / 2)) ≡ cut (c .before .before .before .before .before .before .before .before .before .before .before .before .before .before .before .before .before .before .before .before .before .before .args .allowance) (reply-rest t (c .before .before .before .before .before .before .before .before .before .before .before .before .before .before .before .before .before .before .before .before .before .before) (c .before .before .before .before .before .before .before .before .before .before .before .before .before .before .before .before .before .before .before .before .before .before .args .from))
 reply-middle t c known m =
     let a = c .before .before .before .before .before .before .before .before .before .before .before .before .before .before .before .before .before .before .before .before .before .before .args in
     let next = c .before .before .before .before .before .before .before .before .before .before .before .before .before .before .before .before .before .before .before .before .next-answer .result + 1 in
     let w = reply-line t (c .before .before .before .before .before .before .before .before .before .before .before .before .before .before .before .before .before .before .before) in
     reply-half (c .before .before .before .before .before .before .before .before .before .before .before .before .before .before .before .before .before .before .before .before .before .before .pre .1 .0 .0) (a .rounds) (at (a .a .now)) (at (a .b .now)) next (a .to) (c .before .before .left2 .given .0 .0) (omega (arith, w)) (next + (a .to - next) / 2) (omega (arith, w)) (omega (arith, w))
-    (c .reply .result) known (a .number) (c .reply .ensures) m
+    (countedOf known) (a .number) (rw (← m) (c .reply .ensures))
     ∙ reply-after t (c .before .before .before .before) (Fails (c .before .before .left2 .given .0 .0)) (c .before .before .left2 .given .1)
 
 reply-returns-4 : (t : ℕ) → reply-lts.Need-returns-4 (reply-calls t) (reply-at t) reply.Post

@@ -2,15 +2,17 @@
 -- budget, cut at what the lines from j on come to, is the budget cut at what all come to.
 use borrow.Author.Needs.{needs}
 use native.Mathlib.Omega.{arith}
-use mathlib.Core.Path.{_≡_, refl, _∙_}
+use mathlib.Core.Path.{_≡_, refl, ap, _∙_}
 use Prim.Native.Nat.{ℕ, _+_, _-_, _*_, _≤_, _<_}
 use Rattle.model.specs.Field.{at}
 use Rattle.model.specs.Sheet.{lineOf, cardOf}
 use Rattle.model.specs.Walk.{tryReplies, tryChallenges}
-use Rattle.player.specs.Played.{cut, leaves}
+use Rattle.theory.specs.Counted.{cut, leaves}
+use Rattle.theory.proofs.Counted.{pair-spent, pair-zero}
+use Rattle.theory.proofs.Runs.{challenges, replies}
+use Rattle.player.specs.Played.{countedOf, challenger}
 use Rattle.second_reader.proofs.Counts.{fits-fewer, after-fits}
-use Rattle.player.proofs.Lines.{linesFrom, challenges, replies, runs-start, runs-next, runs-end, challenge-played, challenge-passed, reply-played, reply-passed}
-use Rattle.player.proofs.Pairs.{pair-spent, pair-zero, pair-sides, left-first, left-second}
+use Rattle.player.proofs.Lines.{linesFrom, runs-start, runs-next, runs-end, challenge-played, challenge-passed, reply-played, reply-passed, pair-sides, left-first, left-second}
 use borrow.Fn.Kinds.{In}
 use borrow.Fn.PlainCycle.{Measures, is, falls, and}
 use Rattle.player.proofs.game.challenge_holds.Reads as challenge-holds
@@ -146,7 +148,7 @@ challenge-holds-returns-2 : (t : ℕ) → challenge-holds-lts.Need-returns-2 (ch
 challenge-holds-returns-2 t c = challenge-passed _ _ _ _ _ _ (c .before .may-use .ensures) (c .if1 .left)
 
 abbrev every-challenge-Inv-loop : every-challenge-lts.InvT-loop
-every-challenge-Inv-loop s rounds second a b budget m left₀ j₀ left j = (j ≤ m) × (cut left (tryChallenges (leaves second (cardOf s .lines) rounds) (cardOf s .lines) (at a) (at b) (linesFrom s j)) ≡ cut budget (tryChallenges (leaves second (cardOf s .lines) rounds) (cardOf s .lines) (at a) (at b) (cardOf s .lines)))
+every-challenge-Inv-loop s rounds second a b budget m left₀ j₀ left j = (j ≤ m) × (cut left (tryChallenges (leaves (challenger second) (cardOf s .lines) rounds) (cardOf s .lines) (at a) (at b) (linesFrom s j)) ≡ cut budget (tryChallenges (leaves (challenger second) (cardOf s .lines) rounds) (cardOf s .lines) (at a) (at b) (cardOf s .lines)))
 
 abbrev every-challenge-μ-loop : every-challenge-lts.MeasureT-loop
 every-challenge-μ-loop s rounds second a b budget m left₀ j₀ left j = m - j
@@ -167,13 +169,13 @@ every-challenge-enum-known-rest-2 : (t : ℕ) → every-challenge-lts.Need-enum-
 every-challenge-enum-known-rest-2 t c = search needs
 
 every-challenge-returns : (t : ℕ) → every-challenge-lts.Need-returns (every-challenge-calls t) (every-challenge-at t) every-challenge.Post every-challenge-Inv-loop every-challenge-μ-loop
-every-challenge-returns t c = runs-next (challenges _ _ _ _) _ _ _ (c .before .before .before .before .before .loop .inv .1) _ _ (omega (arith, c .before .before .before .before .loop-test .taken, c .before .before .before .before .before .before .lines .ensures)) (c .before .before .before .challenge-holds .ensures) (c .before .rest2 .given .1)
+every-challenge-returns t c = runs-next (challenges _ _ _ _) _ _ _ (c .before .before .before .before .before .loop .inv .1) (omega (arith, c .before .before .before .before .loop-test .taken, c .before .before .before .before .before .before .lines .ensures)) (c .before .before .before .challenge-holds .ensures) (ap countedOf (c .before .rest2 .given .1))
 
 every-challenge-enum-told : (t : ℕ) → every-challenge-lts.Need-enum-told (every-challenge-calls t) (every-challenge-at t) every-challenge.Post every-challenge-Inv-loop every-challenge-μ-loop
 every-challenge-enum-told t c = search needs
 
 every-challenge-returns-2 : (t : ℕ) → every-challenge-lts.Need-returns-2 (every-challenge-calls t) (every-challenge-at t) every-challenge.Post every-challenge-Inv-loop every-challenge-μ-loop
-every-challenge-returns-2 t c = runs-next (challenges _ _ _ _) _ _ _ (c .before .before .before .before .loop .inv .1) _ _ (omega (arith, c .before .before .before .loop-test .taken, c .before .before .before .before .before .lines .ensures)) (c .before .before .challenge-holds .ensures) (c .enum-told .given .1)
+every-challenge-returns-2 t c = runs-next (challenges _ _ _ _) _ _ _ (c .before .before .before .before .loop .inv .1) (omega (arith, c .before .before .before .loop-test .taken, c .before .before .before .before .before .lines .ensures)) (c .before .before .challenge-holds .ensures) (ap countedOf (c .enum-told .given .1))
 
 every-challenge-add-j : (t : ℕ) → every-challenge-lts.Need-add-j (every-challenge-calls t) (every-challenge-at t) every-challenge.Post every-challenge-Inv-loop every-challenge-μ-loop
 every-challenge-add-j t c = search needs
@@ -182,7 +184,7 @@ every-challenge-loop-less : (t : ℕ) → every-challenge-lts.Need-loop-less (ev
 every-challenge-loop-less t c = search needs
 
 every-challenge-loop-again : (t : ℕ) → every-challenge-lts.Need-loop-again (every-challenge-calls t) (every-challenge-at t) every-challenge.Post every-challenge-Inv-loop every-challenge-μ-loop
-every-challenge-loop-again t c = (omega (arith, c .before .before .before .before .loop-test .taken), runs-next (challenges _ _ _ _) _ _ _ (c .before .before .before .before .before .loop .inv .1) _ _ (omega (arith, c .before .before .before .before .loop-test .taken, c .before .before .before .before .before .before .lines .ensures)) (c .before .before .before .challenge-holds .ensures) (c .before .rest .given .1))
+every-challenge-loop-again t c = (omega (arith, c .before .before .before .before .loop-test .taken), runs-next (challenges _ _ _ _) _ _ _ (c .before .before .before .before .before .loop .inv .1) (omega (arith, c .before .before .before .before .loop-test .taken, c .before .before .before .before .before .before .lines .ensures)) (c .before .before .before .challenge-holds .ensures) (ap countedOf (c .before .rest .given .1)))
 
 every-challenge-returns-3 : (t : ℕ) → every-challenge-lts.Need-returns-3 (every-challenge-calls t) (every-challenge-at t) every-challenge.Post every-challenge-Inv-loop every-challenge-μ-loop
 every-challenge-returns-3 t c = runs-end (challenges _ _ _ _) _ _ _ (c .before .loop .inv .1) (omega (arith, c .before .before .lines .ensures))
@@ -229,13 +231,13 @@ pair-holds-enum-told : (t : ℕ) → pair-holds-lts.Need-enum-told (pair-holds-c
 pair-holds-enum-told t c = search needs
 
 pair-holds-returns-3 : (t : ℕ) → pair-holds-lts.Need-returns-3 (pair-holds-calls t) (pair-holds-at t) pair-holds.Post
-pair-holds-returns-3 t c = c .every-challenge2 .ensures ∙ pair-sides _ _ _ _ _ (c .before .before .before .before .before .before .if1 .left) (c .before .before .before .before .before .if2 .left) _ _ (c .before .before .before .before .every-challenge .ensures) (c .before .before .left .given .1)
+pair-holds-returns-3 t c = c .every-challenge2 .ensures ∙ pair-sides _ _ _ _ _ (c .before .before .before .before .before .before .if1 .left) (c .before .before .before .before .before .if2 .left) (c .before .before .before .before .every-challenge .ensures) (ap countedOf (c .before .before .left .given .1))
 
 pair-holds-returns-4 : (t : ℕ) → pair-holds-lts.Need-returns-4 (pair-holds-calls t) (pair-holds-at t) pair-holds.Post
-pair-holds-returns-4 t c = pair-sides _ _ _ _ _ (c .before .before .before .before .before .if1 .left) (c .before .before .before .before .if2 .left) _ _ (c .before .before .before .every-challenge .ensures) (c .before .left2 .given .1)
+pair-holds-returns-4 t c = pair-sides _ _ _ _ _ (c .before .before .before .before .before .if1 .left) (c .before .before .before .before .if2 .left) (c .before .before .before .every-challenge .ensures) (ap countedOf (c .before .left2 .given .1))
 
 pair-holds-returns-5 : (t : ℕ) → pair-holds-lts.Need-returns-5 (pair-holds-calls t) (pair-holds-at t) pair-holds.Post
-pair-holds-returns-5 t c = pair-sides _ _ _ _ _ (c .before .before .before .before .if1 .left) (c .before .before .before .if2 .left) _ _ (c .before .before .every-challenge .ensures) (c .enum-told .given .1)
+pair-holds-returns-5 t c = pair-sides _ _ _ _ _ (c .before .before .before .before .if1 .left) (c .before .before .before .if2 .left) (c .before .before .every-challenge .ensures) (ap countedOf (c .enum-told .given .1))
 
 reply-holds-may-reply-requires : (t : ℕ) → reply-holds-lts.Need-may-reply-requires (reply-holds-calls t) (reply-holds-at t) reply-holds.Post
 reply-holds-may-reply-requires t c κs = ((c .before .pre .1 .0 .0, c .before .pre .1 .0 .2, c .before .pre .1 .0 .1), fits-fewer 0 (omega arith) (c .before .pre .1 .1 .1))
@@ -259,7 +261,7 @@ reply-holds-returns-3 : (t : ℕ) → reply-holds-lts.Need-returns-3 (reply-hold
 reply-holds-returns-3 t c = reply-passed _ _ _ _ _ _ (c .before .may-reply .ensures) (c .if1 .left)
 
 abbrev some-reply-Inv-loop : some-reply-lts.InvT-loop
-some-reply-Inv-loop s rounds second line x b budget m left₀ j₀ left j = (j ≤ m) × (cut left (tryReplies (leaves second (cardOf s .lines) rounds) (lineOf s line) (at x) (at b) (linesFrom s j)) ≡ cut budget (tryReplies (leaves second (cardOf s .lines) rounds) (lineOf s line) (at x) (at b) (cardOf s .lines)))
+some-reply-Inv-loop s rounds second line x b budget m left₀ j₀ left j = (j ≤ m) × (cut left (tryReplies (leaves (challenger second) (cardOf s .lines) rounds) (lineOf s line) (at x) (at b) (linesFrom s j)) ≡ cut budget (tryReplies (leaves (challenger second) (cardOf s .lines) rounds) (lineOf s line) (at x) (at b) (cardOf s .lines)))
 
 abbrev some-reply-μ-loop : some-reply-lts.MeasureT-loop
 some-reply-μ-loop s rounds second line x b budget m left₀ j₀ left j = m - j
@@ -279,7 +281,7 @@ some-reply-enum-known-rest : (t : ℕ) → some-reply-lts.Need-enum-known-rest (
 some-reply-enum-known-rest t c = search needs
 
 some-reply-returns : (t : ℕ) → some-reply-lts.Need-returns (some-reply-calls t) (some-reply-at t) some-reply.Post some-reply-Inv-loop some-reply-μ-loop
-some-reply-returns t c = runs-next (replies _ _ _ _) _ _ _ (c .before .before .before .before .before .loop .inv .1) _ _ (omega (arith, c .before .before .before .before .loop-test .taken, c .before .before .before .before .before .before .lines .ensures)) (c .before .before .before .reply-holds .ensures) (c .before .rest .given .1)
+some-reply-returns t c = runs-next (replies _ _ _ _) _ _ _ (c .before .before .before .before .before .loop .inv .1) (omega (arith, c .before .before .before .before .loop-test .taken, c .before .before .before .before .before .before .lines .ensures)) (c .before .before .before .reply-holds .ensures) (ap countedOf (c .before .rest .given .1))
 
 some-reply-enum-known-rest-2 : (t : ℕ) → some-reply-lts.Need-enum-known-rest-2 (some-reply-calls t) (some-reply-at t) some-reply.Post some-reply-Inv-loop some-reply-μ-loop
 some-reply-enum-known-rest-2 t c = search needs
@@ -288,7 +290,7 @@ some-reply-enum-told : (t : ℕ) → some-reply-lts.Need-enum-told (some-reply-c
 some-reply-enum-told t c = search needs
 
 some-reply-returns-2 : (t : ℕ) → some-reply-lts.Need-returns-2 (some-reply-calls t) (some-reply-at t) some-reply.Post some-reply-Inv-loop some-reply-μ-loop
-some-reply-returns-2 t c = runs-next (replies _ _ _ _) _ _ _ (c .before .before .before .before .loop .inv .1) _ _ (omega (arith, c .before .before .before .loop-test .taken, c .before .before .before .before .before .lines .ensures)) (c .before .before .reply-holds .ensures) (c .enum-told .given .1)
+some-reply-returns-2 t c = runs-next (replies _ _ _ _) _ _ _ (c .before .before .before .before .loop .inv .1) (omega (arith, c .before .before .before .loop-test .taken, c .before .before .before .before .before .lines .ensures)) (c .before .before .reply-holds .ensures) (ap countedOf (c .enum-told .given .1))
 
 some-reply-add-j : (t : ℕ) → some-reply-lts.Need-add-j (some-reply-calls t) (some-reply-at t) some-reply.Post some-reply-Inv-loop some-reply-μ-loop
 some-reply-add-j t c = search needs
@@ -297,7 +299,7 @@ some-reply-loop-less : (t : ℕ) → some-reply-lts.Need-loop-less (some-reply-c
 some-reply-loop-less t c = search needs
 
 some-reply-loop-again : (t : ℕ) → some-reply-lts.Need-loop-again (some-reply-calls t) (some-reply-at t) some-reply.Post some-reply-Inv-loop some-reply-μ-loop
-some-reply-loop-again t c = (omega (arith, c .before .before .before .before .loop-test .taken), runs-next (replies _ _ _ _) _ _ _ (c .before .before .before .before .before .loop .inv .1) _ _ (omega (arith, c .before .before .before .before .loop-test .taken, c .before .before .before .before .before .before .lines .ensures)) (c .before .before .before .reply-holds .ensures) (c .before .rest2 .given .1))
+some-reply-loop-again t c = (omega (arith, c .before .before .before .before .loop-test .taken), runs-next (replies _ _ _ _) _ _ _ (c .before .before .before .before .before .loop .inv .1) (omega (arith, c .before .before .before .before .loop-test .taken, c .before .before .before .before .before .before .lines .ensures)) (c .before .before .before .reply-holds .ensures) (ap countedOf (c .before .rest2 .given .1)))
 
 some-reply-returns-3 : (t : ℕ) → some-reply-lts.Need-returns-3 (some-reply-calls t) (some-reply-at t) some-reply.Post some-reply-Inv-loop some-reply-μ-loop
 some-reply-returns-3 t c = runs-end (replies _ _ _ _) _ _ _ (c .before .loop .inv .1) (omega (arith, c .before .before .lines .ensures))

@@ -1,11 +1,11 @@
 -- What is left of the budget, at the rounds after those tried, comes to what all of it comes to from the first. The measure is what is left of the limit.
 use borrow.Author.Needs.{needs}
 use native.Mathlib.Omega.{arith}
-use mathlib.Core.Path.{_≡_}
+use mathlib.Core.Path.{_≡_, ap}
 use Prim.Native.Nat.{_-_, _≤_}
 use Rattle.model.specs.Field.{at}
 use Rattle.model.specs.Sheet.{cardOf}
-use Rattle.player.specs.Played.{tried}
+use Rattle.player.specs.Played.{countedOf, tried}
 use Rattle.second_reader.proofs.Counts.{fits-fewer}
 use Rattle.player.proofs.Rounds.{rounds-start, rounds-end, rounds-bound, rounds-next}
 use Rattle.player.proofs.game.try_rounds.Statement.{statement}
@@ -39,13 +39,13 @@ add-t12 : tie.Need-add-t12 Inv-loop μ-loop
 add-t12 c = search needs
 
 returns-2 : tie.Need-returns-2 Inv-loop μ-loop
-returns-2 c = rounds-next _ _ _ _ _ (c .before .before .before .before .before .loop .inv .1) (c .before .before .before .before .loop-test .taken) (c .before .before .before .if1 .left) _ _ (c .before .before .pair-holds .ensures) (c .enum-told .given .1)
+returns-2 c = rounds-next _ _ _ _ _ (c .before .before .before .before .before .loop .inv .1) (c .before .before .before .before .loop-test .taken) (c .before .before .before .if1 .left) (c .before .before .pair-holds .ensures) (ap countedOf (c .enum-told .given .1))
 
 enum-told-2 : tie.Need-enum-told-2 Inv-loop μ-loop
 enum-told-2 c = search needs
 
 returns-3 : tie.Need-returns-3 Inv-loop μ-loop
-returns-3 c = rounds-next _ _ _ _ _ (c .before .before .before .before .before .loop .inv .1) (c .before .before .before .before .loop-test .taken) (c .before .before .before .if1 .left) _ _ (c .before .before .pair-holds .ensures) (c .enum-told2 .given .1)
+returns-3 c = rounds-next _ _ _ _ _ (c .before .before .before .before .before .loop .inv .1) (c .before .before .before .before .loop-test .taken) (c .before .before .before .if1 .left) (c .before .before .pair-holds .ensures) (ap countedOf (c .enum-told2 .given .1))
 
 add-rounds : tie.Need-add-rounds Inv-loop μ-loop
 add-rounds c = search needs
@@ -56,7 +56,7 @@ loop-less c = search needs
 loop-again : tie.Need-loop-again Inv-loop μ-loop
 loop-again c = (
   omega (arith, c .before .before .before .before .before .loop-test .taken),
-  rounds-next _ _ _ _ _ (c .before .before .before .before .before .before .loop .inv .1) (c .before .before .before .before .before .loop-test .taken) (c .before .before .before .before .if1 .left) _ _ (c .before .before .before .pair-holds .ensures) (c .before .rest .given .1),
+  rounds-next _ _ _ _ _ (c .before .before .before .before .before .before .loop .inv .1) (c .before .before .before .before .before .loop-test .taken) (c .before .before .before .before .if1 .left) (c .before .before .before .pair-holds .ensures) (ap countedOf (c .before .rest .given .1)),
 )
 
 returns-4 : tie.Need-returns-4 Inv-loop μ-loop

@@ -10,10 +10,11 @@ use Rattle.model.specs.Limits.{mostRounds}
 use Rattle.model.specs.Sheet.{cardOf}
 use Rattle.model.specs.Walk.{examine, walk}
 use Rattle.model.specs.Answer.{within}
+use Rattle.theory.specs.Counted.{cut}
+use Rattle.theory.proofs.Counted.{pair-spent}
 use Rattle.sheet.proofs.Laws.{lines-most}
-use Rattle.game.specs.Rounds.{examined}
+use Rattle.game.specs.Rounds.{countedOf}
 use Rattle.moves.proofs.Fields.{bounded-less}
-use Rattle.game.proofs.Pairs.{pair-spent}
 use Rattle.game.proofs.Steps.{pair-challenged}
 use Rattle.walker.proofs.Tries.{walkFrom, starts, none-left, tries-within, tries-spent, tries-apart, tries-on}
 use Rattle.walker.proofs.entry.try_rounds.Statement.{statement}
@@ -68,7 +69,7 @@ challenge-requires c κs =
     (p .0, (omega (arith, l .inv), (bounded-less mostRounds (l .rounds) _ h (p .1 .1 .0), bounded-less mostRounds (l .rounds) _ h (p .1 .1 .1))))
 
 -- What the pair comes to at these rounds.
-pair-examined : (c : tie.After-challenge Inv-loop μ-loop) → c .challenge .result ≡ examined (c .before .before .before .loop .left) (examine (cardOf (c .before .before .before .before .before .before .args .s .now) .lines) (c .before .before .before .loop .rounds) (at (c .before .before .before .before .before .before .args .a .now)) (at (c .before .before .before .before .before .before .args .b .now)))
+pair-examined : (c : tie.After-challenge Inv-loop μ-loop) → countedOf (c .challenge .result) ≡ cut (c .before .before .before .loop .left) (examine (cardOf (c .before .before .before .before .before .before .args .s .now) .lines) (c .before .before .before .loop .rounds) (at (c .before .before .before .before .before .before .args .a .now)) (at (c .before .before .before .before .before .before .args .b .now)))
 pair-examined c =
     let l = c .before .before .before .loop in
     c .challenge .ensures ∙ pair-challenged (c .before .before .before .before .before .before .pre .0 .0) (l .rounds) (l .left) (at (c .before .before .before .before .before .before .args .a .now)) (at (c .before .before .before .before .before .before .args .b .now)) (c .before .if1 .left) (λ z. omega (arith, l .inv .0))
@@ -83,13 +84,13 @@ sub-t18 : tie.Need-sub-t18 Inv-loop μ-loop
 sub-t18 c =
     let a = c .before .before .before .before .before .before .before .before .before .args in
     let l = c .before .before .before .before .before .before .loop in
-    omega (arith, l .inv .2, tries-within (cardOf (a .s .now) .lines) (at (a .a .now)) (at (a .b .now)) (record { left = a .session .left }) (l .left) (l .rounds) (a .limit + 1 - l .rounds) (l .inv .2) false _ (sym (pair-examined (c .before .before .before)) ∙ c .before .rest2 .given .1))
+    omega (arith, l .inv .2, tries-within (cardOf (a .s .now) .lines) (at (a .a .now)) (at (a .b .now)) (record { left = a .session .left }) (l .left) (l .rounds) (a .limit + 1 - l .rounds) (l .inv .2) false _ (sym (pair-examined (c .before .before .before)) ∙ ap countedOf (c .before .rest2 .given .1)))
 
 returns-2 : tie.Need-returns-2 Inv-loop μ-loop
 returns-2 c =
     let a = c .before .before .before .before .before .before .before .before .before .args in
     let l = c .before .before .before .before .before .before .loop in
-    tries-apart (cardOf (a .s .now) .lines) (at (a .a .now)) (at (a .b .now)) (record { left = a .session .left }) (l .left) (l .rounds) (a .limit + 1 - l .rounds) (l .inv .2) (a .limit - l .rounds) (omega (arith, c .before .before .before .before .before .loop-test .taken)) _ (sym (pair-examined (c .before .before .before)) ∙ c .before .rest2 .given .1)
+    tries-apart (cardOf (a .s .now) .lines) (at (a .a .now)) (at (a .b .now)) (record { left = a .session .left }) (l .left) (l .rounds) (a .limit + 1 - l .rounds) (l .inv .2) (a .limit - l .rounds) (omega (arith, c .before .before .before .before .before .loop-test .taken)) _ (sym (pair-examined (c .before .before .before)) ∙ ap countedOf (c .before .rest2 .given .1))
     ∙ l .inv .3
 
 enum-told : tie.Need-enum-told Inv-loop μ-loop
@@ -103,7 +104,7 @@ returns-3 c =
     let a = c .before .before .before .before .before .before .before .before .before .args in
     let l = c .before .before .before .before .before .before .loop in
     c .spend2 .ensures
-    ∙ tries-spent (cardOf (a .s .now) .lines) (at (a .a .now)) (at (a .b .now)) (record { left = a .session .left }) (l .left) (l .rounds) (a .limit + 1 - l .rounds) (l .inv .2) (a .limit - l .rounds) (omega (arith, c .before .before .before .before .before .loop-test .taken)) (sym (pair-examined (c .before .before .before)) ∙ c .before .enum-told .given .1)
+    ∙ tries-spent (cardOf (a .s .now) .lines) (at (a .a .now)) (at (a .b .now)) (record { left = a .session .left }) (l .left) (l .rounds) (a .limit + 1 - l .rounds) (l .inv .2) (a .limit - l .rounds) (omega (arith, c .before .before .before .before .before .loop-test .taken)) (sym (pair-examined (c .before .before .before)) ∙ ap countedOf (c .before .enum-told .given .1))
     ∙ l .inv .3
 
 add-rounds : tie.Need-add-rounds Inv-loop μ-loop
@@ -116,7 +117,7 @@ loop-again : tie.Need-loop-again Inv-loop μ-loop
 loop-again c =
     let a = c .before .before .before .before .before .before .before .before .before .args in
     let l = c .before .before .before .before .before .before .loop in
-    let e = sym (pair-examined (c .before .before .before)) ∙ c .before .rest .given .1 in
+    let e = sym (pair-examined (c .before .before .before)) ∙ ap countedOf (c .before .rest .given .1) in
     let z : a .limit + 1 - (l .rounds + 1) ≡ a .limit - l .rounds = omega arith in (
       omega arith,
       omega (arith, c .before .before .before .before .before .loop-test .taken),
