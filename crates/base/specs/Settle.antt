@@ -5,7 +5,6 @@ use mathlib.Core.Path.{_≡_}
 use Prim.Native.Nat.{ℕ, suc, _-_, _^_, _<_}
 use lib.ListN.{length, getD}
 use Rattle.model.specs.Finite.{leastFrom}
-use Rattle.model.specs.Field.{Field}
 use Rattle.model.specs.Norm.{kindNorm}
 use Rattle.model.specs.Stage.{stage}
 use Rattle.model.specs.Base.{settledStage}

@@ -35,7 +35,7 @@ use Rattle.filer.specs.declared.answers.Verdict.{Verdict}
 use Rattle.filer.specs.declared.answers.Verdict.the-variants.{Same, Different, Refused as NotCalled}
 use Rattle.filer.specs.declared.answers.Forming.{Forming}
 use Rattle.filer.specs.declared.answers.Forming.the-variants.{Written, Refused as NotFormed}
-use Rattle.filer.proofs.Rows.{row-clear, row-at, row-past}
+use Rattle.filer.proofs.Rows.{row-at, row-past}
 
 -- The cases have different values.
 settling-only : (v w : Settling) → settlingOf v ≡ settlingOf w → v ≡ w

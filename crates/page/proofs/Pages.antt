@@ -13,7 +13,7 @@ use Rattle.model.specs.Norm.{kindNorm}
 use Rattle.model.specs.Base.{settledStage, settledForm}
 use Rattle.model.specs.Limits.{mostInput}
 use Rattle.model.specs.Sheet.{kindCount, fieldCount, cardOf, fieldOf}
-use Rattle.model.specs.Refusal.{refusal, firstOf, acceptChecks, Accepted}
+use Rattle.model.specs.Refusal.{Accepted}
 use Rattle.model.specs.Answer.{refused, given, written, rowOf, formOf, tableOf, primeForm}
 use Rattle.model.specs.Page.{refusedLine, lines, pageOf, printed}
 use Rattle.theory.proofs.Lists.{length-from}
@@ -30,7 +30,7 @@ use Rattle.filer.specs.declared.settlement.Settlement.{Settlement}
 use Rattle.filer.proofs.Calls.{limits, table-is}
 use Rattle.filer.proofs.Rows.{Whole, row-clear, row-inside}
 use Rattle.text.specs.Appended.{Appended}
-use Rattle.listing.specs.Line.{headText, kindText, kindAt, fieldAt, kindsText, fieldsText}
+use Rattle.listing.specs.Line.{headText, kindText, fieldAt, kindsText, fieldsText}
 use Rattle.verdicts.specs.Pair.{pairAt, pairsText}
 use Rattle.page.specs.Writing.{writePageOf}
 use Rattle.text.proofs.Append.{from-start}

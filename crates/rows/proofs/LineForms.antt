@@ -2,13 +2,12 @@
 -- Assumes nothing.
 use mathlib.Core.Bool.{Bool, true, false}
 use mathlib.Core.List.{List}
-use mathlib.Core.Path.{_≡_, refl, sym, ap, _∙_}
+use mathlib.Core.Path.{_≡_, ap, _∙_}
 use Prim.Native.Nat.{ℕ, _+_, _^_, _≤_, _<_}
 use native.Mathlib.Decide.{ℕ-discrete}
 use native.Mathlib.Omega.{arith}
 use lib.ListN.{length, getD}
-use Rattle.model.specs.Field.{Field, at}
-use Rattle.model.specs.Limits.{mostKinds}
+use Rattle.model.specs.Field.{at}
 use Rattle.model.specs.Sheet.{kindCount, lineCount, lineOf}
 use Rattle.sheet.specs.Reader.{Reads, lineCounts}
 use Rattle.sheet.specs.declared.reader.Card.{Card}

@@ -8,7 +8,7 @@ use native.Mathlib.Nat.{add-sub-cancel-left}
 use native.Mathlib.Omega.{arith}
 use lib.ListN.{length, take, drop}
 use lib.Seq.{drop-drop}
-use Rattle.model.specs.Field.{Field, at, weigh}
+use Rattle.model.specs.Field.{Field, at}
 use Rattle.model.specs.Limits.{mostKinds}
 use Rattle.weights.proofs.Counts.{weigh-within}
 use Rattle.tables.specs.Table.{Under, rowIn, formIn, withRow}

@@ -7,7 +7,7 @@ use tables::order::earliest;
 use tables::table::Base;
 use tables::table::set_row;
 ghost use mathlib.Core.Path.{_≡_};
-ghost use Prim.Native.Nat.{ℕ, suc, _+_, _-_, _^_, _≤_, _<_};
+ghost use Prim.Native.Nat.{suc, _+_, _-_, _^_, _≤_, _<_};
 ghost use lib.ListN.{length};
 ghost use Rattle.norms.specs.Norms.{Accepts};
 ghost use Rattle.tables.specs.Table.{Under};

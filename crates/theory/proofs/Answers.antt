@@ -1,24 +1,24 @@
 -- Demand 1: what each call answers, and what it refuses.
 use mathlib.Core.Bool.{Bool, true, false, not}
-use mathlib.Core.List.{List, [], _++_, _∷_, List·Memᴰ, List·Memᴰ·head, List·Memᴰ·tail}
+use mathlib.Core.List.{List, [], _++_, _∷_, List·Memᴰ·head, List·Memᴰ·tail}
 use mathlib.Core.Logic.{_↔_, _⊎_, inl, inr}
 use mathlib.Core.Path.{_≡_, refl, sym, _∙_, ap}
 use Prim.Native.Nat.{ℕ, zero, suc, _+_, _*_, _-_, _≤_, _<_, min}
 use native.Mathlib.Decide.{decLt}
 use native.Mathlib.Nat.{mul-le-mul-right}
 use native.Mathlib.Omega.{arith}
-use lib.Dec.{T, ltb}
-use lib.ListN.{length, take, drop, getD, length-take, length-drop, length-append, List·getD-append}
+use lib.Dec.{ltb}
+use lib.ListN.{length, take, drop, getD, length-take, length-drop, List·getD-append}
 use lib.Seq.{getD-append-add}
 use Rattle.theory.proofs.Lists.{length-from, getD-from}
-use Rattle.model.specs.Finite.{either, concat, listFrom}
+use Rattle.model.specs.Finite.{concat, listFrom}
 use Rattle.model.specs.Norm.{kindNorm}
 use Rattle.model.specs.Base.{roundsAt, settledStage, settledRow}
 use Rattle.model.specs.Field.{at}
 use Rattle.model.specs.Walk.{spent, Walk}
 use Rattle.model.specs.Sheet.{kindCount, fieldCount, cardOf, fieldOf}
 use Rattle.model.specs.Limits.{mostKinds, mostRounds}
-use Rattle.model.specs.Refusal.{check, outside, Finding, clear, refusal, firstOf, sheetChecks, normChecks, Accepted, settleChecks, compareChecks, formChecks, walkChecks, rowChecks}
+use Rattle.model.specs.Refusal.{check, Finding, clear, refusal, firstOf, sheetChecks, normChecks, Accepted, settleChecks, compareChecks, formChecks, walkChecks, rowChecks}
 use Rattle.model.specs.Answer.{Answer, Lent, tableOf, primeForm, refused, given, Session, Walked, same, different, settleOf, rowCheckOf, rowOf, verdict, written, compareOf, formOf, within, fullWalk, walkOf}
 use Rattle.theory.specs.Demands.{Demand1}
 use Rattle.model.proofs.Plain.{plain}

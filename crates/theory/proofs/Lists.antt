@@ -7,7 +7,7 @@ use Prim.Native.Nat.{ℕ, zero, suc, _+_, _-_, _≤_, _<_}
 use native.Mathlib.Decide.{ℕ-discrete}
 use native.Mathlib.Omega.{arith}
 use lib.Dec.{T}
-use lib.ListN.{length, getD, List·getD-eq-default}
+use lib.ListN.{getD, List·getD-eq-default}
 use Rattle.model.specs.Finite.{all, pick, listFrom, below, leastFrom}
 pub use Rattle.model.proofs.Plain.{length-from}
 use Rattle.theory.proofs.Exec.{Tells, tells-all, tells-map}

@@ -14,15 +14,15 @@ use Rattle.model.specs.Field.{Field, unit, at}
 use Rattle.model.specs.Base.{settledRow}
 use Rattle.model.specs.Sheet.{byte, u32At, kindCount, codeCount, lineCount, fieldCount, fieldsOffset, totalOf, cardOf}
 use Rattle.model.specs.Limits.{mostKinds, mostCodes, mostLines, mostFields, mostInput}
-use Rattle.model.specs.Refusal.{Check, check, Finding, clear, refusal, firstOf, outside, differ, headerChecks, lineChecks, normChecks, sheetChecks, Accepted, rowChecks}
+use Rattle.model.specs.Refusal.{Check, check, Finding, clear, refusal, firstOf, outside, differ, headerChecks, lineChecks, normChecks, sheetChecks, Accepted}
 use Rattle.model.specs.Answer.{tableOf, rowOf, rowCheckOf}
 use Rattle.model.specs.Page.{itself, refusedLine, pageOf, printed}
 use Rattle.theory.specs.Terms.{Earlier, Before, Prime}
 use Rattle.theory.specs.Meanings.{Pages}
 use Rattle.theory.proofs.Field.{unit-same}
 use Rattle.theory.proofs.Exec.{Tells, tells-eq}
-use Rattle.theory.proofs.Sheets.{then, first-append, clear-cons, clear-nil, not-small, not-less}
-use Rattle.theory.proofs.Checks.{not-outside, from-outside, from-less, cons-none}
+use Rattle.theory.proofs.Sheets.{then, first-append, not-less}
+use Rattle.theory.proofs.Checks.{from-outside, from-less, cons-none}
 use Rattle.theory.proofs.Limits.{accepted-limits}
 use Rattle.theory.proofs.Answers.{demand1}
 use Rattle.theory.proofs.Settling.{sheet-settles, sheet-primes}

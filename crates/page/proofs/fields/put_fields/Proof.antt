@@ -1,6 +1,6 @@
 -- `put_fields`: after i turns the lines of the first i fields are appended.
 use mathlib.Core.Path.{_≡_, ap}
-use Prim.Native.Nat.{ℕ, _+_, _-_, _*_, _≤_}
+use Prim.Native.Nat.{ℕ, _-_, _*_, _≤_}
 use native.Mathlib.Omega.{arith}
 use Rattle.model.specs.Finite.{concat, listFrom}
 use Rattle.text.specs.Appended.{Appended}

@@ -2,7 +2,6 @@
 use borrow.Author.Needs.{needs}
 use Prim.Native.Nat.{_-_}
 use native.Mathlib.Omega.{arith}
-use mathlib.Core.Path.{_≡_}
 use lib.ListN.{length}
 use Rattle.tables.specs.Table.{withRow}
 use Rattle.tables.proofs.Tables.{Copied, copied-none, copied-more, copied-length, copied-all}

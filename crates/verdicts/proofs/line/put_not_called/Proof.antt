@@ -1,5 +1,4 @@
 -- `put_not_called`: its parts, one after the other, are the line.
-use Prim.Native.Nat.{_+_}
 use native.Mathlib.Omega.{arith}
 use Rattle.model.specs.Answer.{refused}
 use Rattle.model.specs.Page.{bytes}
