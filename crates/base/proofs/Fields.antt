@@ -10,19 +10,19 @@ use Rattle.model.specs.Field.{Field, weigh, at}
 use Rattle.model.specs.Norm.{norm}
 use Rattle.model.specs.Sheet.{kindCount, u16At, fieldsOffset, cardOf, fieldOf}
 use Rattle.model.specs.Refusal.{Accepted}
-use Rattle.model.specs.Widths.{Bytes}
+use Rattle.theory.specs.Widths.{Bytes}
 use Rattle.sheet.specs.Reader.{Reads, fieldCounts}
 use Rattle.sheet.specs.declared.reader.Card.{Card}
 use Rattle.sheet.proofs.Counts.{counts-past}
 use Rattle.sheet.proofs.Laws.{kinds-are, kinds-most, field-under, field-counts-length, field-counts-at}
 use Rattle.norms.specs.Norms.{Accepts}
 use Rattle.norms.proofs.Laws.{norm-is, norm-fits}
-use Rattle.base.specs.Table.{formIn}
-use Rattle.base.specs.Stage.{BaseAt}
+use Rattle.tables.specs.Table.{formIn}
+use Rattle.rows.specs.Stage.{BaseAt}
 use Rattle.base.specs.Settle.{FieldsFit}
-use Rattle.base.proofs.Tables.{at-kind, first-below, first-past}
-use Rattle.base.proofs.Sizes.{narrow, field-form-limit}
-use Rattle.base.proofs.StageRows.{base-form}
+use Rattle.tables.proofs.Tables.{at-kind, first-below, first-past}
+use Rattle.rows.proofs.Sizes.{narrow, field-form-limit}
+use Rattle.rows.proofs.StageRows.{base-form}
 
 -- A field as it was read: 32 counts, of which the card's kinds are a part.
 module _ {s : List ℕ} {c : Card} (R : Reads s c) (i : ℕ) (xs : List ℕ) (read : xs ≡ fieldCounts s i) where

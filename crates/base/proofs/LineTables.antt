@@ -10,7 +10,7 @@ use lib.ListN.{length, take}
 use lib.Seq.{getD-take, length-take-le}
 use Rattle.model.specs.Field.{Field, _⊕_, unit, at}
 use Rattle.model.specs.Base.{stageRow, stageForm}
-use Rattle.model.specs.Terms.{Settled}
+use Rattle.theory.specs.Terms.{Settled}
 use Rattle.model.specs.Sheet.{kindCount, lineCount, lineOf, cardOf}
 use Rattle.model.specs.Limits.{mostLines}
 use Rattle.model.specs.Refusal.{Accepted}
@@ -18,14 +18,14 @@ use Rattle.sheet.specs.Reader.{Reads}
 use Rattle.sheet.specs.declared.reader.Card.{Card}
 use Rattle.sheet.proofs.Laws.{kinds-are, kinds-most, lines-are, lines-most, kind-under}
 use Rattle.norms.specs.Norms.{lowersNorm}
-use Rattle.base.specs.Table.{Under, rowIn}
-use Rattle.base.specs.Class.{LineTables, MatchIn, Bounds, TellsMatch}
-use Rattle.base.specs.Stage.{Match, Classes, BoundsAt, SameUses, BaseAt, LinesAre}
-use Rattle.base.specs.Forms.{AllForms}
-use Rattle.base.specs.Settle.{Holds, RowsExpand}
-use Rattle.base.proofs.Tables.{first-below, first-past}
+use Rattle.tables.specs.Table.{Under, rowIn}
+use Rattle.tables.specs.Class.{LineTables, MatchIn, Bounds, TellsMatch, RowsExpand}
+use Rattle.rows.specs.Stage.{Match, Classes, BoundsAt, SameUses, BaseAt, LinesAre}
+use Rattle.rows.specs.Forms.{AllForms}
+use Rattle.base.specs.Settle.{Holds}
+use Rattle.tables.proofs.Tables.{first-below, first-past}
 use Rattle.base.proofs.Settled.{settled-classes}
-use Rattle.base.proofs.StageRows.{same-uses, forms-at}
+use Rattle.rows.proofs.StageRows.{same-uses, forms-at}
 
 module _ {s : List ℕ} {c : Card} (R : Reads s c) where
   -- The first places of the arrays are the lines.

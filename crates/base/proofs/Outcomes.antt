@@ -10,13 +10,13 @@ use Rattle.model.specs.Norm.{kindNorm}
 use Rattle.model.specs.Base.{roundsAt, settledStage, settledRow, settledForm}
 use Rattle.model.specs.Sheet.{kindCount, fieldCount, cardOf, fieldOf}
 use Rattle.model.specs.Refusal.{Accepted}
-use Rattle.model.specs.Widths.{Bytes}
+use Rattle.theory.specs.Widths.{Bytes}
 use Rattle.model.specs.Answer.{given, same, different, compareOf, primeForm, tableOf}
-use Rattle.model.proofs.Settling.{sheet-settles}
-use Rattle.base.specs.Table.{rowIn, formIn}
-use Rattle.base.specs.Stage.{BaseAt}
+use Rattle.theory.proofs.Settling.{sheet-settles}
+use Rattle.tables.specs.Table.{rowIn, formIn}
+use Rattle.rows.specs.Stage.{BaseAt}
 use Rattle.base.specs.Settle.{PartedAt, FieldsFit}
-use Rattle.base.proofs.StageRows.{base-form}
+use Rattle.rows.proofs.StageRows.{base-form}
 use Rattle.base.proofs.Parted.{parted-related, parted-not}
 use Rattle.base.proofs.Fields.{fields-fit}
 use Rattle.base.proofs.Verdict.{verdict-same, verdict-different}

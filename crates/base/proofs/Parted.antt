@@ -13,15 +13,15 @@ use Rattle.model.specs.Field.{Field}
 use Rattle.model.specs.Norm.{kindNorm, norm}
 use Rattle.model.specs.Stage.{stage}
 use Rattle.model.specs.Base.{stageForm}
-use Rattle.model.specs.Terms.{Stage}
+use Rattle.theory.specs.Terms.{Stage}
 use Rattle.model.specs.Sheet.{kindCount, cardOf, fieldOf}
 use Rattle.model.specs.Refusal.{Accepted}
-use Rattle.model.proofs.Lists.{least-cases}
-use Rattle.model.proofs.Sheets.{certified, field-kinds}
-use Rattle.base.specs.Table.{formIn}
-use Rattle.base.specs.Stage.{BaseAt}
+use Rattle.theory.proofs.Lists.{least-cases}
+use Rattle.theory.proofs.Sheets.{certified, field-kinds}
+use Rattle.tables.specs.Table.{formIn}
+use Rattle.rows.specs.Stage.{BaseAt}
 use Rattle.base.specs.Settle.{partedBy}
-use Rattle.base.proofs.StageRows.{base-form}
+use Rattle.rows.proofs.StageRows.{base-form}
 use Rattle.base.proofs.Verdict.{stage-norm, stage-form}
 
 -- The first of m numbers that pass a test, and the same with one number more.

@@ -9,28 +9,28 @@ use lib.Dec.{T}
 use Rattle.model.specs.Field.{Field, unit}
 use Rattle.model.specs.Card.{Card, On}
 use Rattle.model.specs.Norm.{kindNorm}
-use Rattle.model.specs.Expansion.{Expands}
+use Rattle.theory.specs.Expansion.{Expands}
 use Rattle.model.specs.Stage.{equalNorm, stage}
 use Rattle.model.specs.Base.{stageRow, settledStage}
-use Rattle.model.specs.Terms.{Settled}
+use Rattle.theory.specs.Terms.{Settled}
 use Rattle.model.specs.Sheet.{kindCount, cardOf}
 use Rattle.model.specs.Refusal.{Accepted}
-use Rattle.model.proofs.Moves.{expands-mono}
-use Rattle.model.proofs.Normed.{Normed}
-use Rattle.model.proofs.Stages.{Stage, level}
-use Rattle.model.proofs.Decide.{Finite}
-use Rattle.model.proofs.Count.{passes-settled}
-use Rattle.model.proofs.Certified.{Found}
-use Rattle.model.proofs.Exec.{Tells}
-use Rattle.model.proofs.Rows.{finite}
-use Rattle.model.proofs.Plain.{plain, tells-equal, tells-plain}
-use Rattle.model.proofs.Settling.{base, row-of, settled-to, sheet-settles, settled-only}
-use Rattle.model.proofs.Program.{Equal, expands-forms}
-use Rattle.model.proofs.Sheets.{certified}
-use Rattle.base.specs.Stage.{Classes, SameUses}
-use Rattle.base.proofs.Forms.{unit-kinds, row-kinds, row-equal}
-use Rattle.base.proofs.Lines.{kind-of, kind-in}
-use Rattle.base.proofs.Classes.{classes-expand}
+use Rattle.theory.proofs.Moves.{expands-mono}
+use Rattle.theory.proofs.Normed.{Normed}
+use Rattle.theory.proofs.Stages.{Stage, level}
+use Rattle.theory.proofs.Decide.{Finite}
+use Rattle.theory.proofs.Count.{passes-settled}
+use Rattle.theory.proofs.Certified.{Found}
+use Rattle.theory.proofs.Exec.{Tells}
+use Rattle.theory.proofs.Rows.{finite}
+use Rattle.theory.proofs.Plain.{plain, tells-equal, tells-plain}
+use Rattle.theory.proofs.Settling.{base, row-of, settled-to, sheet-settles, settled-only}
+use Rattle.theory.proofs.Program.{Equal, expands-forms}
+use Rattle.theory.proofs.Sheets.{certified}
+use Rattle.rows.specs.Stage.{Classes, SameUses}
+use Rattle.rows.proofs.Forms.{unit-kinds, row-kinds, row-equal}
+use Rattle.rows.proofs.Lines.{kind-of, kind-in}
+use Rattle.rows.proofs.Classes.{classes-expand}
 
 module _ (c : Card) (F : Found (c .lines) (c .kinds) (kindNorm c)) (q : ℕ) where
   abbrev w : ℕ → ℕ

@@ -8,20 +8,21 @@ use native.Mathlib.Decide.{decLt}
 use native.Mathlib.Omega.{arith}
 use lib.ListN.{length, take}
 use Rattle.model.specs.Base.{settledStage}
-use Rattle.model.specs.Terms.{Settled}
+use Rattle.theory.specs.Terms.{Settled}
 use Rattle.model.specs.Sheet.{kindCount, cardOf}
 use Rattle.model.specs.Refusal.{Accepted}
 use Rattle.sheet.specs.Reader.{Reads}
 use Rattle.sheet.specs.declared.reader.Card.{Card}
 use Rattle.sheet.proofs.Laws.{kinds-are}
-use Rattle.base.specs.Table.{Atoms}
-use Rattle.base.specs.Stage.{BaseAt, BoundsAt, LinesAre}
-use Rattle.base.specs.StageRows.{RowsFound}
-use Rattle.base.specs.Settle.{PartedAt, RowsExpand, AtStage, IsSettled}
+use Rattle.tables.specs.Table.{Atoms}
+use Rattle.rows.specs.Stage.{BaseAt, BoundsAt, LinesAre}
+use Rattle.rows.specs.StageRows.{RowsFound}
+use Rattle.base.specs.Settle.{PartedAt, AtStage, IsSettled}
+use Rattle.tables.specs.Class.{RowsExpand}
 use Rattle.base.specs.declared.settle.Stage.{Stage}
 use Rattle.base.proofs.Settled.{settled-after, settled-most, settled-first}
-use Rattle.base.proofs.Classes.{bounds-next}
-use Rattle.base.proofs.StageRows.{base-atoms}
+use Rattle.rows.proofs.Classes.{bounds-next}
+use Rattle.rows.proofs.StageRows.{base-atoms}
 use Rattle.base.proofs.LineTables.{expand-settled}
 
 -- Of the stages from 1 up, none before t is settled.

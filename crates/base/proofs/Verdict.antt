@@ -9,17 +9,17 @@ use Rattle.model.specs.Field.{Field}
 use Rattle.model.specs.Card.{Card}
 use Rattle.model.specs.Norm.{kindNorm, norm}
 use Rattle.model.specs.Base.{roundsAt, stageForm, settledStage}
-use Rattle.model.specs.Terms.{OfKinds, Stage}
+use Rattle.theory.specs.Terms.{OfKinds, Stage}
 use Rattle.model.specs.Sheet.{fieldCount, cardOf, fieldOf}
 use Rattle.model.specs.Refusal.{Accepted}
 use Rattle.model.specs.Answer.{given, same, different, verdict, compareOf}
-use Rattle.model.proofs.Stages.{Stage as Level}
-use Rattle.model.proofs.Consequences.{Parts, stage-down}
-use Rattle.model.proofs.Certified.{Found}
-use Rattle.model.proofs.Plain.{plain, tells-plain, stages, verdict-cases, same-iff}
-use Rattle.model.proofs.Program.{stage-forms}
-use Rattle.model.proofs.Sheets.{certified, field-kinds}
-use Rattle.model.proofs.Verdicts.{L, field-tidy, compare-is}
+use Rattle.theory.proofs.Stages.{Stage as Level}
+use Rattle.theory.proofs.Consequences.{Parts, stage-down}
+use Rattle.theory.proofs.Certified.{Found}
+use Rattle.theory.proofs.Plain.{plain, tells-plain, stages, verdict-cases, same-iff}
+use Rattle.theory.proofs.Program.{stage-forms}
+use Rattle.theory.proofs.Sheets.{certified, field-kinds}
+use Rattle.theory.proofs.Verdicts.{L, field-tidy, compare-is}
 
 module _ (c : Card) (F : Found (c .lines) (c .kinds) (kindNorm c)) (a b : Field) where
   -- Stage 0 compares norms, and every later stage forms.

@@ -5,15 +5,13 @@ use mathlib.Core.Path.{_≡_}
 use Prim.Native.Nat.{ℕ, suc, _-_, _^_, _<_}
 use lib.ListN.{length, getD}
 use Rattle.model.specs.Finite.{leastFrom}
-use Rattle.model.specs.Field.{Field, unit}
 use Rattle.model.specs.Norm.{kindNorm}
 use Rattle.model.specs.Stage.{stage}
 use Rattle.model.specs.Base.{settledStage}
 use Rattle.model.specs.Sheet.{kindCount, fieldCount, cardOf, fieldOf}
 use Rattle.model.specs.Limits.{mostLines}
-use Rattle.base.specs.Table.{Under, rowIn, formIn}
-use Rattle.base.specs.Class.{MayUseAlike}
-use Rattle.base.specs.Stage.{BaseAt, Classes, BoundsAt}
+use Rattle.tables.specs.Table.{Under, formIn}
+use Rattle.rows.specs.Stage.{BaseAt, Classes, BoundsAt}
 use Rattle.base.specs.declared.settle.Stage.{Stage}
 use Rattle.base.specs.declared.settle.Settled.{Settled}
 
@@ -33,10 +31,6 @@ PartedAt s t first parted = first < fieldCount s → (j : ℕ) → j < fieldCoun
 -- The decompositions of the sheet's fields, by the rows, fit 64 bits.
 abbrev pub FieldsFit : List ℕ → List ℕ → Type 0
 FieldsFit s rows = (i j : ℕ) → formIn (kindCount s) rows (fieldOf s i) j < 2 ^ 64
-
--- Each of n kinds and its row may use lines of the same classes, and so satisfy expansion: "every row must".
-abbrev pub RowsExpand : List ℕ → List ℕ → List ℕ → ℕ → Type 0
-RowsExpand kinds classes rows n = (k : ℕ) → k < n → MayUseAlike kinds classes (unit k) (rowIn rows k)
 
 -- What is held at stage t, from 1 up: its base, the classes of the lines by it, and where the fields part from the first one.
 pub record AtStage (s : List ℕ) (first t : ℕ) (x : Stage) : Type 0 where

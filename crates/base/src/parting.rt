@@ -1,7 +1,7 @@
 // Where the fields part from one of them: the least stage that does not relate the two. Stage 0 goes by their norms, every later stage by their forms.
-use crate::table::form_of_field;
-use norms::fields::field_norm;
 use sheet::Card;
+use tables::table::form_of_field;
+use weights::fields::field_norm;
 ghost use mathlib.Core.Path.{_≡_};
 ghost use mathlib.Core.Bool.{true};
 ghost use mathlib.Core.Logic.{_↔_};
@@ -13,8 +13,8 @@ ghost use Rattle.model.specs.Limits.{mostKinds};
 ghost use Rattle.model.specs.Refusal.{Accepted};
 ghost use Rattle.sheet.specs.Reader.{Reads};
 ghost use Rattle.norms.specs.Norms.{Accepts};
-ghost use Rattle.base.specs.Table.{formIn};
-ghost use Rattle.base.specs.Stage.{BaseAt};
+ghost use Rattle.tables.specs.Table.{formIn};
+ghost use Rattle.rows.specs.Stage.{BaseAt};
 ghost use Rattle.base.specs.Settle.{partedBy, PartedAt, FieldsFit};
 
 // The decomposition of field i, by the rows of a table.

@@ -1,16 +1,16 @@
 // The stages one after the other, up to the settled one.
-use crate::class::classes;
-use crate::expansion::rows_expand;
-use crate::line_forms::all_forms;
 use crate::parting::parted_by_forms;
 use crate::parting::parted_by_norms;
 use crate::sheet_lines::line_codes;
 use crate::sheet_lines::line_kinds;
 use crate::sheet_lines::lowering_lines;
-use crate::stage::first_rows;
-use crate::stage::next_rows;
-use crate::table::Base;
+use products::expansion::rows_expand;
+use rows::line_forms::all_forms;
+use rows::stage::first_rows;
+use rows::stage::next_rows;
 use sheet::Card;
+use tables::class::classes;
+use tables::table::Base;
 ghost use mathlib.Core.Path.{_≡_};
 ghost use mathlib.Core.Bool.{true};
 ghost use mathlib.Core.Logic.{_↔_};
@@ -21,11 +21,12 @@ ghost use Rattle.model.specs.Limits.{mostKinds};
 ghost use Rattle.model.specs.Refusal.{Accepted};
 ghost use Rattle.sheet.specs.Reader.{Reads};
 ghost use Rattle.norms.specs.Norms.{Accepts};
-ghost use Rattle.base.specs.Table.{Under, Atoms};
-ghost use Rattle.base.specs.Stage.{BaseAt, Classes, BoundsAt, LinesAre};
-ghost use Rattle.base.specs.Forms.{FormTable};
-ghost use Rattle.base.specs.StageRows.{RowsFound};
-ghost use Rattle.base.specs.Settle.{PartedAt, RowsExpand, AtStage, IsSettled};
+ghost use Rattle.tables.specs.Table.{Under, Atoms};
+ghost use Rattle.rows.specs.Stage.{BaseAt, Classes, BoundsAt, LinesAre};
+ghost use Rattle.rows.specs.Forms.{FormTable};
+ghost use Rattle.rows.specs.StageRows.{RowsFound};
+ghost use Rattle.base.specs.Settle.{PartedAt, AtStage, IsSettled};
+ghost use Rattle.tables.specs.Class.{RowsExpand};
 
 // What is held at a stage: its base, the classes of the lines by it, and where the fields part from the first one.
 pub struct Stage {

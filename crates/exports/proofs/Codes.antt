@@ -2,19 +2,19 @@
 use mathlib.Core.Bool.{Bool, true, false, not}
 use mathlib.Core.List.{List, [], _∷_, _++_}
 use mathlib.Core.Path.{_≡_, refl}
-use Prim.Native.Nat.{ℕ, zero, suc, _+_, _-_, _*_, _^_, _≤_, _<_}
+use Prim.Native.Nat.{ℕ, zero, suc, _+_, _-_, _^_, _≤_, _<_}
 use native.Mathlib.Omega.{arith}
 use lib.Dec.{eqb, ltb}
 use lib.ListN.{length}
 use Rattle.model.specs.Finite.{concat, listFrom}
 use Rattle.model.specs.Norm.{kindNorm}
-use Rattle.model.specs.Limits.{mostRounds, normLimit}
-use Rattle.model.specs.Sheet.{u16At, kindCount, lineCount, fieldCount, lineOf, codeCount, cardOf}
-use Rattle.model.specs.Widths.{Bytes}
+use Rattle.model.specs.Limits.{normLimit}
+use Rattle.model.specs.Sheet.{u16At, kindCount, lineCount, lineOf, codeCount, cardOf}
+use Rattle.theory.specs.Widths.{Bytes}
 use Rattle.model.specs.Walk.{WalkAnswer, spent, Walk}
 use Rattle.model.specs.Refusal.{Check, check, Finding, clear, refusal, firstOf, headerChecks, lineChecks, normChecks, sheetChecks, acceptChecks, settleChecks, compareChecks, formChecks, walkChecks, rowChecks}
 use Rattle.model.specs.Answer.{Answer, refused, given, Lent, Session, Walked, within, fullWalk, rowCheckOf, settleOf, compareOf, formOf, walkOf}
-use Rattle.model.proofs.Sheets.{then, first-append}
+use Rattle.theory.proofs.Sheets.{then, first-append}
 use Rattle.exports.specs.Reply.{codeOf}
 
 abbrev pub Small : Finding → Type 0

@@ -11,7 +11,7 @@ use Rattle.model.specs.Base.{settledStage}
 use Rattle.model.specs.Walk.{WalkAnswer}
 use Rattle.model.specs.Refusal.{Finding, clear, refusal, check, firstOf, acceptChecks, settleChecks, formChecks}
 use Rattle.model.specs.Answer.{Answer, refused, given, Lent, written, Verdict, Walked, tableOf, primeForm, rowCheckOf, settleOf, compareOf, formOf, walkOf}
-use Rattle.model.proofs.Checks.{first-left, first-right}
+use Rattle.theory.proofs.Checks.{first-left, first-right}
 use Rattle.exports.specs.Reply.{Reply, codeOf, refusing, replyOf, laidOut, valuesReply}
 use Rattle.exports.specs.Calls.{rowValues, foundOr, rowCall, walkValues, walkCall, stageValues, settleCall, shortCodeBy, shortCode, verdictValues, compareCall, noValues, formCall}
 use Rattle.exports.proofs.Replies.{reply-refuses, reply-short, reply-gives}

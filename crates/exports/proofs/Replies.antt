@@ -7,7 +7,7 @@ use native.Mathlib.Omega.{arith}
 use lib.Dec.{ltb}
 use lib.ListN.{length}
 use Rattle.model.specs.Answer.{Answer, refused, given, written}
-use Rattle.model.proofs.Exec.{Tells, tells-lt}
+use Rattle.theory.proofs.Exec.{Tells, tells-lt}
 use Rattle.exports.specs.Reply.{Reply, refusing, replyOf}
 
 module _ {B : Type 0} (before after : B) (array : List ℕ) where

@@ -3,10 +3,10 @@ ghost use mathlib.Core.Path.{_≡_};
 ghost use Rattle.exports.specs.Calls.{settleCall, shortCode};
 use crate::reply::refusal_code;
 use crate::reply::reply;
+use acceptance::accept::accept;
 use filer::Settling;
 use filer::settle::settle_sheet;
-use norms::accept::accept;
-use sheet::checks::Checked;
+use validation::checks::Checked;
 
 // What a call returns that has no room for its answer: a refusal of the sheet, else 12. Nothing is settled.
 fn short_code(sheet: &[u8]) -> u32

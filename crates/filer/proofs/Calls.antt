@@ -12,14 +12,14 @@ use Rattle.model.specs.Base.{gain, settledStage}
 use Rattle.model.specs.Sheet.{kindCount, fieldCount, cardOf}
 use Rattle.model.specs.Limits.{Limits}
 use Rattle.model.specs.Refusal.{refusal, firstOf, acceptChecks, Accepted, settleChecks, compareChecks, formChecks}
-use Rattle.model.specs.Widths.{Bytes}
+use Rattle.theory.specs.Widths.{Bytes}
 use Rattle.model.specs.Answer.{refused, given, Lent, different, settleOf, compareOf, formOf, tableOf, primeForm, written}
-use Rattle.model.proofs.Lists.{length-from, getD-from}
-use Rattle.model.proofs.Checks.{first-left, first-right}
-use Rattle.model.proofs.Answers.{demand1, table-length}
-use Rattle.model.proofs.Meanings.{meanings}
-use Rattle.sheet.proofs.Checking.{past-stops, past-passes, less-stops}
-use Rattle.base.specs.Stage.{BaseAt}
+use Rattle.theory.proofs.Lists.{length-from, getD-from}
+use Rattle.theory.proofs.Checks.{first-left, first-right}
+use Rattle.theory.proofs.Answers.{demand1}
+use Rattle.theory.proofs.Meanings.{meanings}
+use Rattle.validation.proofs.Checking.{past-stops, past-passes, less-stops}
+use Rattle.rows.specs.Stage.{BaseAt}
 use Rattle.filer.specs.Settlement.{tableIn}
 use Rattle.filer.proofs.Writing.{table-long, row-under, count-under, table-at}
 
@@ -74,7 +74,7 @@ module _ (s : List ℕ) where
 
     -- The table of the settled stage's rows.
     pub table-is : (rows : List ℕ) → BaseAt s (settledStage (cardOf s)) rows → tableIn (kindCount s) rows ≡ tableOf s
-    table-is rows B = ext-getD 0 (tableIn (kindCount s) rows) (tableOf s) (table-long (kindCount s) rows ∙ sym (table-length s)) each
+    table-is rows B = ext-getD 0 (tableIn (kindCount s) rows) (tableOf s) (table-long (kindCount s) rows ∙ sym (demand1 s .table-size)) each
       where
         each : (i : ℕ) → i < length (tableIn (kindCount s) rows) → getD (tableIn (kindCount s) rows) i 0 ≡ getD (tableOf s) i 0
         each i l =

@@ -11,20 +11,20 @@ use lib.Seq.{take-at}
 use Rattle.model.specs.Field.{Field, unit, at}
 use Rattle.model.specs.Card.{Live}
 use Rattle.model.specs.Base.{settledStage, settledRow}
-use Rattle.model.specs.Game.{Always, Answered}
+use Rattle.theory.specs.Game.{Always, Answered}
 use Rattle.model.specs.Sheet.{kindCount, fieldCount, cardOf, fieldOf}
 use Rattle.model.specs.Limits.{Limits}
 use Rattle.model.specs.Refusal.{Accepted, Finding, clear, refusal, firstOf, settleChecks, compareChecks, formChecks}
-use Rattle.model.specs.Terms.{Before, BaseOf, Stage, Settled as IsSettled}
-use Rattle.model.specs.Meanings.{Settles}
-use Rattle.model.specs.Demands.{Demand2, Demand3}
+use Rattle.theory.specs.Terms.{Before, BaseOf, Stage, Settled as IsSettled}
+use Rattle.theory.specs.Meanings.{Settles}
+use Rattle.theory.specs.Demands.{Demand2, Demand3}
 use Rattle.model.specs.Answer.{Answer, refused, given, Lent, same, different, settleOf, compareOf, formOf, rowOf, rowCheckOf, tableOf, primeForm, written}
-use Rattle.model.proofs.Lists.{length-from}
-use Rattle.model.proofs.Field.{unit-other}
-use Rattle.model.proofs.Sheets.{field-kinds}
-use Rattle.model.proofs.Answers.{demand1, table-length}
-use Rattle.model.proofs.Demands.{demands}
-use Rattle.model.proofs.Meanings.{meanings}
+use Rattle.theory.proofs.Lists.{length-from}
+use Rattle.theory.proofs.Field.{unit-other}
+use Rattle.theory.proofs.Sheets.{field-kinds}
+use Rattle.theory.proofs.Answers.{demand1}
+use Rattle.theory.proofs.Demands.{demands}
+use Rattle.theory.proofs.Meanings.{meanings}
 use Rattle.filer.specs.Answers.{settlingOf, findingOf, verdictOf, formingOf}
 use Rattle.filer.specs.Promises.{SettleAnswers, SettleMeans, RowAnswers, CompareAnswers, CompareMeans, CompareGames, FormAnswers, FormMeans, Promises}
 use Rattle.filer.specs.declared.answers.Settling.{Settling}
@@ -35,7 +35,7 @@ use Rattle.filer.specs.declared.answers.Verdict.{Verdict}
 use Rattle.filer.specs.declared.answers.Verdict.the-variants.{Same, Different, Refused as NotCalled}
 use Rattle.filer.specs.declared.answers.Forming.{Forming}
 use Rattle.filer.specs.declared.answers.Forming.the-variants.{Written, Refused as NotFormed}
-use Rattle.filer.proofs.Rows.{row-clear, row-at, row-past}
+use Rattle.filer.proofs.Rows.{row-at, row-past}
 
 -- The cases have different values.
 settling-only : (v w : Settling) → settlingOf v ≡ settlingOf w → v ≡ w
@@ -115,6 +115,9 @@ module _ (s table : List ℕ) (answer : Settling) (after : List ℕ) (e : settli
     settled = settle-given;
     refused = settle-refused;
     unchanged = λ k p h. d ∙ lent-of (demand1 s .settle-refused table k p (settle-refused k p .0 h));
+    size = demand1 s .table-size;
+    past = λ e h. ap (λ (xs : List ℕ). at xs e) d ∙ demand1 s .settle-past table e h;
+    long = ap length d ∙ demand1 s .settle-length table;
   }
 
   module _ (ok : Accepted s) (room : kindCount s * kindCount s ≤ length table) where
@@ -146,12 +149,7 @@ module _ (s table : List ℕ) (answer : Settling) (after : List ℕ) (e : settli
 
     row-handed : (k : ℕ) → k < kindCount s → rowCheckOf (kindCount s) k after ≡ clear
     row-handed k h =
-        row-clear (kindCount s) k after (record {
-          some = limits .kinds .0;
-          few = limits .kinds .1;
-          kind = h;
-          room = omega (arith, ap length d, demand1 s .settle-length table);
-        })
+        demand1 s .row-taken (kindCount s) k after .1 (limits .kinds .0, limits .kinds .1, h, omega (arith, ap length d, demand1 s .settle-length table))
 
     -- The row that Row hands out is that of the final base.
     row-is : (k : ℕ) → k < kindCount s → at (rowOf (kindCount s) k after) ≡ settledRow (cardOf s) k
@@ -162,7 +160,7 @@ module _ (s table : List ℕ) (answer : Settling) (after : List ℕ) (e : settli
         go j (yes l) =
             row-at (kindCount s) k after (row-handed k h) j l
             ∙ ap (λ (xs : List ℕ). at xs (k * kindCount s + j)) (settle-given limits room .1)
-            ∙ List·getD-append (tableOf s) _ 0 (k * kindCount s + j) (omega (arith, table-length s, mul-le-mul-right (kindCount s) h, suc-mul k (kindCount s)))
+            ∙ List·getD-append (tableOf s) _ 0 (k * kindCount s + j) (omega (arith, demand1 s .table-size, mul-le-mul-right (kindCount s) h, suc-mul k (kindCount s)))
             ∙ demand1 s .table-row k j h l
         go j (no l) = row-past (kindCount s) k after (row-handed k h) j (omega arith) ∙ sym (settled-past k j h (omega arith))
 
@@ -199,7 +197,10 @@ module _ (s table : List ℕ) (answer : Settling) (after : List ℕ) (e : settli
 -- Row.
 row-answers : (n k : ℕ) (table : List ℕ) (answer : RowCheck) (part : List ℕ)
     → findingOf answer ≡ rowCheckOf n k table → part ≡ rowOf n k table → RowAnswers n k table answer part
+unfolding rowCheckOf
 row-answers n k table answer part e d = record {
+  taken = Iff·trans (told findingOf finding-only answer e Clear) (demand1 table .row-taken n k table);
+  refused = λ q p. told findingOf finding-only answer e (NoRow q p);
   handed = λ h. d ∙ demand1 table .row-part n k table (told findingOf finding-only answer e Clear .0 h);
   empty = (
     (λ h. let r = demand1 table .row-refused n k table .0 (sym d ∙ h) in (r .0, r .1, told findingOf finding-only answer e (NoRow (r .0) (r .1)) .1 (r .2))),
@@ -268,6 +269,9 @@ module _ (s : List ℕ) (i : ℕ) (buffer after : List ℕ) (d : after ≡ formO
       formed = λ L h l. let r = demand1 s .formed L i buffer h l in (forming-only answer Written (e ∙ answer-of r), d ∙ lent-of r);
       refused = form-refused;
       unchanged = λ k p h. d ∙ lent-of (demand1 s .form-refused i buffer k p (form-refused k p .0 h));
+      size = demand1 s .form-size i;
+      past = λ e h. ap (λ (xs : List ℕ). at xs e) d ∙ demand1 s .form-past i buffer e h;
+      long = ap length d ∙ demand1 s .form-length i buffer;
     }
 
   module _ (ok : Accepted s) (h : i < fieldCount s) (l : kindCount s ≤ length buffer) where

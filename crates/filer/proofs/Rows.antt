@@ -11,10 +11,9 @@ use Rattle.model.specs.Field.{at}
 use Rattle.model.specs.Limits.{mostKinds}
 use Rattle.model.specs.Refusal.{clear, refusal, outside, rowChecks}
 use Rattle.model.specs.Answer.{rowOf, rowCheckOf}
-use Rattle.model.proofs.Sheets.{clear-cons, clear-nil, small, not-small, not-less}
-use Rattle.model.proofs.Checks.{not-outside, from-outside, from-less, cons-none}
-use Rattle.model.proofs.Answers.{demand1}
-use Rattle.sheet.proofs.Checking.{test-stops, test-passes, past-stops, past-passes, less-stops}
+use Rattle.theory.proofs.Checks.{from-outside}
+use Rattle.theory.proofs.Answers.{demand1}
+use Rattle.validation.proofs.Checking.{test-stops, test-passes, past-stops, past-passes, less-stops}
 
 -- Kinds in range.
 pub in-range : (n : ℕ) → outside 1 mostKinds n ≡ false → (1 ≤ n) × (n ≤ mostKinds)
@@ -44,10 +43,7 @@ module _ (n k : ℕ) (table : List ℕ) where
   size-stops e h l = test-passes 2 0 _ _ e ∙ past-passes 11 0 _ k n h ∙ less-stops 12 0 [] (length table) (n * n) l
 
   pub row-clear : Whole n k (length table) → rowCheckOf n k table ≡ clear
-  unfolding rowCheckOf rowChecks
-  row-clear w =
-      clear-cons 2 0 _ _ (not-outside 1 mostKinds n (w .some) (w .few))
-      (clear-cons 11 0 _ _ (not-small k n (w .kind)) (clear-cons 12 0 _ [] (not-less (length table) (n * n) (w .room)) clear-nil))
+  row-clear w = demand1 [] .row-taken n k table .1 (w .some, w .few, w .kind, w .room)
 
   -- A row of a table that is large enough lies in it.
   pub row-inside : Whole n k (length table) → k * n + n ≤ length table
@@ -55,13 +51,7 @@ module _ (n k : ℕ) (table : List ℕ) where
 
   module _ (e : rowCheckOf n k table ≡ clear) where
     pub whole : Whole n k (length table)
-    unfolding rowCheckOf rowChecks
-    whole =
-        let a = cons-none 2 0 _ _ e in
-        let b = cons-none 11 0 _ _ (a .1) in
-        let c = cons-none 12 0 _ _ (b .1) in
-        let r = from-outside 1 mostKinds n (a .0) in
-        record { some = r .0; few = r .1; kind = small k n (b .0); room = from-less (length table) (n * n) (c .0) }
+    whole = let w = demand1 [] .row-taken n k table .0 e in record { some = w .0; few = w .1; kind = w .2; room = w .3 }
 
     -- The part from row k to the next is the row.
     pub part-is : take (k * n + n - k * n) (drop (k * n) table) ≡ rowOf n k table

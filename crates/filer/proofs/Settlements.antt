@@ -10,16 +10,17 @@ use Rattle.model.specs.Norm.{kindNorm}
 use Rattle.model.specs.Base.{roundsAt}
 use Rattle.model.specs.Sheet.{kindCount, fieldCount, cardOf, fieldOf}
 use Rattle.model.specs.Refusal.{Finding, clear, refusal, firstOf, acceptChecks, Accepted}
-use Rattle.model.specs.Widths.{Bytes}
+use Rattle.theory.specs.Widths.{Bytes}
 use Rattle.model.specs.Answer.{refused, given, same, different, settleOf, compareOf, formOf, written}
 use Rattle.sheet.specs.declared.reader.Card.{Card}
-use Rattle.sheet.specs.declared.checks.Checked.the-variants.{Passed, Refused}
+use Rattle.validation.specs.declared.checks.Checked.the-variants.{Passed, Refused}
 use Rattle.sheet.proofs.Laws.{kinds-are, fields-are}
-use Rattle.norms.specs.Norms.{Accepts, acceptanceOf}
-use Rattle.norms.specs.declared.accept.Acceptance.{Acceptance}
-use Rattle.norms.proofs.Acceptances.{accepts, refused as found-refused}
+use Rattle.norms.specs.Norms.{Accepts}
+use Rattle.acceptance.specs.Acceptance.{acceptanceOf}
+use Rattle.acceptance.specs.declared.accept.Acceptance.{Acceptance}
+use Rattle.acceptance.proofs.Acceptances.{accepts, refused as found-refused}
 use Rattle.base.specs.declared.settle.Settled.{Settled}
-use Rattle.base.specs.Table.{formIn}
+use Rattle.tables.specs.Table.{formIn}
 use Rattle.base.specs.Settle.{FieldsFit, IsSettled}
 use Rattle.base.proofs.Outcomes.{settled-fit, prime-form, compare-different, compare-same}
 use Rattle.filer.specs.declared.settlement.Settlement.{Settlement}

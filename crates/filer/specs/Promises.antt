@@ -2,18 +2,18 @@
 use mathlib.Core.List.{List, []}
 use mathlib.Core.Logic.{_↔_, _⊎_}
 use mathlib.Core.Path.{_≡_}
-use Prim.Native.Nat.{ℕ, _*_, _≤_, _<_, min}
+use Prim.Native.Nat.{ℕ, _+_, _-_, _*_, _≤_, _<_, min}
 use lib.ListN.{length, take, drop}
 use Rattle.model.specs.Field.{unit, at}
 use Rattle.model.specs.Card.{On}
 use Rattle.model.specs.Norm.{IsNorm}
-use Rattle.model.specs.Expansion.{Expands, Bisimilar}
-use Rattle.model.specs.Base.{roundsFor, settledStage}
-use Rattle.model.specs.Game.{Holds, Always, Parting, Parted, Strategy, Answered, Challenge}
+use Rattle.theory.specs.Expansion.{Expands, Bisimilar}
+use Rattle.model.specs.Base.{settledStage}
+use Rattle.theory.specs.Game.{Holds, Always, Parting, Parted, Strategy, Answered, Challenge}
 use Rattle.model.specs.Sheet.{kindCount, fieldCount, cardOf, fieldOf}
-use Rattle.model.specs.Limits.{Limits}
-use Rattle.model.specs.Refusal.{Accepted, refusal, firstOf, settleChecks, compareChecks, formChecks}
-use Rattle.model.specs.Terms.{IsGain, Stage, BaseOf, Prime, Settled as IsSettled}
+use Rattle.model.specs.Limits.{mostKinds, Limits}
+use Rattle.model.specs.Refusal.{Accepted, refusal, firstOf, settleChecks, compareChecks, formChecks, rowChecks}
+use Rattle.theory.specs.Terms.{IsGain, Stage, BaseOf, Prime, Settled as IsSettled}
 use Rattle.model.specs.Answer.{settleOf, compareOf, formOf, rowOf, rowCheckOf, tableOf, primeForm, written}
 use Rattle.filer.specs.Answers.{settlingOf, findingOf, verdictOf, formingOf}
 use Rattle.filer.specs.declared.answers.Settling.{Settling}
@@ -32,6 +32,10 @@ pub record SettleAnswers (s table : List ℕ) (answer : Settling) (after : List 
   -- Demand 1: "Every other sheet .. or short buffer gets the first number that applies in the table, and nothing lent changes."
   pub refused : (k p : ℕ) → (answer ≡ NotSettled k p) ↔ (firstOf (settleChecks s (length table)) ≡ refusal k p)
   pub unchanged : (k p : ℕ) → answer ≡ NotSettled k p → after ≡ table
+  -- "n × n of them"; "Bytes of a lent buffer past those named keep their values."
+  pub size : length (tableOf s) ≡ kindCount s * kindCount s
+  pub past : (e : ℕ) → kindCount s * kindCount s ≤ e → at after e ≡ at table e
+  pub long : length after ≡ length table
 
 -- What Settle gives of an accepted sheet, in a table that is large enough.
 pub record SettleMeans {ℓ} (s table : List ℕ) (answer : Settling) (after : List ℕ) : Type (ℓ + 1) where
@@ -44,6 +48,9 @@ pub record SettleMeans {ℓ} (s table : List ℕ) (answer : Settling) (after : L
 
 -- Row, of a lent table, n and a kind: what its check answers, and the part handed out.
 pub record RowAnswers (n k : ℕ) (table : List ℕ) (answer : RowCheck) (part : List ℕ) : Type 0 where
+  -- "Row checks 2, 11, 12 only. A table is too short .. when it has fewer than n × n entries."
+  pub taken : (answer ≡ Clear) ↔ ((1 ≤ n) × (n ≤ mostKinds) × (k < n) × (n * n ≤ length table))
+  pub refused : (q p : ℕ) → (answer ≡ NoRow q p) ↔ (firstOf (rowChecks n k (length table)) ≡ refusal q p)
   -- "The row of a kind is handed out as that part of the lent table": the n entries from k × n on.
   pub handed : answer ≡ Clear → part ≡ take n (drop (k * n) table)
   -- "the part is empty just when that check refuses"
@@ -80,7 +87,7 @@ pub record CompareGames (s : List ℕ) (i j : ℕ) (answer : Verdict) : Type 0 w
   pub different-parted : (t r : ℕ) → answer ≡ Different t r → Parting (cardOf s) (fieldOf s i) (fieldOf s j) × Parted (cardOf s) r (fieldOf s i) (fieldOf s j)
       × (¬ Holds (cardOf s) r (fieldOf s i) (fieldOf s j)) × (t ≤ kindCount s)
       × ((x : ℕ) × (y : ℕ) × (g : ℕ) × IsNorm (cardOf s) (fieldOf s i) x × IsNorm (cardOf s) (fieldOf s j) y × IsGain (cardOf s) g
-      × (r ≡ roundsFor (min x y) g t))
+      × (t ≡ 0 → r ≡ min x y + 1) × (0 < t → r ≡ min x y + 1 + (t - 1) * (g + 1)))
   -- "The stage is the least that does not relate the pair."
   pub different-stage : (t r : ℕ) → answer ≡ Different t r
       → (¬ Stage (cardOf s) t (fieldOf s i) (fieldOf s j)) × ((q : ℕ) → q < t → Stage (cardOf s) q (fieldOf s i) (fieldOf s j))
@@ -92,6 +99,10 @@ pub record FormAnswers (s : List ℕ) (i : ℕ) (buffer : List ℕ) (answer : Fo
   -- Demand 1: "Every other sheet, field number .. or short buffer gets the first number that applies in the table, and nothing lent changes."
   pub refused : (k p : ℕ) → (answer ≡ NotFormed k p) ↔ (firstOf (formChecks s i (length buffer)) ≡ refusal k p)
   pub unchanged : (k p : ℕ) → answer ≡ NotFormed k p → after ≡ buffer
+  -- "n counts"; "Bytes of a lent buffer past those named keep their values."
+  pub size : length (primeForm s i) ≡ kindCount s
+  pub past : (e : ℕ) → kindCount s ≤ e → at after e ≡ at buffer e
+  pub long : length after ≡ length buffer
 
 -- Demand 2 of Prime form, of field i of an accepted sheet and a buffer that is large enough: the n counts that it then begins with.
 pub record FormMeans {ℓ} (s : List ℕ) (i : ℕ) (after : List ℕ) : Type (ℓ + 1) where

@@ -4,8 +4,8 @@ use mathlib.Core.Path.{_≡_}
 use Prim.Native.Nat.{ℕ, _*_, _/_, _%_}
 use Rattle.model.specs.Finite.{listFrom}
 use Rattle.model.specs.Refusal.{Accepted}
-use Rattle.norms.specs.Norms.{acceptanceOf}
-use Rattle.base.specs.Table.{rowIn}
+use Rattle.acceptance.specs.Acceptance.{acceptanceOf}
+use Rattle.tables.specs.Table.{rowIn}
 use Rattle.base.specs.Settle.{IsSettled}
 use Rattle.filer.specs.declared.settlement.Settlement.{Settlement}
 

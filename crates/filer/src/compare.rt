@@ -11,10 +11,10 @@ ghost use Rattle.filer.specs.Settlement.{IsSettlement};
 use crate::answers::Verdict;
 use crate::settlement::Settlement;
 use crate::settlement::settle_once;
-use norms::fields::field_norm;
 use norms::lines::gain;
 use sheet::Card;
-use sheet::checks::Checked;
+use validation::checks::Checked;
+use weights::fields::field_norm;
 
 // Any bytes, and any two field numbers.
 pub fn compare(s: &[u8], first: usize, second: usize) -> Verdict

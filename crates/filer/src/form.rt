@@ -6,7 +6,7 @@ ghost use Rattle.model.specs.Field.{at};
 ghost use Rattle.model.specs.Sheet.{kindCount, fieldOf};
 ghost use Rattle.model.specs.Answer.{written, formOf};
 ghost use Rattle.sheet.specs.Reader.{Reads};
-ghost use Rattle.base.specs.Table.{formIn};
+ghost use Rattle.tables.specs.Table.{formIn};
 ghost use Rattle.base.specs.Settle.{FieldsFit};
 ghost use Rattle.filer.specs.Answers.{formingOf};
 ghost use Rattle.filer.specs.Settlement.{IsSettlement};
@@ -14,9 +14,9 @@ use crate::answers::Forming;
 use crate::settlement::Settlement;
 use crate::settlement::settle_once;
 use base::parting::field_form;
-use base::table::Base;
 use sheet::Card;
-use sheet::checks::Checked;
+use tables::table::Base;
+use validation::checks::Checked;
 
 // Any bytes, any field number and a buffer of any length; a refusal leaves the buffer as it was. No field is compared with the others, as in Settle.
 pub fn prime_form(s: &[u8], field: usize, buffer: &mut [u64]) -> Forming

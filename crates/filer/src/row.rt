@@ -4,7 +4,7 @@ ghost use Rattle.model.specs.Answer.{rowOf, rowCheckOf};
 ghost use Rattle.filer.specs.Answers.{findingOf};
 use crate::answers::RowCheck;
 use sheet::Card;
-use sheet::checks::outside;
+use validation::checks::outside;
 
 // "Row checks 2, 11, 12 only", of a lent table, n and a kind.
 pub fn row_check(table: &[u32], n: usize, kind: usize) -> RowCheck

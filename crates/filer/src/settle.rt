@@ -9,7 +9,7 @@ ghost use Rattle.filer.specs.Settlement.{tableIn};
 use crate::answers::Settling;
 use crate::settlement::settle_once;
 use sheet::Card;
-use sheet::checks::Checked;
+use validation::checks::Checked;
 
 // Any bytes, and a table of any length; a refusal leaves the table as it was. No sheet has a field of the number Card::FIELDS: none is compared with the others.
 pub fn settle_sheet(s: &[u8], table: &mut [u32]) -> Settling

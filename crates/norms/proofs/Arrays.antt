@@ -8,7 +8,7 @@ use lib.ListN.{getD}
 use Rattle.model.specs.Finite.{listFrom}
 use Rattle.model.specs.Field.{Field, at}
 use Rattle.model.specs.Sheet.{counts}
-use Rattle.model.proofs.Lists.{getD-from, getD-past}
+use Rattle.theory.proofs.Lists.{getD-from, getD-past}
 use Rattle.sheet.proofs.Counts.{counts-below, counts-past}
 
 -- An array of m counts is the field of them, where it has no kinds past them.

@@ -9,14 +9,14 @@ use Rattle.model.specs.Field.{Field, weigh, at}
 use Rattle.model.specs.Norm.{kindNorm, norm}
 use Rattle.model.specs.Sheet.{byte, kindCount, lineOf, cardOf}
 use Rattle.model.specs.Limits.{mostKinds, normLimit}
-use Rattle.model.proofs.Sweeps.{norm-kind}
-use Rattle.model.proofs.Sheets.{positive}
-use Rattle.model.proofs.Limits.{limit-of}
+use Rattle.theory.proofs.Sweeps.{norm-kind}
+use Rattle.theory.proofs.Sheets.{positive}
+use Rattle.theory.proofs.Limits.{limit-of}
 use Rattle.sheet.specs.Reader.{Reads, lineCounts}
 use Rattle.sheet.specs.declared.reader.Card.{Card}
 use Rattle.sheet.proofs.Laws.{kinds-are, kinds-most, card-kinds, kind-under, left-under, line-counts-length, line-counts-at}
 use Rattle.norms.specs.Norms.{Accepts, normsOf}
-use Rattle.norms.proofs.Bounds.{counts-fit}
+use Rattle.weights.proofs.Bounds.{counts-fit}
 use Rattle.norms.proofs.Arrays.{array-at}
 
 -- What is made of the part that holds a line's counts is made of what the line leaves.

@@ -12,16 +12,17 @@ use Rattle.model.specs.Card.{Line}
 use Rattle.model.specs.Norm.{best, sweeps}
 use Rattle.model.specs.Sheet.{kindCount, counts, lineOf, cardOf}
 use Rattle.model.specs.Limits.{mostKinds, normLimit}
-use Rattle.model.proofs.Cut.{cutSweeps, cut-sweeps, cut-norm}
-use Rattle.model.proofs.Sweeps.{value-kind}
+use Rattle.theory.proofs.Cut.{cutSweeps, cut-sweeps, cut-norm}
+use Rattle.theory.proofs.Sweeps.{value-kind}
 use Rattle.sheet.specs.Reader.{Reads}
 use Rattle.sheet.specs.declared.reader.Card.{Card}
 use Rattle.sheet.proofs.Counts.{counts-below, counts-past, at-counts, from-set, counts-none}
 use Rattle.sheet.proofs.Laws.{kinds-are, kinds-most, card-kinds, card-lines}
 use Rattle.norms.specs.Norms.{arrayOf, cutNorms}
-use Rattle.norms.specs.Sweep.{AtMost, SameBelow, sweepOf, readValue, lesserOf}
+use Rattle.norms.specs.Sweep.{SameBelow, sweepOf}
+use Rattle.weights.specs.Value.{AtMost, readValue, lesserOf}
 use Rattle.norms.proofs.Arrays.{array-at, list-at, list-back}
-use Rattle.norms.proofs.Values.{lineValue, line-other, line-own, lesser-right, best-first, lesser-cut}
+use Rattle.weights.proofs.Values.{lineValue, line-other, line-own, lesser-right, best-first, lesser-cut}
 
 -- The search for the best line, from the last line back: no line at first, one line more at each turn, all of them at the end.
 module _ (n : ℕ) (w : ℕ → ℕ) (k : ℕ) (line : ℕ → Line) (m : ℕ) where

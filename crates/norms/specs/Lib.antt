@@ -1,3 +1,3 @@
 -- What the contracts cite.
-pub mod Norms  -- arrays of norms, an accepted sheet, what its check answers
+pub mod Norms  -- arrays of norms, an accepted sheet, what its lines leave
 pub mod Sweep  -- the parts of one sweep

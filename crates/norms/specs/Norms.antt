@@ -1,19 +1,17 @@
--- The arrays that hold norms, an accepted sheet with its norms, and what the check of a whole sheet answers.
+-- The arrays that hold norms, an accepted sheet with its norms, and what its lines leave by them.
 use mathlib.Core.Bool.{Bool}
-use mathlib.Core.List.{List, _++_}
+use mathlib.Core.List.{List}
 use mathlib.Core.Path.{_≡_}
 use Prim.Native.Nat.{ℕ, suc, _-_, min}
-use lib.Dec.{eqb, ltb}
+use lib.Dec.{ltb}
 use Rattle.model.specs.Finite.{listFrom}
-use Rattle.model.specs.Field.{Field, none}
+use Rattle.model.specs.Field.{Field}
 use Rattle.model.specs.Norm.{kindNorm, norm}
 use Rattle.model.specs.Sheet.{lineOf, cardOf}
 use Rattle.model.specs.Limits.{mostKinds, normLimit}
-use Rattle.model.specs.Refusal.{Check, check, clear, refusal, firstOf, acceptChecks, Accepted}
-use Rattle.sheet.specs.Reader.{headerOf, Reads}
+use Rattle.model.specs.Refusal.{Accepted}
+use Rattle.sheet.specs.Reader.{Reads}
 use Rattle.sheet.specs.declared.reader.Card.{Card}
-use Rattle.sheet.specs.declared.checks.Checked.the-variants.{Passed, Refused}
-use Rattle.norms.specs.declared.accept.Acceptance.{Acceptance}
 
 -- A field as an array by value: its counts of the most kinds there are.
 abbrev pub arrayOf : Field → List ℕ
@@ -32,20 +30,6 @@ pub record Accepts (s : List ℕ) (c : Card) (norms : List ℕ) : Type 0 where
   pub reads : Reads s c
   pub accepted : Accepted s
   pub norms-are : norms ≡ normsOf s
-
--- "norms (not in Walk)": 9, then 10, by any norms of n kinds.
-unfoldable pub normChecksBy : (ℕ → ℕ) → ℕ → List Check
-normChecksBy w n = listFrom (λ k. check 9 k (eqb (w k) 0)) 0 n ++ listFrom (λ k. check 10 k (ltb normLimit (w k))) 0 n
-
--- What the checks 1 to 10 come to, as the struct: the card and the norms of its kinds, or the refusal, with norms all 0.
-unfoldable pub acceptedWith : List ℕ → Acceptance
-acceptedWith s = record { checked = Passed (headerOf s); norms = normsOf s }
-
-unfoldable pub refusedWith : ℕ → ℕ → Acceptance
-refusedWith k p = record { checked = Refused k p; norms = arrayOf none }
-
-unfoldable pub acceptanceOf : List ℕ → Acceptance
-acceptanceOf s = elim (firstOf (acceptChecks s)) [ clear ↦ acceptedWith s | refusal k p ↦ refusedWith k p ]
 
 -- "reads that lower the norm": those by line j do.
 unfoldable pub lowersNorm : List ℕ → ℕ → Bool

@@ -7,10 +7,11 @@ ghost use Rattle.model.specs.Field.{at};
 ghost use Rattle.model.specs.Limits.{mostKinds, normLimit};
 ghost use Rattle.sheet.specs.Reader.{Reads};
 ghost use Rattle.norms.specs.Norms.{cutNorms};
-ghost use Rattle.norms.specs.Sweep.{AtMost, SameBelow, sweepOf};
-use crate::weights::lesser;
-use crate::weights::read_value;
+ghost use Rattle.norms.specs.Sweep.{SameBelow, sweepOf};
+ghost use Rattle.weights.specs.Value.{AtMost};
 use sheet::Card;
+use weights::value::lesser;
+use weights::value::read_value;
 
 // The norm of every kind, cut one past the limit; 0 for a kind that has none, and past the card's kinds.
 pub fn kind_norms(s: &[u8], card: Card) -> [u32; 32]

@@ -5,9 +5,9 @@ ghost use Rattle.model.specs.Norm.{kindNorm, norm};
 ghost use Rattle.model.specs.Base as base;
 ghost use Rattle.model.specs.Sheet.{lineOf, cardOf};
 ghost use Rattle.norms.specs.Norms.{Accepts, lowersNorm, lineGain};
-use crate::weights::weight;
-use crate::weights::wide32;
 use sheet::Card;
+use weights::value::weight;
+use weights::value::wide32;
 
 // The norm of the tokens that line j leaves.
 pub fn left_norm(s: &[u8], card: Card, norms: &[u32; 32], j: usize) -> u64

@@ -13,27 +13,28 @@ use Rattle.model.specs.Norm.{kindNorm}
 use Rattle.model.specs.Base.{settledStage, settledForm}
 use Rattle.model.specs.Limits.{mostInput}
 use Rattle.model.specs.Sheet.{kindCount, fieldCount, cardOf, fieldOf}
-use Rattle.model.specs.Refusal.{refusal, firstOf, acceptChecks, Accepted}
+use Rattle.model.specs.Refusal.{Accepted}
 use Rattle.model.specs.Answer.{refused, given, written, rowOf, formOf, tableOf, primeForm}
 use Rattle.model.specs.Page.{refusedLine, lines, pageOf, printed}
-use Rattle.model.proofs.Lists.{length-from}
-use Rattle.model.proofs.Answers.{demand1}
+use Rattle.theory.proofs.Lists.{length-from}
+use Rattle.theory.proofs.Answers.{demand1}
 use Rattle.sheet.specs.declared.reader.Card.{Card}
-use Rattle.sheet.specs.declared.checks.Checked.the-variants.{Refused}
+use Rattle.validation.specs.declared.checks.Checked.the-variants.{Refused}
 use Rattle.sheet.proofs.Laws.{kinds-are, fields-are}
 use Rattle.norms.specs.Norms.{Accepts}
 use Rattle.norms.proofs.Laws.{norms-at}
-use Rattle.norms.proofs.Acceptances.{refused as checks-refused}
-use Rattle.base.specs.Stage.{BaseAt}
+use Rattle.acceptance.proofs.Acceptances.{refused as checks-refused}
+use Rattle.rows.specs.Stage.{BaseAt}
 use Rattle.filer.specs.Settlement.{IsSettlement, tableIn}
 use Rattle.filer.specs.declared.settlement.Settlement.{Settlement}
 use Rattle.filer.proofs.Calls.{limits, table-is}
 use Rattle.filer.proofs.Rows.{Whole, row-clear, row-inside}
 use Rattle.text.specs.Appended.{Appended}
-use Rattle.text.specs.Line.{headText, kindText, kindAt, fieldAt, pairAt, kindsText, fieldsText, pairsText}
+use Rattle.listing.specs.Line.{headText, kindText, fieldAt, kindsText, fieldsText}
+use Rattle.verdicts.specs.Pair.{pairAt, pairsText}
 use Rattle.page.specs.Writing.{writePageOf}
 use Rattle.text.proofs.Append.{from-start}
-use Rattle.text.proofs.Lines.{lines-are}
+use Rattle.page.proofs.Lines.{lines-are}
 
 -- The front of a buffer that a list was written to is the list.
 pub front : (n : ℕ) (xs buffer : List ℕ) → length xs ≡ n → take n (written xs buffer) ≡ xs

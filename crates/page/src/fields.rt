@@ -1,15 +1,15 @@
 // The lines of the fields.
 use filer::form::form_settled;
 use filer::settlement::Settlement;
+use listing::put_field;
 use sheet::Card;
-use text::put_field;
 ghost use Prim.Native.Nat.{_+_, _*_, _≤_, _<_};
 ghost use lib.ListN.{length};
 ghost use Rattle.model.specs.Answer.{primeForm};
 ghost use Rattle.norms.specs.Norms.{Accepts};
 ghost use Rattle.filer.specs.Settlement.{IsSettlement};
 ghost use Rattle.text.specs.Appended.{Appended};
-ghost use Rattle.text.specs.Line.{fieldText, fieldsText};
+ghost use Rattle.listing.specs.Line.{fieldText, fieldsText};
 
 // The line of one field of a settled sheet.
 fn put_settled_field(

@@ -1,11 +1,11 @@
 // The lines of the kinds.
 use filer::row::row;
-use text::put_kind;
+use listing::put_kind;
 ghost use Prim.Native.Nat.{_+_, _*_, _≤_};
 ghost use lib.ListN.{length};
 ghost use Rattle.model.specs.Limits.{mostKinds};
 ghost use Rattle.text.specs.Appended.{Appended};
-ghost use Rattle.text.specs.Line.{kindsText};
+ghost use Rattle.listing.specs.Line.{kindsText};
 
 // The lines of n kinds, by their norms and a table of n × n counts.
 pub fn put_kinds(out: &mut [u8], at: usize, n: usize, norms: [u32; 32], table: &[u32]) -> usize

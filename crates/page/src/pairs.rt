@@ -2,16 +2,16 @@
 use filer::Verdict;
 use filer::compare::compare_settled;
 use filer::settlement::Settlement;
-use text::put_different;
-use text::put_not_called;
-use text::put_same;
+use verdicts::put_different;
+use verdicts::put_not_called;
+use verdicts::put_same;
 ghost use mathlib.Core.Path.{_≡_};
 ghost use Prim.Native.Nat.{_+_, _*_, _-_, _≤_};
 ghost use lib.ListN.{length};
 ghost use Rattle.filer.specs.Answers.{verdictOf};
 ghost use Rattle.filer.specs.Settlement.{IsSettlement};
 ghost use Rattle.text.specs.Appended.{Appended};
-ghost use Rattle.text.specs.Line.{pairText, pairsText};
+ghost use Rattle.verdicts.specs.Pair.{pairText, pairsText};
 
 // The line of one pair, by its verdict.
 fn put_pair(out: &mut [u8], at: usize, later: usize, verdict: Verdict) -> usize

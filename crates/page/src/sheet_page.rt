@@ -2,15 +2,15 @@
 use crate::fields::put_fields;
 use crate::kinds::put_kinds;
 use crate::pairs::put_pairs;
-use base::table::Base;
 use filer::settle::write_table;
 use filer::settlement::Settlement;
 use filer::settlement::settle_once;
+use listing::put_head;
 use sheet::Card;
-use sheet::checks::Checked;
+use tables::table::Base;
 use text::put_bytes;
-use text::put_head;
-use text::put_refused;
+use validation::checks::Checked;
+use verdicts::put_refused;
 ghost use mathlib.Core.Path.{_≡_};
 ghost use Prim.Native.Nat.{_*_, _≤_};
 ghost use lib.ListN.{length, take};
@@ -41,7 +41,7 @@ pub fn write_page(s: &[u8], out: &mut [u8]) -> Writing
     ensures { λ r. ⌜ writingOf r ≡ writePageOf (now (s .entry)) (now (out .entry)) .answer ⌝ }
     ensures { λ r. ⌜ now (out .exit) ≡ writePageOf (now (s .entry)) (now (out .entry)) .lent ⌝ }
 {
-    let mut page = [0u8; PAGE];
+    let mut page = blank();
     let end = put_page(&mut page, input_part(s));
     if out.len() < end {
         return Writing::Refused {
@@ -51,6 +51,11 @@ pub fn write_page(s: &[u8], out: &mut [u8]) -> Writing
     }
     let length = put_bytes(out, 0, &page[..end]);
     Writing::Written { length }
+}
+
+// A page with nothing on it: a caller's proof does not see its bytes.
+fn blank() -> [u8; PAGE] {
+    [0u8; PAGE]
 }
 
 // The bytes that the page goes by.

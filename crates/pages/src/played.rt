@@ -6,9 +6,10 @@ use filer::form::form_settled;
 use filer::settlement::Settlement;
 use filer::settlement::settle_once;
 use libc::STDOUT_FILENO;
-use player::Called;
-use player::Tally;
-use sheet::checks::Checked;
+use tally::Called;
+use tally::Played;
+use tally::Tally;
+use validation::checks::Checked;
 ghost use Prim.Native.Nat.{_≤_};
 ghost use Rattle.filer.specs.Settlement.{IsSettlement};
 
@@ -36,9 +37,9 @@ fn one_more(x: u64) -> u64 {
 }
 
 // The most pairs that the player looks at for one verdict, and the rounds that fields called same are played to.
-const BUDGET: usize = 2000;
+const BUDGET: usize = 300_000;
 
-const ROUNDS: u64 = 8;
+const ROUNDS: u64 = 5;
 
 // Field 0 against a later field: the verdict and the prime forms against what was played.
 fn with_pair(s: &[u8], settlement: Settlement, later: usize, tally: Tally) -> Tally
@@ -50,15 +51,22 @@ fn with_pair(s: &[u8], settlement: Settlement, later: usize, tally: Tally) -> Ta
     form_settled(s, settlement, 0, &mut first);
     let mut second = [0u64; 32];
     form_settled(s, settlement, later, &mut second);
-    let equal = player::same_counts(&first, &second);
+    let equal = tally::same_counts(&first, &second);
+    let unlike = tally::look_unlike(s, 0, later);
     match compare_settled(s, settlement, later) {
         Verdict::Same => {
             let tried = player::parting(s, ROUNDS, 0, later, BUDGET);
-            tally.with_pair(Called::Same, last, equal, tried)
+            tally.with_pair(Called::Same, last, equal, unlike, tried)
         }
         Verdict::Different { stage, rounds } => {
             let tried = player::parting(s, rounds, 0, later, BUDGET);
-            tally.with_pair(Called::Different { stage, rounds }, last, equal, tried)
+            tally.with_pair(
+                Called::Different { stage, rounds },
+                last,
+                equal,
+                unlike,
+                tried,
+            )
         }
         Verdict::Refused {
             number: _,
@@ -129,7 +137,7 @@ pub fn play_stored() {
 // The sheet that a seed gives.
 fn with_seed(seed: u64, count: Count) -> Count {
     let mut sheet = [0u8; 128];
-    let made = player::random_sheet(seed, &mut sheet);
+    let made = random_cards::random_sheet(seed, &mut sheet);
     with_front(sheet, made.length, count)
 }
 
@@ -167,16 +175,28 @@ fn print_count(title: &[u8], count: Count) {
 }
 
 fn print_tally(tally: Tally) {
+    let sames = tally.sames;
+    let differents = tally.differents;
     print(b"  called same ", tally.same);
-    print(b", different ", tally.different);
+    print(b", of which look unlike ", tally.unlike);
+    print_played(sames);
+    print(b"\n  called different ", tally.different);
+    print_played(differents);
     print(b"\n  different at stage 0 ", tally.zero);
     print(b", 1 ", tally.one);
     print(b", 2 ", tally.two);
     print(b", 3 ", tally.three);
     print(b", later ", tally.later);
     print(b"; from 1 up and below the settled stage ", tally.early);
-    print(b"\n  not played to the rounds reported ", tally.undecided);
-    print(b"\n  contradicted by the game ", tally.wrong);
-    print(b", prime forms that disagree ", tally.misfiled);
+    print(b"\n  left open by the game ", tally.undecided);
+    print(b", contradicted ", tally.wrong);
+    print(b"; prime forms that disagree ", tally.misfiled);
     io::write_all(STDOUT_FILENO, b"\n");
+}
+
+// How far the pairs were played.
+fn print_played(played: Played) {
+    print(b"; played in full ", played.full);
+    print(b", in part ", played.part);
+    print(b", not at all ", played.none);
 }

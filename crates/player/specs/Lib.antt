@@ -1,3 +1,3 @@
-pub mod Says
-pub mod Shapes
-pub mod Judged
+-- What the contracts cite.
+pub mod Played  -- how far the player looks, and why it stops
+pub mod Meaning  -- what its answers say of the game

@@ -1,139 +1,98 @@
-// The round game, played. Every challenge is tried against every reply, until one is found that holds. Each pair that is looked at takes one
-// from a budget; where that is used up the pair is not played to its end.
-use crate::reader::field;
-use crate::reader::fields;
-use crate::reader::kinds;
-use crate::reader::line_code;
-use crate::reader::line_kind;
-use crate::reader::line_left;
-use crate::reader::lines;
+// The round game, played. Every challenge is tried against every reply, up to the first that holds. Each pair that is looked at takes one
+// from a budget.
+use second_reader::field;
+use second_reader::field_after;
+use second_reader::fields;
+use second_reader::kinds;
+use second_reader::lines;
+use second_reader::may_reply;
+use second_reader::may_use;
+ghost use mathlib.Core.List.{[], _∷_};
 ghost use mathlib.Core.Path.{_≡_};
-ghost use Prim.Native.Nat.{_+_, _-_, _≤_, _<_};
-ghost use lib.Dec.{ltb, eqb};
-ghost use Rattle.model.specs.Finite.{both};
-ghost use Rattle.model.specs.Field.{unit, at};
-ghost use Rattle.model.specs.Card.{On};
-ghost use Rattle.model.specs.Expansion.{Reply, Simulates};
-ghost use Rattle.model.specs.Game as model;
-ghost use Rattle.model.specs.Sheet.{kindCount, lineOf, cardOf, fieldOf};
-ghost use Rattle.player.specs.Says.{Fits, After, Says, AnsweredBy, Answers, Finds};
+ghost use Prim.Native.Nat.{_+_, _≤_, _<_};
+ghost use Rattle.model.specs.Field.{at};
+ghost use Rattle.model.specs.Sheet.{kindCount, lineOf, cardOf};
+ghost use Rattle.model.specs.Walk.{tryReplies, tryChallenges, examine};
+ghost use Rattle.theory.specs.Counted.{cut, leaves};
+ghost use Rattle.second_reader.specs.Fields.{Fits};
+ghost use Rattle.player.specs.Played.{countedOf, challenger, tried, partingOf};
 
-// Whether a pair holds, with what is left of the budget.
+// A part of the game: whether it holds, with what is left of the budget, or spent where it has more pairs than the budget.
 pub enum Play {
     Holds(usize),
     Fails(usize),
-    Unplayed,
+    Spent,
 }
 
-// The first number of rounds that parts a pair, or a number of rounds at which it holds.
+// What was found of a pair, up to the limit asked for. Parted: the first number of rounds that parts it; it holds at all below. Held: it holds at every
+// number of rounds up to this, the limit. Out of budget, out of bounds: it holds up to this; the next was not played out, since the budget ends
+// before it does, or lies past what the player plays.
 pub enum Tried {
     Parted(u64),
     Held(u64),
+    OutOfBudget(u64),
+    OutOfBounds(u64),
 }
 
-// "A field with a token of kind X may use a line of X": whether the field may use line j.
-fn may_use(s: &[u8], j: usize, a: &[usize; 32]) -> bool
-    requires { ⌜ (kindCount (now s) ≤ 32) × (j < 65536) ⌝ }
-    requires { ⌜ Fits (now s) 0 (now a) ⌝ }
-    ensures { λ r. ⌜ r ≡ ltb 0 (at (now (a .entry)) (lineOf (now (s .entry)) j .kind)) ⌝ }
-{
-    let k = line_kind(s, j);
-    if k < 32 { 0 < a[k] } else { false }
-}
-
-// "A reply is a line of the same code that the other side may use."
-fn may_reply(s: &[u8], j: usize, code: usize, b: &[usize; 32]) -> bool
-    requires { ⌜ (kindCount (now s) ≤ 32) × (j < 65536) ⌝ }
-    requires { ⌜ Fits (now s) 0 (now b) ⌝ }
-    ensures { λ r. ⌜ r ≡ both (ltb 0 (at (now (b .entry)) (lineOf (now (s .entry)) j .kind))) (eqb (lineOf (now (s .entry)) j .code) code) ⌝ }
-{
-    if may_use(s, j, b) {
-        line_code(s, j) == code
-    } else {
-        false
-    }
-}
-
-// What stands for tokens of kind k after line j is used: "one X goes, the counts come".
-fn count_after(s: &[u8], j: usize, k: usize, tokens: usize) -> usize
-    requires { ⌜ (kindCount (now s) ≤ 32) × (j < 65536) × (k < kindCount (now s)) × (tokens < 1000000) ⌝ }
-    ensures { λ r. ⌜ (r ≡ (tokens - unit (lineOf (now (s .entry)) j .kind) k) + lineOf (now (s .entry)) j .left k) × (r ≤ tokens + 255) ⌝ }
-{
-    let left = line_left(s, j, k);
-    if k != line_kind(s, j) {
-        return tokens + left;
-    }
-    if tokens == 0 {
-        return left;
-    }
-    tokens - 1 + left
-}
-
-// The field after line j is used.
-fn field_after(s: &[u8], j: usize, a: &[usize; 32]) -> [usize; 32]
-    requires { ⌜ (kindCount (now s) ≤ 32) × (j < 65536) ⌝ }
-    requires { ⌜ Fits (now s) 1 (now a) ⌝ }
-    ensures { λ r. ⌜ After (now (s .entry)) j (now (a .entry)) r ⌝ }
-{
-    let n = kinds(s);
-    let mut after = *a;
-    let mut k = 0;
-    while k < n {
-        after[k] = count_after(s, j, k, a[k]);
-        k += 1;
-    }
-    after
-}
-
-// Whether line j is a reply of b, of that code, which leaves beside x a pair that holds at `rounds` rounds.
+// Line j as the only reply of b to the challenge by `line`, which left x: the pair that it leaves, at `rounds` rounds. "The first side stays first":
+// where the second side challenged, x is the second side.
 fn reply_holds(
     s: &[u8],
     rounds: u64,
-    code: usize,
+    second: bool,
+    line: usize,
     j: usize,
     x: &[usize; 32],
     b: &[usize; 32],
     budget: usize,
 ) -> Play
-    requires { ⌜ (kindCount (now s) ≤ 32) × (j < 65536) ⌝ }
+    requires { ⌜ (kindCount (now s) ≤ 32) × (line < 65536) × (j < 65536) ⌝ }
     requires { ⌜ Fits (now s) rounds (now x) × Fits (now s) (rounds + 1) (now b) ⌝ }
-    ensures { λ r. ⌜ Says r (AnsweredBy (now (s .entry)) rounds code j (at (now (x .entry))) (at (now (b .entry)))) ⌝ }
+    ensures { λ r. ⌜
+        countedOf r ≡ cut budget (tryReplies (leaves (challenger second) (cardOf (now (s .entry)) .lines) rounds) (lineOf (now (s .entry)) line)
+        (at (now (x .entry))) (at (now (b .entry))) (lineOf (now (s .entry)) j ∷ [])) ⌝ }
 {
-    if may_reply(s, j, code, b) {
+    if may_reply(s, j, line, b) {
         let y = field_after(s, j, b);
-        pair_holds(s, rounds, x, &y, budget)
+        if second {
+            pair_holds(s, rounds, &y, x, budget)
+        } else {
+            pair_holds(s, rounds, x, &y, budget)
+        }
     } else {
         Play::Fails(budget)
     }
 }
 
-// Whether b has such a reply.
+// "replies in line order up to the first that holds"
 fn some_reply(
     s: &[u8],
     rounds: u64,
-    code: usize,
+    second: bool,
+    line: usize,
     x: &[usize; 32],
     b: &[usize; 32],
     budget: usize,
 ) -> Play
-    requires { ⌜ kindCount (now s) ≤ 32 ⌝ }
+    requires { ⌜ (kindCount (now s) ≤ 32) × (line < 65536) ⌝ }
     requires { ⌜ Fits (now s) rounds (now x) × Fits (now s) (rounds + 1) (now b) ⌝ }
     ensures { λ r. ⌜
-        Says r (Reply (On (cardOf (now (s .entry)))) (model.Holds (cardOf (now (s .entry))) rounds) code (at (now (x .entry))) (at (now (b .entry)))) ⌝ }
+        countedOf r ≡ cut budget (tryReplies (leaves (challenger second) (cardOf (now (s .entry)) .lines) rounds) (lineOf (now (s .entry)) line)
+        (at (now (x .entry))) (at (now (b .entry))) (cardOf (now (s .entry)) .lines)) ⌝ }
 {
     let m = lines(s);
     let mut left = budget;
     let mut j = 0;
     while j < m {
-        match reply_holds(s, rounds, code, j, x, b, left) {
+        match reply_holds(s, rounds, second, line, j, x, b, left) {
             Play::Holds(rest) => {
                 return Play::Holds(rest);
             }
             Play::Fails(rest) => {
                 left = rest;
             }
-            Play::Unplayed => {
-                return Play::Unplayed;
+            Play::Spent => {
+                return Play::Spent;
             }
         }
         j += 1;
@@ -141,10 +100,11 @@ fn some_reply(
     Play::Fails(left)
 }
 
-// Whether line j, if a may use it, is a challenge to which b has a reply that leaves a pair which holds at `rounds` rounds.
+// Line j as the only challenge of a, if a may use it, against every reply of b.
 fn challenge_holds(
     s: &[u8],
     rounds: u64,
+    second: bool,
     j: usize,
     a: &[usize; 32],
     b: &[usize; 32],
@@ -152,36 +112,46 @@ fn challenge_holds(
 ) -> Play
     requires { ⌜ (kindCount (now s) ≤ 32) × (j < 65536) ⌝ }
     requires { ⌜ Fits (now s) (rounds + 1) (now a) × Fits (now s) (rounds + 1) (now b) ⌝ }
-    ensures { λ r. ⌜ Says r (Answers (now (s .entry)) rounds j (at (now (a .entry))) (at (now (b .entry)))) ⌝ }
+    ensures { λ r. ⌜
+        countedOf r ≡ cut budget (tryChallenges (leaves (challenger second) (cardOf (now (s .entry)) .lines) rounds) (cardOf (now (s .entry)) .lines)
+        (at (now (a .entry))) (at (now (b .entry))) (lineOf (now (s .entry)) j ∷ [])) ⌝ }
 {
     if may_use(s, j, a) {
         let x = field_after(s, j, a);
-        some_reply(s, rounds, line_code(s, j), &x, b, budget)
+        some_reply(s, rounds, second, j, &x, b, budget)
     } else {
         Play::Holds(budget)
     }
 }
 
-// Whether every challenge of a has such a reply.
-fn every_challenge(s: &[u8], rounds: u64, a: &[usize; 32], b: &[usize; 32], budget: usize) -> Play
+// "the first challenge with no such reply ends the pair": the challenges of a in line order.
+fn every_challenge(
+    s: &[u8],
+    rounds: u64,
+    second: bool,
+    a: &[usize; 32],
+    b: &[usize; 32],
+    budget: usize,
+) -> Play
     requires { ⌜ kindCount (now s) ≤ 32 ⌝ }
     requires { ⌜ Fits (now s) (rounds + 1) (now a) × Fits (now s) (rounds + 1) (now b) ⌝ }
     ensures { λ r. ⌜
-        Says r (Simulates (On (cardOf (now (s .entry)))) (model.Holds (cardOf (now (s .entry))) rounds) (at (now (a .entry))) (at (now (b .entry)))) ⌝ }
+        countedOf r ≡ cut budget (tryChallenges (leaves (challenger second) (cardOf (now (s .entry)) .lines) rounds) (cardOf (now (s .entry)) .lines)
+        (at (now (a .entry))) (at (now (b .entry))) (cardOf (now (s .entry)) .lines)) ⌝ }
 {
     let m = lines(s);
     let mut left = budget;
     let mut j = 0;
     while j < m {
-        match challenge_holds(s, rounds, j, a, b, left) {
+        match challenge_holds(s, rounds, second, j, a, b, left) {
             Play::Holds(rest) => {
                 left = rest;
             }
             Play::Fails(rest) => {
                 return Play::Fails(rest);
             }
-            Play::Unplayed => {
-                return Play::Unplayed;
+            Play::Spent => {
+                return Play::Spent;
             }
         }
         j += 1;
@@ -189,68 +159,73 @@ fn every_challenge(s: &[u8], rounds: u64, a: &[usize; 32], b: &[usize; 32], budg
     Play::Holds(left)
 }
 
-// "A pair holds at 0 rounds. It holds at r + 1 rounds just when every challenge has a reply that leaves a pair which holds at r." The
-// challenges of the second side are played with the sides exchanged, which does not alter what holds.
+// "A pair examined at r rounds counts 1. At 0 rounds it holds. Otherwise a challenge at r rounds is tried against replies at r - 1: lines of the first
+// side in line order, then of the second."
 fn pair_holds(s: &[u8], rounds: u64, a: &[usize; 32], b: &[usize; 32], budget: usize) -> Play
     requires { ⌜ kindCount (now s) ≤ 32 ⌝ }
     requires { ⌜ Fits (now s) rounds (now a) × Fits (now s) rounds (now b) ⌝ }
-    ensures { λ r. ⌜ Says r (model.Holds (cardOf (now (s .entry))) rounds (at (now (a .entry))) (at (now (b .entry)))) ⌝ }
+    ensures { λ r. ⌜ countedOf r ≡ cut budget (examine (cardOf (now (s .entry)) .lines) rounds (at (now (a .entry))) (at (now (b .entry)))) ⌝ }
 {
     if budget == 0 {
-        return Play::Unplayed;
+        return Play::Spent;
     }
     if rounds == 0 {
         return Play::Holds(budget - 1);
     }
-    match every_challenge(s, rounds - 1, a, b, budget - 1) {
-        Play::Holds(left) => every_challenge(s, rounds - 1, b, a, left),
+    match every_challenge(s, rounds - 1, false, a, b, budget - 1) {
+        Play::Holds(left) => every_challenge(s, rounds - 1, true, b, a, left),
         Play::Fails(left) => Play::Fails(left),
-        Play::Unplayed => Play::Unplayed,
+        Play::Spent => Play::Spent,
     }
 }
 
-// Whether two fields of the sheet hold at so many rounds, played with so many pairs at most. More than 200 rounds are not played, which bounds
-// the depth of the calls.
-pub fn holds(s: &[u8], rounds: u64, first: usize, second: usize, budget: usize) -> Play
-    ensures { λ r. ⌜ Says r (model.Holds (cardOf (now (s .entry))) rounds (fieldOf (now (s .entry)) first) (fieldOf (now (s .entry)) second)) ⌝ }
-{
-    if 32 < kinds(s) {
-        return Play::Unplayed;
-    }
-    if 200 < rounds {
-        return Play::Unplayed;
-    }
-    let f = fields(s);
-    if f <= first {
-        return Play::Unplayed;
-    }
-    if f <= second {
-        return Play::Unplayed;
-    }
-    let a = field(s, first);
-    let b = field(s, second);
-    pair_holds(s, rounds, &a, &b, budget)
-}
+// More rounds are not played, which bounds the depth of the calls.
+const ROUNDS: u64 = 200;
 
-// Two fields of the sheet tried at 1, 2, .. rounds, up to a limit, with so many pairs at most in all.
-pub fn parting(s: &[u8], limit: u64, first: usize, second: usize, budget: usize) -> Tried
-    ensures { λ r. ⌜ Finds r (λ q. model.Holds (cardOf (now (s .entry))) q (fieldOf (now (s .entry)) first) (fieldOf (now (s .entry)) second)) limit ⌝ }
+// The pair at 1, 2, .. rounds, up to a limit, with so many pairs at most in all.
+fn try_rounds(s: &[u8], limit: u64, a: &[usize; 32], b: &[usize; 32], budget: usize) -> Tried
+    requires { ⌜ kindCount (now s) ≤ 32 ⌝ }
+    requires { ⌜ Fits (now s) 200 (now a) × Fits (now s) 200 (now b) ⌝ }
+    ensures { λ r. ⌜ r ≡ tried (cardOf (now (s .entry)) .lines) (at (now (a .entry))) (at (now (b .entry))) budget 0 limit ⌝ }
 {
     let mut left = budget;
     let mut rounds: u64 = 0;
     while rounds < limit {
-        match holds(s, rounds + 1, first, second, left) {
+        if ROUNDS <= rounds {
+            return Tried::OutOfBounds(rounds);
+        }
+        match pair_holds(s, rounds + 1, a, b, left) {
             Play::Holds(rest) => {
                 left = rest;
             }
             Play::Fails(_) => {
                 return Tried::Parted(rounds + 1);
             }
-            Play::Unplayed => {
-                return Tried::Held(rounds);
+            Play::Spent => {
+                return Tried::OutOfBudget(rounds);
             }
         }
         rounds += 1;
     }
     Tried::Held(rounds)
+}
+
+// Two fields of the sheet at 1, 2, .. rounds, up to a limit, with so many pairs at most in all. No sheet of more than 32 kinds is played, and no
+// field that it does not have.
+pub fn parting(s: &[u8], limit: u64, first: usize, second: usize, budget: usize) -> Tried
+    ensures { λ r. ⌜ r ≡ partingOf (now (s .entry)) limit first second budget ⌝ }
+{
+    if 32 < kinds(s) {
+        return Tried::OutOfBounds(0);
+    }
+    let f = fields(s);
+    if f <= first {
+        return Tried::OutOfBounds(0);
+    }
+    if f <= second {
+        return Tried::OutOfBounds(0);
+    }
+    let a = field(s, first);
+    let b = field(s, second);
+    try_rounds(s, limit, &a, &b, budget)
 }

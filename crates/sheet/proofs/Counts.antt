@@ -11,8 +11,8 @@ use lib.Seq.{ext-getD, getD-take, getD-drop, getD-set-same, getD-set-other}
 use Rattle.model.specs.Finite.{listFrom}
 use Rattle.model.specs.Field.{at}
 use Rattle.model.specs.Sheet.{byte, counts}
-use Rattle.model.proofs.Exec.{Tells, tells-lt}
-use Rattle.model.proofs.Lists.{length-from, getD-from, getD-past}
+use Rattle.theory.proofs.Exec.{Tells, tells-lt}
+use Rattle.theory.proofs.Lists.{length-from, getD-from, getD-past}
 
 -- The counts of n kinds: those read below n, none from n on.
 pub counts-below : (n : ℕ) (f : ℕ → ℕ) (k : ℕ) → k < n → counts n f k ≡ f k

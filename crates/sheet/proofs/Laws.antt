@@ -11,24 +11,13 @@ use Rattle.model.specs.Field.{at}
 use Rattle.model.specs.Card.{Line, On}
 use Rattle.model.specs.Limits.{mostKinds, mostCodes, mostLines, mostFields}
 use Rattle.model.specs.Sheet.{linesOffset, byte, u16At, kindCount, codeCount, lineCount, fieldCount, fieldsOffset, totalOf, counts, lineOf, cardOf, fieldOf}
-use Rattle.model.specs.Refusal.{clear, refusal, firstOf, headerChecks, lineChecks, sheetChecks}
-use Rattle.model.proofs.Lists.{length-from, mem-from, from-mem}
-use Rattle.model.proofs.Sheets.{then, first-append, then-clear, small}
-use Rattle.model.proofs.Checks.{from-outside, from-less, from-differ, cons-none, all-none}
+use Rattle.model.specs.Refusal.{clear, firstOf, headerChecks, lineChecks, sheetChecks}
+use Rattle.theory.proofs.Lists.{length-from, mem-from, from-mem}
+use Rattle.theory.proofs.Sheets.{then, first-append, then-clear, small}
+use Rattle.theory.proofs.Checks.{from-outside, from-less, from-differ, cons-none, all-none}
 use Rattle.sheet.specs.declared.reader.Card.{Card}
-use Rattle.sheet.specs.declared.checks.Checked.the-variants.{Passed, Refused}
-use Rattle.sheet.specs.Reader.{headerOf, Reads, checkedOf, lineCounts, fieldCounts, numberChecks, layoutChecks}
-use Rattle.sheet.proofs.Checking.{refused-found, passed-found}
+use Rattle.sheet.specs.Reader.{Reads, lineCounts, fieldCounts, numberChecks, layoutChecks}
 use Rattle.sheet.proofs.Counts.{counts-below, counts-past, at-counts}
-
--- What the answer of the check of a sheet's bytes tells: the card was read, or a refusal comes first.
-pub checked-reads : (s : List ℕ) (c : Card) → checkedOf s ≡ Passed c → Reads s c
-unfolding checkedOf
-checked-reads s c e = let t = passed-found (headerOf s) (firstOf (sheetChecks s)) c e in record { header = t .0; passed = t .1 }
-
-pub checked-refused : (s : List ℕ) (k p : ℕ) → checkedOf s ≡ Refused k p → firstOf (sheetChecks s) ≡ refusal k p
-unfolding checkedOf
-checked-refused s k p e = refused-found (headerOf s) (firstOf (sheetChecks s)) k p e
 
 -- What checks 1 to 5 leave: the header's numbers are within their limits.
 pub record Numbers (s : List ℕ) : Type 0 where

@@ -2,5 +2,4 @@
 pub mod Counts  -- lists of counts, over any number of kinds
 pub mod Plus  -- sums of counts, over any number of kinds
 pub mod Laws  -- what a card that was read tells of its sheet
-pub mod Checking  -- what a check of the table comes to, by the comparison that it makes
 pub mod Reading  -- the places that the functions compute are those of the definitions

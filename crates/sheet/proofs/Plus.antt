@@ -8,7 +8,7 @@ use lib.ListN.{length, getD, set, List·getD-eq-default}
 use Rattle.model.specs.Finite.{listFrom}
 use Rattle.model.specs.Field.{Field, _⊕_, at}
 use Rattle.model.specs.Sheet.{counts}
-use Rattle.model.proofs.Lists.{length-from, getD-from, getD-past}
+use Rattle.theory.proofs.Lists.{length-from, getD-from, getD-past}
 use Rattle.sheet.specs.Sum.{plus}
 use Rattle.sheet.proofs.Counts.{counts-below, counts-past, counts-next, from-at, from-set}
 

@@ -6,10 +6,8 @@ use lib.ListN.{take, drop}
 use Rattle.model.specs.Finite.{listFrom}
 use Rattle.model.specs.Limits.{mostKinds}
 use Rattle.model.specs.Sheet.{kindCount, codeCount, lineCount, fieldCount, lineOf, fieldOf}
-use Rattle.model.specs.Refusal.{Check, Finding, clear, refusal, firstOf, headerChecks, sheetChecks}
+use Rattle.model.specs.Refusal.{Check, clear, firstOf, headerChecks, sheetChecks}
 use Rattle.sheet.specs.declared.reader.Card.{Card}
-use Rattle.sheet.specs.declared.checks.Checked.{Checked}
-use Rattle.sheet.specs.declared.checks.Checked.the-variants.{Passed, Refused}
 
 -- The header's numbers as the struct: "kinds n", "codes", "lines m", "fields f".
 abbrev pub headerOf : List ℕ → Card
@@ -26,15 +24,6 @@ numberChecks s = take 5 (headerChecks s)
 
 abbrev pub layoutChecks : List ℕ → List Check
 layoutChecks s = drop 5 (headerChecks s)
-
--- What the checks find, as the enum: the card where none applies, else the refusal with its number and place.
-unfoldable pub outcome : Card → Finding → Checked
-outcome c clear = Passed c
-outcome c (refusal k p) = Refused k p
-
--- The card, or the first of 1 to 8 that applies.
-unfoldable pub checkedOf : List ℕ → Checked
-checkedOf s = outcome (headerOf s) (firstOf (sheetChecks s))
 
 -- A line's counts: "then n count bytes: the tokens left behind".
 unfoldable pub lineCounts : List ℕ → ℕ → List ℕ

@@ -7,7 +7,7 @@ use native.Mathlib.Nat.{pow-suc}
 use native.Mathlib.Omega.{arith}
 use lib.ListN.{length, length-append}
 use Rattle.model.specs.Page.{number}
-use Rattle.model.proofs.Decimals.{decimals}
+use Rattle.theory.proofs.Decimals.{decimals}
 use Rattle.text.specs.Appended.{Appended}
 use Rattle.text.proofs.Append.{then, reads-as}
 

@@ -5,5 +5,3 @@ pub mod Append
 pub mod Decimal
 -- A loop that appends one text after another.
 pub mod Sequence
--- The lines: what the writers append one after another, and the model's.
-pub mod Lines

@@ -9,7 +9,7 @@ use lib.ListN.{length, getD}
 use Rattle.model.specs.Finite.{concat, listFrom}
 use Rattle.model.specs.Page.{bytes, countsOf}
 use Rattle.text.specs.Appended.{Appended}
-use Rattle.text.specs.Line.{countText}
+use Rattle.text.specs.Count.{countText}
 use Rattle.text.proofs.Append.{nothing, then, reads-as}
 
 module _ (f : ℕ → List ℕ) where

@@ -5,7 +5,7 @@ ghost use Prim.Native.Nat.{_+_, _*_, _≤_};
 ghost use lib.ListN.{length};
 ghost use Rattle.model.specs.Page.{countsOf};
 ghost use Rattle.text.specs.Appended.{Appended};
-ghost use Rattle.text.specs.Line.{countText};
+ghost use Rattle.text.specs.Count.{countText};
 
 // One count, with the space before it.
 fn put_count(out: &mut [u8], at: usize, count: u64) -> usize

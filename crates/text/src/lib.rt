@@ -1,8 +1,9 @@
-// The texts of the page and of the walk's line, over plain values: each writer appends its text to what a lent buffer holds up to a position, and answers the position past it.
+// Byte strings, numbers and counts as text: each writer appends its text to what a lent buffer holds up to a position, and answers the position past it.
 
 // Byte strings and decimal numbers.
 mod number;
 
+pub use number::put_byte;
 pub use number::put_bytes;
 pub use number::put_labelled;
 pub use number::put_number;
@@ -13,14 +14,3 @@ mod counts;
 
 pub use counts::put_form;
 pub use counts::put_row;
-
-// The lines.
-mod line;
-
-pub use line::put_different;
-pub use line::put_field;
-pub use line::put_head;
-pub use line::put_kind;
-pub use line::put_not_called;
-pub use line::put_refused;
-pub use line::put_same;

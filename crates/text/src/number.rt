@@ -7,7 +7,7 @@ ghost use Rattle.model.specs.Page.{number};
 ghost use Rattle.text.specs.Appended.{Appended};
 
 // One byte.
-fn put_byte(out: &mut [u8], at: usize, byte: u8) -> usize
+pub fn put_byte(out: &mut [u8], at: usize, byte: u8) -> usize
     requires { ⌜ at < length (now out) ⌝ }
     ensures { λ r. ⌜ Appended 1 (now (out .entry)) at (byte ∷ []) (now (out .exit)) r ⌝ }
 {

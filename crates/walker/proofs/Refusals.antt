@@ -11,8 +11,8 @@ use Rattle.model.specs.Sheet.{fieldCount, cardOf, fieldOf}
 use Rattle.model.specs.Walk.{walk}
 use Rattle.model.specs.Refusal.{Check, check, clear, refusal, firstOf, sheetChecks, walkChecks}
 use Rattle.model.specs.Answer.{Session, within, fullWalk, walkOf}
-use Rattle.model.proofs.Sheets.{not-small, not-less, clear-nil}
-use Rattle.model.proofs.Checks.{first-left, first-right, first-here, first-later}
+use Rattle.theory.proofs.Sheets.{not-small, not-less, clear-nil}
+use Rattle.theory.proofs.Checks.{first-left, first-right, first-here, first-later}
 use Rattle.walker.specs.Answers.{refusedOf}
 
 module _ (s : List ℕ) (i j limit : ℕ) (v : Session) where
@@ -21,7 +21,7 @@ module _ (s : List ℕ) (i j limit : ℕ) (v : Session) where
   unfolding walkOf
   found-refused k p e = rw (e, walkOf) refl
 
-  found-clear : firstOf (walkChecks s i j limit) ≡ clear → within v (fullWalk s i j limit) ≡ walkOf s i j limit v
+  pub found-clear : firstOf (walkChecks s i j limit) ≡ clear → within v (fullWalk s i j limit) ≡ walkOf s i j limit v
   unfolding walkOf
   found-clear e = rw (e, walkOf) refl
 

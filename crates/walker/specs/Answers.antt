@@ -24,3 +24,7 @@ walkedOf w = record { answer = answerOf (w .answer); drawn = w .drawn; after = s
 -- "A refused call leaves .. the session as [it was]", and draws nothing.
 abbrev pub refusedOf : ℕ → ℕ → model.Session → model.Walked
 refusedOf number place v = record { answer = model.refused number place; drawn = 0; after = v }
+
+-- "Spent .. draws all of it": of the allowance left.
+abbrev pub spentOf : ℕ → model.Walked
+spentOf left = record { answer = model.given spent; drawn = left; after = record { left = 0 } }

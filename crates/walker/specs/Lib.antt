@@ -1,4 +1,3 @@
 -- What the contracts cite.
-pub mod Rounds  -- a part of the walk where the allowance may end it, and the lines in order
-pub mod Following  -- the table of the lines that follow
 pub mod Answers  -- the answer and the session as the model has them
+pub mod Promises  -- what the answer means: demand 1 and the round game, of the enum that the call returns

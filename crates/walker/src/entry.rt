@@ -1,11 +1,11 @@
 // The walk as it is called: the checks, the numbers of rounds one after another, and the session.
-use crate::follow::ENTRIES;
-use crate::follow::fill_table;
-use crate::game::Examined;
-use crate::game::examine_pair;
+use game::rounds::Examined;
+use game::rounds::challenge;
+use moves::follow::ENTRIES;
+use moves::follow::fill_table;
 use sheet::Card;
-use sheet::Checked;
-use sheet::check_sheet;
+use validation::Checked;
+use validation::check_sheet;
 ghost use mathlib.Core.Path.{_≡_};
 ghost use Prim.Native.Nat.{_≤_, _<_};
 ghost use Rattle.model.specs.Field.{at};
@@ -14,9 +14,9 @@ ghost use Rattle.model.specs.Sheet.{cardOf};
 ghost use Rattle.model.specs.Walk as model;
 ghost use Rattle.model.specs.Answer.{within, walkOf};
 ghost use Rattle.sheet.specs.Reader.{Reads};
-ghost use Rattle.walker.specs.Rounds.{Bounded};
-ghost use Rattle.walker.specs.Following.{Follows};
-ghost use Rattle.walker.specs.Answers.{sessionOf, walkedOf, refusedOf};
+ghost use Rattle.moves.specs.Lines.{Bounded};
+ghost use Rattle.moves.specs.Following.{Follows};
+ghost use Rattle.walker.specs.Answers.{sessionOf, walkedOf, refusedOf, spentOf};
 
 // "the allowance, 32 bits for all callers together, [belongs] to the session": what is left of it.
 pub struct Session {
@@ -60,11 +60,22 @@ fn refuse(number: usize, place: usize, session: Session) -> Walked
     }
 }
 
-// "It tries 1, 2, up to the limit."
+// "Spent .. draws all of it": of the allowance left.
+fn spend(allowance: u32) -> Walked
+    ensures { λ r. ⌜ walkedOf r ≡ spentOf allowance ⌝ }
+{
+    Walked {
+        answer: Answer::Spent,
+        drawn: allowance,
+        session: Session { left: 0 },
+    }
+}
+
+// "It tries 1, 2, up to the limit", each time from the pair itself, which counts 1.
 fn try_rounds(
     card: Card,
     s: &[u8],
-    t: &[u16],
+    t: &[u16; ENTRIES],
     a: &[u32; 32],
     b: &[u32; 32],
     limit: u64,
@@ -77,10 +88,14 @@ fn try_rounds(
         walkedOf r ≡ within (sessionOf session) (model.walk (cardOf (now (s .entry)) .lines) (at (now (a .entry))) (at (now (b .entry))) 1 limit) ⌝ }
 {
     let allowance = session.left;
+    let challenges = 2 * card.lines;
     let mut left = allowance;
     let mut rounds: u64 = 1;
     while rounds <= limit {
-        match examine_pair(card, s, t, rounds, a, b, left) {
+        if left == 0 {
+            return spend(allowance);
+        }
+        match challenge(card, s, t, rounds, 0, challenges, a, b, left - 1) {
             Examined::Holds(rest) => {
                 left = rest;
             }
@@ -91,13 +106,7 @@ fn try_rounds(
                     session: Session { left: rest },
                 };
             }
-            Examined::Spent => {
-                return Walked {
-                    answer: Answer::Spent,
-                    drawn: allowance,
-                    session: Session { left: 0 },
-                };
-            }
+            Examined::Spent => return spend(allowance),
         }
         rounds += 1;
     }

@@ -1,8 +1,4 @@
 // The walk: two fields tried at 1, 2, .. rounds, within a session's allowance.
-pub mod moves; // the use of a line
-pub mod follow; // the table of the lines that follow
-pub mod lines; // the next line that a side may use
-pub mod game; // a pair of fields at a number of rounds: challenge and reply
 pub mod entry; // the session, the answer and the call itself
 
 pub use entry::Answer;

@@ -1,7 +1,7 @@
 // The line that a walk answers.
 use text::put_bytes;
 use text::put_labelled;
-use text::put_refused;
+use verdicts::put_refused;
 use walker::Answer;
 use walker::Walked;
 ghost use Prim.Native.Nat.{_+_, _≤_};

@@ -4,7 +4,7 @@ use mathlib.Core.Path.{_≡_, sym, _∙_}
 use native.Mathlib.Omega.{arith}
 use lib.ListN.{length}
 use Rattle.sheet.proofs.Laws.{kinds-most}
-use Rattle.base.proofs.Tables.{at-kind}
+use Rattle.tables.proofs.Tables.{at-kind}
 use Rattle.base.proofs.Fields.{part-long, part-form}
 use Rattle.base.proofs.parting.field_form.Statement.{statement}
 use Rattle.base.proofs.parting.field_form.Tie as tie

@@ -1,7 +1,7 @@
 -- A pair that parted earlier stays so, one with equal forms goes on, one with other forms parts here.
 use borrow.Author.Needs.{needs}
 use mathlib.Core.Path.{sym, _∙_}
-use Rattle.base.proofs.Tables.{told-not}
+use Rattle.tables.proofs.Tables.{told-not}
 use Rattle.base.proofs.Parted.{parted-stays, parted-later, parted-now}
 use Rattle.base.proofs.parting.parted_by_form.Statement.{statement}
 use Rattle.base.proofs.parting.parted_by_form.Tie as tie

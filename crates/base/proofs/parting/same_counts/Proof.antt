@@ -5,7 +5,7 @@ use mathlib.Core.Path.{_∙_, sym}
 use native.Mathlib.Omega.{arith}
 use lib.ListN.{length}
 use Rattle.model.specs.Field.{at}
-use Rattle.base.proofs.Tables.{Agree, agree-none, agree-more, agree-all, tells-same, differ, past}
+use Rattle.tables.proofs.Tables.{Agree, agree-none, agree-more, agree-all, tells-same, differ, past}
 use Rattle.base.proofs.parting.same_counts.Statement.{statement}
 use Rattle.base.proofs.parting.same_counts.Tie as tie
 

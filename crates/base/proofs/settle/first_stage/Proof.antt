@@ -2,7 +2,7 @@
 use borrow.Author.Needs.{needs}
 use native.Mathlib.Omega.{arith}
 use Rattle.model.specs.Limits.{mostLines}
-use Rattle.base.proofs.Classes.{bounds-first}
+use Rattle.rows.proofs.Classes.{bounds-first}
 use Rattle.base.proofs.LineTables.{few-lines}
 use Rattle.base.proofs.settle.first_stage.Statement.{statement}
 use Rattle.base.proofs.settle.first_stage.Tie as tie

@@ -2,7 +2,7 @@
 use borrow.Author.Needs.{needs}
 use mathlib.Core.Path.{sym, _∙_}
 use Rattle.sheet.proofs.Laws.{lines-are}
-use Rattle.base.proofs.StageRows.{base-atoms, lowering-forms}
+use Rattle.rows.proofs.StageRows.{base-atoms, lowering-forms}
 use Rattle.base.proofs.LineTables.{whole-tables, tables-classes, tables-bounds, bounds-tables}
 use Rattle.base.proofs.settle.line_classes.Statement.{statement}
 use Rattle.base.proofs.settle.line_classes.Tie as tie

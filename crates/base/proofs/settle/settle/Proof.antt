@@ -4,7 +4,7 @@ use mathlib.Core.Path.{sym}
 use native.Mathlib.Omega.{arith}
 use lib.Seq.{length-take-le}
 use Rattle.sheet.proofs.Laws.{lines-most}
-use Rattle.base.proofs.Tables.{zero-under}
+use Rattle.tables.proofs.Tables.{zero-under}
 use Rattle.base.proofs.LineTables.{read-lines}
 use Rattle.base.proofs.settle.settle.Statement.{statement}
 use Rattle.base.proofs.settle.settle.Tie as tie

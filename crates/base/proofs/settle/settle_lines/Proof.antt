@@ -2,10 +2,10 @@
 use Prim.Native.Nat.{_+_, _-_, _≤_}
 use native.Mathlib.Omega.{arith}
 use Rattle.sheet.proofs.Laws.{kinds-are, kinds-most}
-use Rattle.base.specs.Forms.{FormTable}
+use Rattle.rows.specs.Forms.{FormTable}
 use Rattle.base.specs.Settle.{AtStage}
-use Rattle.base.proofs.Tables.{told-not}
-use Rattle.base.proofs.StageRows.{kinds-few}
+use Rattle.tables.proofs.Tables.{told-not}
+use Rattle.rows.proofs.StageRows.{kinds-few}
 use Rattle.base.proofs.LineTables.{few-lines}
 use Rattle.base.proofs.Unsettled.{Unsettled, unsettled-start, unsettled-most, held-atoms, held-end, held-more}
 use Rattle.base.proofs.settle.settle_lines.Statement.{statement}

@@ -3,7 +3,7 @@ use borrow.Author.Needs.{needs}
 use mathlib.Core.Path.{_≡_, sym}
 use Prim.Native.Nat.{suc, _-_}
 use lib.ListN.{length}
-use Rattle.base.specs.StageRows.{RowsFound}
+use Rattle.rows.specs.StageRows.{RowsFound}
 use Rattle.base.proofs.Unsettled.{found-before}
 use Rattle.base.proofs.settle.stage_of.Statement.{statement}
 use Rattle.base.proofs.settle.stage_of.Tie as tie

@@ -3,8 +3,8 @@ use borrow.Author.Needs.{needs}
 use mathlib.Core.Path.{sym, _∙_, ap}
 use native.Mathlib.Omega.{arith}
 use Rattle.model.specs.Refusal.{Accepted}
-use Rattle.norms.specs.declared.accept.Acceptance.{Acceptance}
-use Rattle.norms.proofs.Acceptances.{accepts, refused}
+use Rattle.acceptance.specs.declared.accept.Acceptance.{Acceptance}
+use Rattle.acceptance.proofs.Acceptances.{accepts, refused}
 use Rattle.exports.proofs.Codes.{found-fits, accept-small}
 use Rattle.exports.proofs.Outcomes.{short-clear, short-refused}
 use Rattle.exports.proofs.settle.short_code.Statement.{statement}

@@ -2,9 +2,9 @@
 use borrow.Author.Needs.{needs}
 use native.Mathlib.Omega.{arith}
 use mathlib.Core.Path.{_≡_}
-use Rattle.model.specs.Widths.{Bytes}
+use Rattle.theory.specs.Widths.{Bytes}
 use Rattle.sheet.specs.declared.reader.Card.{Card}
-use Rattle.sheet.specs.declared.checks.Checked.the-variants.{Passed}
+use Rattle.validation.specs.declared.checks.Checked.the-variants.{Passed}
 use Rattle.sheet.proofs.Laws.{fields-most}
 use Rattle.filer.proofs.Settlements.{was-accepted, compare-refuses, compare-no-first, compare-no-second, compare-same-called, compare-rounds-fit, compare-different-called}
 use Rattle.filer.proofs.compare.compare_settled.Statement.{statement}

@@ -5,10 +5,10 @@ use mathlib.Core.Path.{_≡_, sym}
 use Prim.Native.Nat.{_≤_}
 use lib.ListN.{length}
 use lib.Seq.{length-take-le}
-use Rattle.model.specs.Widths.{Bytes}
+use Rattle.theory.specs.Widths.{Bytes}
 use Rattle.sheet.specs.Reader.{Reads}
 use Rattle.sheet.specs.declared.reader.Card.{Card}
-use Rattle.sheet.specs.declared.checks.Checked.the-variants.{Passed}
+use Rattle.validation.specs.declared.checks.Checked.the-variants.{Passed}
 use Rattle.sheet.proofs.Laws.{kinds-most}
 use Rattle.filer.proofs.Settlements.{was-accepted, form-refuses, form-no-field, form-short, forms-fit, form-writes}
 use Rattle.filer.proofs.form.form_settled.Statement.{statement}

@@ -4,7 +4,7 @@ use native.Mathlib.Omega.{arith}
 use mathlib.Core.Path.{_≡_}
 use Rattle.sheet.specs.Reader.{Reads}
 use Rattle.sheet.specs.declared.reader.Card.{Card}
-use Rattle.sheet.specs.declared.checks.Checked.the-variants.{Passed}
+use Rattle.validation.specs.declared.checks.Checked.the-variants.{Passed}
 use Rattle.sheet.proofs.Laws.{kinds-most}
 use Rattle.filer.specs.Settlement.{IsSettlement}
 use Rattle.filer.proofs.Rows.{square-most}

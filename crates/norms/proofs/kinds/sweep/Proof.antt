@@ -8,7 +8,7 @@ use Rattle.model.specs.Sheet.{lineOf}
 use Rattle.model.specs.Limits.{mostKinds, normLimit}
 use Rattle.sheet.proofs.Laws.{kinds-most, kind-under}
 use Rattle.norms.specs.Norms.{arrayOf}
-use Rattle.norms.specs.Sweep.{readValue}
+use Rattle.weights.specs.Value.{readValue}
 use Rattle.norms.proofs.Laws.{kind-most, part-short, part-left}
 use Rattle.norms.proofs.Sweeps.{foundFrom, found-start, found-more, found-end}
 use Rattle.norms.proofs.kinds.sweep.Statement.{statement}

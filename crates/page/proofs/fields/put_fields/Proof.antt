@@ -1,10 +1,10 @@
 -- `put_fields`: after i turns the lines of the first i fields are appended.
 use mathlib.Core.Path.{_≡_, ap}
-use Prim.Native.Nat.{ℕ, _+_, _-_, _*_, _≤_}
+use Prim.Native.Nat.{ℕ, _-_, _*_, _≤_}
 use native.Mathlib.Omega.{arith}
 use Rattle.model.specs.Finite.{concat, listFrom}
 use Rattle.text.specs.Appended.{Appended}
-use Rattle.text.specs.Line.{fieldAt, fieldsText}
+use Rattle.listing.specs.Line.{fieldAt, fieldsText}
 use Rattle.text.proofs.Append.{reads-as}
 use Rattle.text.proofs.Sequence.{no-text, next-text}
 use Rattle.page.proofs.fields.put_fields.Statement.{statement}

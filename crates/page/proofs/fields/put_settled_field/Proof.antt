@@ -1,11 +1,10 @@
 -- `put_settled_field`: the first counts of the buffer that Prime form wrote to.
-use mathlib.Core.Path.{_≡_, sym, ap}
-use Prim.Native.Nat.{_+_, _*_}
+use mathlib.Core.Path.{sym, ap}
 use native.Mathlib.Omega.{arith}
-use lib.ListN.{length, take, replicate}
+use lib.ListN.{replicate}
 use lib.Seq.{length-take-le}
 use Rattle.sheet.proofs.Laws.{kinds-most}
-use Rattle.text.specs.Line.{fieldText, fieldAt}
+use Rattle.listing.specs.Line.{fieldText, fieldAt}
 use Rattle.text.proofs.Append.{reads-as}
 use Rattle.page.proofs.Pages.{form-part}
 use borrow.Author.Needs.{needs}

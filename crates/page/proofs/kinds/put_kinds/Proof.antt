@@ -1,13 +1,12 @@
 -- `put_kinds`: after k turns the lines of the first k kinds are appended.
 use mathlib.Core.Path.{_≡_, _∙_, ap}
-use mathlib.Core.List.{List}
-use Prim.Native.Nat.{ℕ, _+_, _-_, _*_, _≤_}
+use Prim.Native.Nat.{ℕ, _-_, _*_, _≤_}
 use native.Mathlib.Omega.{arith}
 use lib.ListN.{length}
 use Rattle.model.specs.Finite.{concat, listFrom}
 use Rattle.model.specs.Field.{at}
 use Rattle.text.specs.Appended.{Appended}
-use Rattle.text.specs.Line.{kindText, kindAt, kindsText}
+use Rattle.listing.specs.Line.{kindText, kindAt, kindsText}
 use Rattle.text.proofs.Append.{reads-as}
 use Rattle.text.proofs.Sequence.{no-text, next-text}
 use Rattle.page.proofs.Pages.{row-length}

@@ -1,7 +1,7 @@
 -- `put_pair`: each case of the verdict has its line.
 use mathlib.Core.Path.{sym, ap}
 use native.Mathlib.Omega.{arith}
-use Rattle.text.specs.Line.{pairText}
+use Rattle.verdicts.specs.Pair.{pairText}
 use Rattle.filer.specs.Answers.{verdictOf}
 use Rattle.text.proofs.Append.{reads-as}
 use borrow.Author.Needs.{needs}

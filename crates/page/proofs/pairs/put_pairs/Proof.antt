@@ -1,11 +1,11 @@
 -- `put_pairs`: before the pair of field `later` the lines of those before it are appended.
 use mathlib.Core.Path.{_≡_, _∙_, ap}
-use Prim.Native.Nat.{ℕ, _+_, _-_, _*_, _≤_}
+use Prim.Native.Nat.{ℕ, _-_, _*_, _≤_}
 use native.Mathlib.Omega.{arith}
 use Rattle.model.specs.Finite.{concat, listFrom}
 use Rattle.model.specs.Answer.{compareOf}
 use Rattle.text.specs.Appended.{Appended}
-use Rattle.text.specs.Line.{pairText, pairAt, pairsText}
+use Rattle.verdicts.specs.Pair.{pairText, pairAt, pairsText}
 use Rattle.text.proofs.Append.{reads-as}
 use Rattle.text.proofs.Sequence.{no-text, later-text}
 use Rattle.page.proofs.pairs.put_pairs.Statement.{statement}

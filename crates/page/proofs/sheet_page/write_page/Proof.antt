@@ -7,6 +7,9 @@ use borrow.Author.Needs.{needs}
 use Rattle.page.proofs.sheet_page.write_page.Statement.{statement}
 use Rattle.page.proofs.sheet_page.write_page.Tie as tie
 
+blank-requires : tie.Need-blank-requires
+blank-requires c κs = search needs
+
 slice-aggregate-put-page : tie.Need-slice-aggregate-put-page
 slice-aggregate-put-page c = search needs
 
@@ -18,7 +21,7 @@ put-page-requires c κs = search needs
 
 returns : tie.Need-returns
 returns c =
-    let start = c .before .before .before .before .before .before .before in
+    let start = c .before .before .before .before .before .before .before .before in
     answers-short (start .args .s .now) (start .args .out .now) (c .before .before .before .input-part .ensures) (c .before .before .put-page .ensures) (omega arith)
 
 array-share-prefix-page : tie.Need-array-share-prefix-page
@@ -39,13 +42,14 @@ same-length c = search needs
 
 returns-2 : tie.Need-returns-2
 returns-2 c =
-    let start = c .before .before .before .before .before .before .before .before .before .before .before .before in
+    let start = c .before .before .before .before .before .before .before .before .before .before .before .before .before in
     answers-written (start .args .s .now) (start .args .out .now) (c .before .before .before .before .before .before .before .before .input-part .ensures) (c .before .before .before .before .before .before .before .put-page .ensures) (omega arith) (c .before .before .put-bytes .ensures)
 
 pub write-page-spec : {M : Type 1} → statement M
 write-page-spec =
     tie.close
     (tie.spec
+    blank-requires
     slice-aggregate-put-page
     input-part-requires
     put-page-requires

@@ -2,7 +2,7 @@
 use mathlib.Core.Path.{refl}
 use native.Mathlib.Omega.{arith}
 use Rattle.model.specs.Page.{bytes}
-use Rattle.text.specs.Line.{countText}
+use Rattle.text.specs.Count.{countText}
 use Rattle.text.proofs.Append.{reads-as}
 use borrow.Author.Needs.{needs}
 use Rattle.text.proofs.counts.put_count.Statement.{statement}

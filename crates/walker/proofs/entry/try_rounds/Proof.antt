@@ -8,18 +8,20 @@ use Prim.Native.Nat.{_+_, _-_, _≤_}
 use Rattle.model.specs.Field.{at}
 use Rattle.model.specs.Limits.{mostRounds}
 use Rattle.model.specs.Sheet.{cardOf}
-use Rattle.model.specs.Walk.{walk}
+use Rattle.model.specs.Walk.{examine, walk}
 use Rattle.model.specs.Answer.{within}
-use Rattle.walker.proofs.Fields.{bounded-less}
+use Rattle.theory.specs.Counted.{cut}
+use Rattle.theory.proofs.Counted.{pair-spent}
+use Rattle.sheet.proofs.Laws.{lines-most}
+use Rattle.game.specs.Rounds.{countedOf}
+use Rattle.moves.proofs.Fields.{bounded-less}
+use Rattle.game.proofs.Steps.{pair-challenged}
 use Rattle.walker.proofs.Tries.{walkFrom, starts, none-left, tries-within, tries-spent, tries-apart, tries-on}
 use Rattle.walker.proofs.entry.try_rounds.Statement.{statement}
 use Rattle.walker.proofs.entry.try_rounds.Tie as tie
-use Rattle.walker.proofs.entry.try_rounds.Reads as reads
-use Rattle.walker.proofs.entry.try_rounds.Lts as lts
-use Rattle.walker.proofs.game.examine_pair.Reads as examine-pair-reads
 
 abbrev Inv-loop : tie.InvT-loop
-Inv-loop card s follow a b limit allowance left₀ rounds₀ left rounds =
+Inv-loop card s t a b limit allowance challenges left₀ rounds₀ left rounds =
     (1 ≤ rounds)
     × (rounds ≤ limit + 1)
     × (left ≤ allowance)
@@ -27,7 +29,10 @@ Inv-loop card s follow a b limit allowance left₀ rounds₀ left rounds =
     ≡ within (record { left = allowance }) (walk (cardOf s .lines) (at a) (at b) 1 limit))
 
 abbrev μ-loop : tie.MeasureT-loop
-μ-loop card s t a b limit allowance left₀ rounds₀ left rounds = limit + 1 - rounds
+μ-loop card s t a b limit allowance challenges left₀ rounds₀ left rounds = limit + 1 - rounds
+
+mul-challenges : tie.Need-mul-challenges Inv-loop μ-loop
+mul-challenges c = omega (arith, lines-most (c .before .before .pre .0 .0))
 
 loop-holds : tie.Need-loop-holds Inv-loop μ-loop
 loop-holds c =
@@ -40,11 +45,34 @@ loop-holds c =
           ∙ starts (cardOf (a .s .now) .lines) (at (a .a .now)) (at (a .b .now)) (record { left = a .session .left }) 1 (a .limit),
     )
 
-examine-pair-requires : tie.Need-examine-pair-requires Inv-loop μ-loop
-examine-pair-requires c κs =
-    let p = c .before .before .before .before .pre in
-    let h : c .before .loop .rounds ≤ mostRounds = omega (arith, p .1 .0) in
-    (p .0, (h, (bounded-less mostRounds (c .before .loop .rounds) _ h (p .1 .1 .0), bounded-less mostRounds (c .before .loop .rounds) _ h (p .1 .1 .1))))
+spend-requires : tie.Need-spend-requires Inv-loop μ-loop
+spend-requires c κs = search needs
+
+-- Nothing is left for the pair itself.
+returns : tie.Need-returns Inv-loop μ-loop
+returns c =
+    let a = c .before .before .before .before .before .before .args in
+    let l = c .before .before .before .loop in
+    c .spend .ensures
+    ∙ tries-spent (cardOf (a .s .now) .lines) (at (a .a .now)) (at (a .b .now)) (record { left = a .session .left }) (l .left) (l .rounds) (a .limit + 1 - l .rounds) (l .inv .2) (a .limit - l .rounds) (omega (arith, c .before .before .loop-test .taken))
+    (sym (pair-spent (cardOf (a .s .now) .lines) (at (a .a .now)) (at (a .b .now)) (l .left) (l .rounds) (c .before .if1 .taken)))
+    ∙ l .inv .3
+
+sub-challenge : tie.Need-sub-challenge Inv-loop μ-loop
+sub-challenge c = search needs
+
+challenge-requires : tie.Need-challenge-requires Inv-loop μ-loop
+challenge-requires c κs =
+    let p = c .before .before .before .before .before .pre in
+    let l = c .before .before .loop in
+    let h : l .rounds ≤ mostRounds = omega (arith, p .1 .0, c .before .loop-test .taken) in
+    (p .0, (omega (arith, l .inv), (bounded-less mostRounds (l .rounds) _ h (p .1 .1 .0), bounded-less mostRounds (l .rounds) _ h (p .1 .1 .1))))
+
+-- What the pair comes to at these rounds.
+pair-examined : (c : tie.After-challenge Inv-loop μ-loop) → countedOf (c .challenge .result) ≡ cut (c .before .before .before .loop .left) (examine (cardOf (c .before .before .before .before .before .before .args .s .now) .lines) (c .before .before .before .loop .rounds) (at (c .before .before .before .before .before .before .args .a .now)) (at (c .before .before .before .before .before .before .args .b .now)))
+pair-examined c =
+    let l = c .before .before .before .loop in
+    c .challenge .ensures ∙ pair-challenged (c .before .before .before .before .before .before .pre .0 .0) (l .rounds) (l .left) (at (c .before .before .before .before .before .before .args .a .now)) (at (c .before .before .before .before .before .before .args .b .now)) (c .before .if1 .left) (λ z. omega (arith, l .inv .0))
 
 enum-known-rest : tie.Need-enum-known-rest Inv-loop μ-loop
 enum-known-rest c = search needs
@@ -52,56 +80,58 @@ enum-known-rest c = search needs
 enum-known-rest-2 : tie.Need-enum-known-rest-2 Inv-loop μ-loop
 enum-known-rest-2 c = search needs
 
-sub-t16 : tie.Need-sub-t16 Inv-loop μ-loop
-sub-t16 c =
-    let a = c .before .before .before .before .before .before .before .before .args in
-    let l = c .before .before .before .before .before .loop in
-    tries-within (cardOf (a .s .now) .lines) (at (a .a .now)) (at (a .b .now)) (record { left = a .session .left }) (l .left) (l .rounds) (a .limit + 1 - l .rounds) (l .inv .2) false _ (sym (c .before .before .before .examine-pair .ensures) ∙ c .before .rest2 .given .1)
+sub-t18 : tie.Need-sub-t18 Inv-loop μ-loop
+sub-t18 c =
+    let a = c .before .before .before .before .before .before .before .before .before .args in
+    let l = c .before .before .before .before .before .before .loop in
+    omega (arith, l .inv .2, tries-within (cardOf (a .s .now) .lines) (at (a .a .now)) (at (a .b .now)) (record { left = a .session .left }) (l .left) (l .rounds) (a .limit + 1 - l .rounds) (l .inv .2) false _ (sym (pair-examined (c .before .before .before)) ∙ ap countedOf (c .before .rest2 .given .1)))
 
-returns : tie.Need-returns Inv-loop μ-loop
-returns c =
-    let a = c .before .before .before .before .before .before .before .before .args in
-    let l = c .before .before .before .before .before .loop in
-    tries-apart (cardOf (a .s .now) .lines) (at (a .a .now)) (at (a .b .now)) (record { left = a .session .left }) (l .left) (l .rounds) (a .limit + 1 - l .rounds) (l .inv .2) (a .limit - l .rounds) (omega (arith, c .before .before .before .before .loop-test .taken)) _
-    (sym (c .before .before .before .examine-pair .ensures) ∙ c .before .rest2 .given .1)
+returns-2 : tie.Need-returns-2 Inv-loop μ-loop
+returns-2 c =
+    let a = c .before .before .before .before .before .before .before .before .before .args in
+    let l = c .before .before .before .before .before .before .loop in
+    tries-apart (cardOf (a .s .now) .lines) (at (a .a .now)) (at (a .b .now)) (record { left = a .session .left }) (l .left) (l .rounds) (a .limit + 1 - l .rounds) (l .inv .2) (a .limit - l .rounds) (omega (arith, c .before .before .before .before .before .loop-test .taken)) _ (sym (pair-examined (c .before .before .before)) ∙ ap countedOf (c .before .rest2 .given .1))
     ∙ l .inv .3
 
 enum-told : tie.Need-enum-told Inv-loop μ-loop
 enum-told c = search needs
 
-returns-2 : tie.Need-returns-2 Inv-loop μ-loop
-returns-2 c =
-    let a = c .before .before .before .before .before .before .before .args in
-    let l = c .before .before .before .before .loop in
-    tries-spent (cardOf (a .s .now) .lines) (at (a .a .now)) (at (a .b .now)) (record { left = a .session .left }) (l .left) (l .rounds) (a .limit + 1 - l .rounds) (l .inv .2) (a .limit - l .rounds) (omega (arith, c .before .before .before .loop-test .taken))
-    (sym (c .before .before .examine-pair .ensures) ∙ c .enum-told .given .1)
+spend-requires-2 : tie.Need-spend-requires-2 Inv-loop μ-loop
+spend-requires-2 c κs = search needs
+
+returns-3 : tie.Need-returns-3 Inv-loop μ-loop
+returns-3 c =
+    let a = c .before .before .before .before .before .before .before .before .before .args in
+    let l = c .before .before .before .before .before .before .loop in
+    c .spend2 .ensures
+    ∙ tries-spent (cardOf (a .s .now) .lines) (at (a .a .now)) (at (a .b .now)) (record { left = a .session .left }) (l .left) (l .rounds) (a .limit + 1 - l .rounds) (l .inv .2) (a .limit - l .rounds) (omega (arith, c .before .before .before .before .before .loop-test .taken)) (sym (pair-examined (c .before .before .before)) ∙ ap countedOf (c .before .enum-told .given .1))
     ∙ l .inv .3
 
 add-rounds : tie.Need-add-rounds Inv-loop μ-loop
-add-rounds c = omega (arith, c .before .before .before .before .loop-test .taken, c .before .before .before .before .before .before .before .before .pre .1 .0)
+add-rounds c = omega (arith, c .before .before .before .before .before .loop-test .taken, c .before .before .before .before .before .before .before .before .before .pre .1 .0)
 
 loop-less : tie.Need-loop-less Inv-loop μ-loop
-loop-less c = omega (arith, c .before .before .before .before .loop-test .taken)
+loop-less c = omega (arith, c .before .before .before .before .before .loop-test .taken)
 
 loop-again : tie.Need-loop-again Inv-loop μ-loop
 loop-again c =
-    let a = c .before .before .before .before .before .before .before .before .args in
-    let l = c .before .before .before .before .before .loop in
-    let e = sym (c .before .before .before .examine-pair .ensures) ∙ c .before .rest .given .1 in
+    let a = c .before .before .before .before .before .before .before .before .before .args in
+    let l = c .before .before .before .before .before .before .loop in
+    let e = sym (pair-examined (c .before .before .before)) ∙ ap countedOf (c .before .rest .given .1) in
     let z : a .limit + 1 - (l .rounds + 1) ≡ a .limit - l .rounds = omega arith in (
       omega arith,
-      omega (arith, c .before .before .before .before .loop-test .taken),
+      omega (arith, c .before .before .before .before .before .loop-test .taken),
       tries-within (cardOf (a .s .now) .lines) (at (a .a .now)) (at (a .b .now)) (record { left = a .session .left }) (l .left) (l .rounds) (a .limit + 1 - l .rounds) (l .inv .2) true _ e,
       ap (walkFrom (cardOf (a .s .now) .lines) (at (a .a .now)) (at (a .b .now)) (record { left = a .session .left }) (c .before .rest .given .0 .0) (l .rounds + 1)) z
-          ∙ tries-on (cardOf (a .s .now) .lines) (at (a .a .now)) (at (a .b .now)) (record { left = a .session .left }) (l .left) (l .rounds) (a .limit + 1 - l .rounds) (l .inv .2) (a .limit - l .rounds) (omega (arith, c .before .before .before .before .loop-test .taken)) _ e
+          ∙ tries-on (cardOf (a .s .now) .lines) (at (a .a .now)) (at (a .b .now)) (record { left = a .session .left }) (l .left) (l .rounds) (a .limit + 1 - l .rounds) (l .inv .2) (a .limit - l .rounds) (omega (arith, c .before .before .before .before .before .loop-test .taken)) _ e
           ∙ l .inv .3,
     )
 
 sub-t21 : tie.Need-sub-t21 Inv-loop μ-loop
-sub-t21 c = c .before .loop .inv .2
+sub-t21 c = omega (arith, c .before .loop .inv .2)
 
-returns-3 : tie.Need-returns-3 Inv-loop μ-loop
-returns-3 c =
+returns-4 : tie.Need-returns-4 Inv-loop μ-loop
+returns-4 c =
     let a = c .before .before .before .before .args in
     let l = c .before .loop in
     none-left (cardOf (a .s .now) .lines) (at (a .a .now)) (at (a .b .now)) (record { left = a .session .left }) (l .left) (l .rounds) (a .limit + 1 - l .rounds) (l .inv .2) (omega (arith, c .loop-test .left)) ∙ l .inv .3
@@ -112,16 +142,21 @@ try-rounds-spec =
     (tie.spec
     Inv-loop
     μ-loop
+    mul-challenges
     loop-holds
-    examine-pair-requires
+    spend-requires
+    returns
+    sub-challenge
+    challenge-requires
     enum-known-rest
     enum-known-rest-2
-    sub-t16
-    returns
-    enum-told
+    sub-t18
     returns-2
+    enum-told
+    spend-requires-2
+    returns-3
     add-rounds
     loop-less
     loop-again
     sub-t21
-    returns-3)
+    returns-4)

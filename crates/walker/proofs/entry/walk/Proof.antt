@@ -1,7 +1,7 @@
 -- The sheet's checks first: a refusal is the call's, and a card is one that was read.
 use borrow.Author.Needs.{needs}
 use mathlib.Core.Path.{sym, _∙_}
-use Rattle.sheet.proofs.Laws.{checked-reads, checked-refused}
+use Rattle.validation.proofs.Checking.{checked-reads, checked-refused}
 use Rattle.walker.specs.Answers.{sessionOf}
 use Rattle.walker.proofs.Refusals.{sheet-refused}
 use Rattle.walker.proofs.entry.walk.Statement.{statement}

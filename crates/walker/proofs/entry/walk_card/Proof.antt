@@ -7,7 +7,7 @@ use Rattle.model.specs.Field.{at}
 use Rattle.model.specs.Sheet.{fieldCount}
 use Rattle.sheet.proofs.Laws.{fields-are, field-counts-at}
 use Rattle.walker.specs.Answers.{sessionOf}
-use Rattle.walker.proofs.Fields.{field-bounded}
+use Rattle.moves.proofs.Fields.{field-bounded}
 use Rattle.walker.proofs.Refusals.{full-walk, first-refused, second-refused, limit-refused, call-walks}
 use Rattle.walker.proofs.entry.walk_card.Statement.{statement}
 use Rattle.walker.proofs.entry.walk_card.Tie as tie
@@ -62,9 +62,6 @@ slice-aggregate-fill-table c = search needs
 fill-table-requires : tie.Need-fill-table-requires
 fill-table-requires c κs = search needs
 
-slice-aggregate-try-rounds : tie.Need-slice-aggregate-try-rounds
-slice-aggregate-try-rounds c = search needs
-
 try-rounds-requires : tie.Need-try-rounds-requires
 try-rounds-requires c κs =
     let a = c .before .before .before .before .before .before .before .before .before .before .before .before .args in
@@ -103,6 +100,5 @@ walk-card-spec =
     field-requires-2
     slice-aggregate-fill-table
     fill-table-requires
-    slice-aggregate-try-rounds
     try-rounds-requires
     returns-4)

@@ -1,0 +1,57 @@
+-- No kind passed is one: the least is that of the kinds left.
+use borrow.Author.Needs.{needs}
+use borrow.Author.Tests.{lt-ltb, le-ltb}
+use mathlib.Core.Path.{_≡_, sym, _∙_}
+use Prim.Native.Nat.{_-_, _≤_}
+use lib.Dec.{ltb}
+use Rattle.model.specs.Finite.{leastFrom}
+use Rattle.model.specs.Field.{at}
+use Rattle.model.specs.Limits.{normLimit}
+use Rattle.acceptance.proofs.Lowest.{least-start, least-here, least-later, least-end}
+use Rattle.acceptance.proofs.accept.first_over.Statement.{statement}
+use Rattle.acceptance.proofs.accept.first_over.Tie as tie
+
+abbrev Inv-loop : tie.InvT-loop
+Inv-loop norms kinds k₀ k = (k ≤ kinds) × (leastFrom (λ j. ltb normLimit (at norms j)) 0 kinds ≡ leastFrom (λ j. ltb normLimit (at norms j)) k (kinds - k))
+
+abbrev μ-loop : tie.MeasureT-loop
+μ-loop norms kinds k₀ k = kinds - k
+
+loop-holds : tie.Need-loop-holds Inv-loop μ-loop
+loop-holds c = (search needs, least-start _ (c .args .kinds))
+
+mul-norm : tie.Need-mul-norm Inv-loop μ-loop
+mul-norm c = search needs
+
+element-copy-out-norm : tie.Need-element-copy-out-norm Inv-loop μ-loop
+element-copy-out-norm c = search needs
+
+returns : tie.Need-returns Inv-loop μ-loop
+returns c = sym (c .before .before .before .loop .inv .1 ∙ least-here _ (c .before .before .before .loop .k) (c .before .before .before .before .args .kinds) (c .before .before .loop-test .taken) (lt-ltb normLimit (at (c .before .before .before .before .args .norms .now) (c .before .before .before .loop .k)) (c .if1 .taken)))
+
+add-k : tie.Need-add-k Inv-loop μ-loop
+add-k c = search needs
+
+loop-less : tie.Need-loop-less Inv-loop μ-loop
+loop-less c = search needs
+
+loop-again : tie.Need-loop-again Inv-loop μ-loop
+loop-again c = (search needs, c .before .before .before .loop .inv .1 ∙ least-later _ (c .before .before .before .loop .k) (c .before .before .before .before .args .kinds) (c .before .before .loop-test .taken) (le-ltb normLimit (at (c .before .before .before .before .args .norms .now) (c .before .before .before .loop .k)) (c .if1 .left)))
+
+returns-2 : tie.Need-returns-2 Inv-loop μ-loop
+returns-2 c = sym (c .before .loop .inv .1 ∙ least-end _ (c .before .loop .k) (c .before .before .args .kinds) (c .loop-test .left))
+
+pub first-over-spec : {M : Type 1} → statement M
+first-over-spec =
+    tie.close
+    (tie.spec
+    Inv-loop
+    μ-loop
+    loop-holds
+    mul-norm
+    element-copy-out-norm
+    returns
+    add-k
+    loop-less
+    loop-again
+    returns-2)

@@ -1,0 +1,3 @@
+-- Laws that the proofs of the writers cite.
+-- What the writers append one after another, and the lines.
+pub mod Lines

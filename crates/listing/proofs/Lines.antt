@@ -1,0 +1,31 @@
+-- The texts that the writers append one after another are the lines of specs/Line.
+use mathlib.Core.List.{List, _++_, append-assoc}
+use mathlib.Core.Path.{_≡_, refl}
+use Prim.Native.Nat.{ℕ}
+use borrow.Author.Tests.{eq-eqb, ne-eqb}
+use Rattle.model.specs.Field.{at}
+use Rattle.model.specs.Page.{bytes, number, newline, countsOf, itself}
+use Rattle.listing.specs.Line.{headText, rowText, kindText, fieldText}
+
+-- What is appended for the head, for a kind and a field.
+pub head-is : (n s : ℕ) → bytes "kinds " ++ number n ++ (bytes " stages " ++ number s) ++ bytes "\n" ≡ headText n s
+unfolding headText newline
+head-is n s = simp append-assoc
+
+-- A row that has its own kind once shows the word prime, any other its counts.
+module _ (k : ℕ) (row : List ℕ) where
+  pub prime-is : at row k ≡ 1 → bytes "prime" ≡ rowText k row
+  unfolding rowText itself
+  prime-is e = rw (eq-eqb (at row k) 1 e, rowText) refl
+
+  pub counts-is : (at row k ≡ 1 → ⊥) → countsOf row ≡ rowText k row
+  unfolding rowText itself
+  counts-is e = rw (ne-eqb (at row k) 1 e, rowText) refl
+
+pub kind-is : (k w : ℕ) (row : List ℕ) → bytes "kind " ++ number k ++ (bytes " norm " ++ number w) ++ (bytes " " ++ (rowText k row ++ bytes "\n")) ≡ kindText k w row
+unfolding kindText newline
+kind-is k w row = simp append-assoc
+
+pub field-is : (i : ℕ) (form : List ℕ) → bytes "field " ++ number i ++ (bytes " " ++ (countsOf form ++ bytes "\n")) ≡ fieldText i form
+unfolding fieldText newline
+field-is i form = simp append-assoc

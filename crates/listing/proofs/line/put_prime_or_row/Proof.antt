@@ -1,0 +1,59 @@
+-- `put_prime_or_row`: each branch is a case of `rowText`.
+use Prim.Native.Nat.{_+_, _*_}
+use native.Mathlib.Omega.{arith}
+use lib.ListN.{length}
+use Rattle.model.specs.Page.{bytes}
+use Rattle.listing.specs.Line.{rowText}
+use Rattle.text.proofs.Append.{reads-as}
+use Rattle.listing.proofs.Lines.{prime-is, counts-is}
+use borrow.Author.Needs.{needs}
+use Rattle.listing.proofs.line.put_prime_or_row.Statement.{statement}
+use Rattle.listing.proofs.line.put_prime_or_row.Tie as tie
+
+mul-if1 : tie.Need-mul-if1
+mul-if1 c = search needs
+
+shared-slice-read-if1 : tie.Need-shared-slice-read-if1
+shared-slice-read-if1 c = search needs
+
+slice-aggregate-put-bytes : tie.Need-slice-aggregate-put-bytes
+slice-aggregate-put-bytes c = search needs
+
+put-bytes-requires : tie.Need-put-bytes-requires
+put-bytes-requires c κs = search needs
+
+put-row-requires : tie.Need-put-row-requires
+put-row-requires c κs = search needs
+
+same-length : tie.Need-same-length
+same-length c = search needs
+
+returns : tie.Need-returns
+unfolding bytes
+returns c =
+    let start = c .before .before .before .before .before .before .before .before .before in
+    reads-as (5 + 21 * length (start .args .row .now)) (rowText (start .args .kind) (start .args .row .now)) (c .before .before .put-bytes .ensures) (omega arith)
+    (prime-is (start .args .kind) (start .args .row .now) (c .before .before .before .before .before .if1 .taken))
+
+same-length-2 : tie.Need-same-length-2
+same-length-2 c = search needs
+
+returns-2 : tie.Need-returns-2
+returns-2 c =
+    let start = c .before .before .before .before .before .before .before .before in
+    reads-as (5 + 21 * length (start .args .row .now)) (rowText (start .args .kind) (start .args .row .now)) (c .before .before .put-row .ensures) (omega arith)
+    (counts-is (start .args .kind) (start .args .row .now) (c .before .before .before .before .if1 .left))
+
+pub put-prime-or-row-spec : {M : Type 1} → statement M
+put-prime-or-row-spec =
+    tie.close
+    (tie.spec
+    mul-if1
+    shared-slice-read-if1
+    slice-aggregate-put-bytes
+    put-bytes-requires
+    put-row-requires
+    same-length
+    returns
+    same-length-2
+    returns-2)

@@ -1,0 +1,89 @@
+// The table of the lines that follow: flat, one row of 64 codes to a position, which is a line or the end of the lines. At a position and a code stands the first line
+// from the position up that has the code, and the number of lines where there is none.
+use sheet::Card;
+ghost use mathlib.Core.Path.{_≡_};
+ghost use Prim.Native.Nat.{_+_, _*_, _≤_, _<_};
+ghost use Rattle.model.specs.Field.{at};
+ghost use Rattle.model.specs.Limits.{mostCodes, mostLines};
+ghost use Rattle.model.specs.Sheet.{lineOf};
+ghost use Rattle.sheet.specs.Reader.{Reads};
+ghost use Rattle.moves.specs.Following.{Long, RowSet, FollowsFrom, Follows};
+
+// The entries of the table: 257 positions of 64 codes.
+pub const ENTRIES: usize = 16_448;
+
+// The entry of a row that a line belongs to: its code.
+pub fn row_entry(card: Card, s: &[u8], line: usize) -> usize
+    requires { ⌜ Reads (now s) card ⌝ }
+    requires { ⌜ line < card .lines ⌝ }
+    ensures { λ r. ⌜ (r ≡ lineOf (now (s .entry)) line .code) × (r < mostCodes) ⌝ }
+{
+    card.line_code(s, line)
+}
+
+// An entry as the number of a line.
+fn wide(entry: u16) -> usize
+    ensures { λ r. ⌜ r ≡ entry ⌝ }
+{
+    entry as usize
+}
+
+// What stands in the table at a position and a code.
+pub fn following(t: &[u16; ENTRIES], position: usize, code: usize) -> usize
+    requires { ⌜ (position ≤ mostLines) × (code < mostCodes) ⌝ }
+    ensures { λ r. ⌜ r ≡ at (now (t .entry)) (position * mostCodes + code) ⌝ }
+{
+    wide(t[position * Card::CODES + code])
+}
+
+// Sets the row of a position to one number.
+fn fill_row(t: &mut [u16], position: usize, number: u16)
+    requires { ⌜ Long (now t) × (position ≤ mostLines) ⌝ }
+    ensures { λ _. ⌜ RowSet position (λ code. number) (now (t .entry)) (now (t .exit)) ⌝ }
+{
+    let start = position * Card::CODES;
+    let mut code = 0;
+    while code < Card::CODES {
+        t[start + code] = number;
+        code += 1;
+    }
+}
+
+// Copies the row of the next position to that of a position.
+fn copy_row(t: &mut [u16], position: usize)
+    requires { ⌜ Long (now t) × (position < mostLines) ⌝ }
+    ensures { λ _. ⌜ RowSet position (λ code. at (now (t .entry)) ((position + 1) * mostCodes + code)) (now (t .entry)) (now (t .exit)) ⌝ }
+{
+    let start = position * Card::CODES;
+    let next = start + Card::CODES;
+    let mut code = 0;
+    while code < Card::CODES {
+        let line = t[next + code];
+        t[start + code] = line;
+        code += 1;
+    }
+}
+
+// The row of a line: that of the next position, with the line itself at its own code.
+fn line_row(card: Card, s: &[u8], t: &mut [u16], line: usize)
+    requires { ⌜ Reads (now s) card × FollowsFrom (now s) (line + 1) (now t) ⌝ }
+    requires { ⌜ line < card .lines ⌝ }
+    ensures { λ _. ⌜ FollowsFrom (now (s .entry)) line (now (t .exit)) ⌝ }
+{
+    let code = row_entry(card, s, line);
+    copy_row(t, line);
+    t[line * Card::CODES + code] = line as u16;
+}
+
+// The whole table, from the end of the lines down.
+pub fn fill_table(card: Card, s: &[u8], t: &mut [u16])
+    requires { ⌜ Reads (now s) card × Long (now t) ⌝ }
+    ensures { λ _. ⌜ Follows (now (s .entry)) (now (t .exit)) ⌝ }
+{
+    let mut position = card.lines;
+    fill_row(t, position, position as u16);
+    while 0 < position {
+        position -= 1;
+        line_row(card, s, t, position);
+    }
+}

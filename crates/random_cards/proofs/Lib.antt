@@ -1,0 +1,2 @@
+-- Laws that the code cites.
+pub mod Products

@@ -1,0 +1,243 @@
+-- The rows and the forms at a stage: what they hold, what they weigh, how large their counts are.
+use mathlib.Core.Logic.{_↔_, _⊎_, inl, inr}
+use mathlib.Core.Path.{_≡_, sym, _∙_, ap, fun-ext}
+use Prim.Native.Nat.{ℕ, suc, _*_, _≤_, _<_}
+use native.Mathlib.Decide.{decLt}
+use native.Mathlib.Nat.{mul-le-mul-left}
+use native.Mathlib.Omega.{arith}
+use lib.Dec.{T}
+use Rattle.model.specs.Field.{Field, _⊕_, unit, weigh}
+use Rattle.model.specs.Card.{Line, Card}
+use Rattle.model.specs.Norm.{kindNorm, norm}
+use Rattle.model.specs.Stage.{equalNorm, stage}
+use Rattle.theory.specs.Stages.{Lowers}
+use Rattle.model.specs.Base.{earlier, formAt, stageRow, stageForm}
+use Rattle.theory.specs.Terms.{OfKinds, Earlier, Before}
+use Rattle.theory.proofs.Field.{unit-same, weigh-plus, weigh-unit, weigh-part, weigh-some, weigh-weights}
+use Rattle.theory.proofs.Normed.{Normed}
+use Rattle.theory.proofs.Stages.{level, level-cong}
+use Rattle.theory.proofs.Rank.{Within, decomp, decomp-self, low-within, rank}
+use Rattle.theory.proofs.Base.{unit-some, form-within, form-rel}
+use Rattle.theory.proofs.Settle.{tidy-within}
+use Rattle.theory.proofs.Decide.{Finite}
+use Rattle.theory.proofs.Count.{past, past-whole, level-low, level-base}
+use Rattle.theory.proofs.Certified.{Found}
+use Rattle.theory.proofs.Rows.{finite, order-iff, tells-earlier}
+use Rattle.theory.proofs.Plain.{plain, tidy, tells-equal, stages}
+use Rattle.theory.proofs.Settling.{base, row-of, within, before}
+use Rattle.theory.proofs.Program.{theirs, test-next}
+
+-- Rows count only where the field has tokens: tables that agree on the kinds that the field holds give it one form.
+pub form-rows : (n : ℕ) (rows others : ℕ → Field) (a : Field) → ((k : ℕ) → k < n → 0 < a k → rows k ≡ others k)
+    → (j : ℕ) → weigh n (λ k. rows k j) a ≡ weigh n (λ k. others k j) a
+form-rows n rows others a h j = weigh-weights n (λ k. rows k j) (λ k. others k j) a (λ k i p. ap (λ (x : Field). x j) (h k i p))
+
+-- A count of a kind that weighs something is no more than the whole weighs.
+count-weight : (n : ℕ) (w : ℕ → ℕ) (a : Field) (k : ℕ) → k < n → 0 < w k → a k ≤ weigh n w a
+count-weight n w a k h p =
+    let z : 1 ≤ w k = p in
+    let y : a k * 1 ≤ a k * w k = mul-le-mul-left (a k) z in
+    omega (arith, weigh-part n w a k h)
+
+none-of : (n : ℕ) → ¬ (0 < n) → n ≡ 0
+none-of n h = omega arith
+
+module _ (c : Card) (F : Found (c .lines) (c .kinds) (kindNorm c)) where
+  abbrev N : Normed
+  N = plain c (kindNorm c) F
+
+  abbrev fin : Finite (N .on)
+  fin = finite N (c .lines) (λ l o. o) (λ l o. o) (F .positive) (equalNorm c (kindNorm c)) (tells-equal c (kindNorm c) F)
+
+  -- The order of kinds as the test `earlier` and as a type.
+  pub earlier-iff : (k j : ℕ) → k < c .kinds → j < c .kinds → T (earlier (kindNorm c) k j) ↔ Earlier c j k
+  earlier-iff k j h i =
+      let o = order-iff N (c .lines) (λ l o. o) (λ l o. o) (F .positive) (equalNorm c (kindNorm c)) (tells-equal c (kindNorm c) F) k j h i in
+      let t = tells-earlier N (c .lines) (λ l o. o) (λ l o. o) (F .positive) (equalNorm c (kindNorm c)) (tells-equal c (kindNorm c) F) k j h i in
+      ((λ x. o .1 (t .fact x)), (λ x. t .test (o .0 x)))
+
+  pub earlier-not : (k : ℕ) → ¬ Earlier c k k
+  earlier-not k (inl p) = omega arith
+  earlier-not k (inr p) = omega (arith, p .1)
+
+  pub earlier-trans : (i j k : ℕ) → Earlier c i j → Earlier c j k → Earlier c i k
+  earlier-trans i j k (inl p) (inl r) = inl (omega arith)
+  earlier-trans i j k (inl p) (inr r) = inl (omega (arith, r .0))
+  earlier-trans i j k (inr p) (inl r) = inl (omega (arith, p .0))
+  earlier-trans i j k (inr p) (inr r) = inr (p .0 ∙ r .0, omega (arith, p .1, r .1))
+
+  -- What a line that lowers the norm leaves is of kinds earlier than its own, and weighs one less.
+  pub lowers-before : (l : Line) → Lowers c (kindNorm c) l → Before c (l .kind) (l .left)
+  lowers-before l o = before c F (l .kind) (F .kinds l (o .0)) (l .left) (low-within N l o)
+
+  pub lowers-earlier : (k : ℕ) (l : Line) → Lowers c (kindNorm c) l → (l .kind ≡ k) ⊎ Earlier c (l .kind) k → Before c k (l .left)
+  lowers-earlier k l o (inl e) = rw e at (lowers-before l o)
+  lowers-earlier k l o (inr r) = λ j h. let u = lowers-before l o j h in (u .0, earlier-trans j (l .kind) k (u .1) r)
+
+  pub lowers-norm : (l : Line) → Lowers c (kindNorm c) l → suc (norm c (l .left)) ≡ kindNorm c (l .kind)
+  lowers-norm l o = omega (arith, F .settled l (o .0), o .1)
+
+  -- A field of earlier kinds is one of the card's kinds.
+  pub before-kinds : (k : ℕ) (a : Field) → Before c k a → OfKinds c a
+  before-kinds k a f j h = f j h .0
+
+  pub left-kinds : (l : Line) → Lowers c (kindNorm c) l → OfKinds c (l .left)
+  left-kinds l o = F .counts l (o .0)
+
+  pub unit-kinds : (k : ℕ) → k < c .kinds → OfKinds c (unit k)
+  unit-kinds k h j i = rw (unit-some k j i) h
+
+  -- No count passes the norm.
+  pub count-most : (a : Field) → OfKinds c a → (j : ℕ) → a j ≤ norm c a
+  count-most a u j = go (decLt 0 (a j))
+    where
+      go : Dec (0 < a j) → a j ≤ norm c a
+      go (yes i) = count-weight (c .kinds) (kindNorm c) a j (u j i) (F .positive j (u j i))
+      go (no i) = omega arith
+
+  module _ (q : ℕ) where
+    -- A form by a table that has the stage's rows of the kinds that the field holds.
+    pub form-table : (rows : ℕ → Field) (a : Field) → ((k : ℕ) → k < c .kinds → 0 < a k → rows k ≡ stageRow c (suc q) k)
+        → (j : ℕ) → weigh (c .kinds) (λ k. rows k j) a ≡ stageForm c (suc q) a j
+    unfolding formAt
+    form-table rows a h j = form-rows (c .kinds) rows (stageRow c (suc q)) a h j
+
+    -- So for what a lowering line of kind k, or of an earlier kind, leaves, the rows of the kinds earlier than k are enough.
+    pub form-earlier : (k : ℕ) (rows : ℕ → Field) → ((j : ℕ) → j < c .kinds → Earlier c j k → rows j ≡ stageRow c (suc q) j)
+        → (l : Line) → Lowers c (kindNorm c) l → (l .kind ≡ k) ⊎ Earlier c (l .kind) k → (j : ℕ) → weigh (c .kinds) (λ i. rows i j) (l .left) ≡ stageForm c (suc q) (l .left) j
+    form-earlier k rows f l o e = form-table rows (l .left) (λ i h p. f i h (lowers-earlier k l o e i p .1))
+
+    pub form-unit : (k : ℕ) → k < c .kinds → stageForm c (suc q) (unit k) ≡ stageRow c (suc q) k
+    unfolding formAt
+    form-unit k h = fun-ext (λ j. weigh-unit (c .kinds) (λ i. stageRow c (suc q) i j) k h)
+
+    pub form-plus : (a b : Field) → stageForm c (suc q) (a ⊕ b) ≡ stageForm c (suc q) a ⊕ stageForm c (suc q) b
+    unfolding formAt
+    form-plus a b = fun-ext (λ j. weigh-plus (c .kinds) (λ k. stageRow c (suc q) k j) a b)
+
+    -- A product of atoms is its own form.
+    pub form-self : (a : Field) → OfKinds c a → ((k : ℕ) → 0 < a k → stageRow c (suc q) k ≡ unit k) → stageForm c (suc q) a ≡ a
+    unfolding formAt decomp
+    form-self a u g = decomp-self N (stageRow c (suc q)) (past N fin) a (tidy-within N (past N fin) (past-whole N fin) a (tidy c (kindNorm c) F a u)) g
+
+    -- A row is the kind itself, an atom, or a product of earlier atoms.
+    pub row-sort : (k : ℕ) → k < c .kinds
+        → (stageRow c (suc q) k ≡ unit k) ⊎ (Before c k (stageRow c (suc q) k) × ((j : ℕ) → 0 < stageRow c (suc q) k j → stageRow c (suc q) j ≡ unit j))
+    row-sort k h = go (base c F q .counts k h)
+      where
+        go : {A : Type 0} → ((stageRow c (suc q) k ≡ unit k) × A) ⊎ (Before c k (stageRow c (suc q) k) × ((j : ℕ) → 0 < stageRow c (suc q) k j → stageRow c (suc q) j ≡ unit j))
+            → (stageRow c (suc q) k ≡ unit k) ⊎ (Before c k (stageRow c (suc q) k) × ((j : ℕ) → 0 < stageRow c (suc q) k j → stageRow c (suc q) j ≡ unit j))
+        go (inl p) = inl (p .0)
+        go (inr p) = inr p
+
+    -- So a row holds kinds of the card alone, and atoms alone.
+    pub row-kinds : (k : ℕ) → k < c .kinds → OfKinds c (stageRow c (suc q) k)
+    row-kinds k h j i = go (row-sort k h)
+      where
+        go : {A : Type 0} → (stageRow c (suc q) k ≡ unit k) ⊎ (Before c k (stageRow c (suc q) k) × A) → j < c .kinds
+        go (inl e) = rw (unit-some k j (rw (ap (λ (x : Field). x j) e) at i)) h
+        go (inr p) = p .0 j i .0
+
+    pub row-atoms : (k : ℕ) → k < c .kinds → (j : ℕ) → 0 < stageRow c (suc q) k j → stageRow c (suc q) j ≡ unit j
+    row-atoms k h j i = go (row-sort k h)
+      where
+        go : (stageRow c (suc q) k ≡ unit k) ⊎ (Before c k (stageRow c (suc q) k) × ((j : ℕ) → 0 < stageRow c (suc q) k j → stageRow c (suc q) j ≡ unit j))
+            → stageRow c (suc q) j ≡ unit j
+        go (inl e) = rw (unit-some k j (rw (ap (λ (x : Field). x j) e) at i)) e
+        go (inr p) = p .1 j i
+
+    -- A kind and its row have one form, the row.
+    pub row-form : (k : ℕ) → k < c .kinds → stageForm c (suc q) (stageRow c (suc q) k) ≡ stageRow c (suc q) k
+    row-form k h = form-self (stageRow c (suc q) k) (row-kinds k h) (row-atoms k h)
+
+    pub row-equal : (k : ℕ) → k < c .kinds → stageForm c (suc q) (unit k) ≡ stageForm c (suc q) (stageRow c (suc q) k)
+    row-equal k h = form-unit k h ∙ sym (row-form k h)
+
+    -- The kind's own count tells whether it is an atom.
+    pub row-own : (k : ℕ) → k < c .kinds → (stageRow c (suc q) k k ≡ 1) ↔ (stageRow c (suc q) k ≡ unit k)
+    row-own k h = ((λ e. go e (row-sort k h)), (λ e. ap (λ (x : Field). x k) e ∙ unit-same k))
+      where
+        go : {A : Type 0} → stageRow c (suc q) k k ≡ 1 → (stageRow c (suc q) k ≡ unit k) ⊎ (Before c k (stageRow c (suc q) k) × A) → stageRow c (suc q) k ≡ unit k
+        go e (inl p) = p
+        go e (inr p) = absurd (earlier-not k (p .0 k (omega arith) .1))
+
+    pub row-other : (k : ℕ) → k < c .kinds → ¬ (stageRow c (suc q) k ≡ unit k) → stageRow c (suc q) k k ≡ 0
+    row-other k h n = go (row-sort k h) (decLt 0 (stageRow c (suc q) k k))
+      where
+        go : {A : Type 0} → (stageRow c (suc q) k ≡ unit k) ⊎ (Before c k (stageRow c (suc q) k) × A) → Dec (0 < stageRow c (suc q) k k) → stageRow c (suc q) k k ≡ 0
+        go (inl e) d = absurd (n e)
+        go (inr p) (yes i) = absurd (earlier-not k (p .0 k i .1))
+        go (inr p) (no i) = none-of _ i
+
+    -- An atom stays one at the next stage.
+    pub atom-stays : (k : ℕ) → k < c .kinds → stageRow c (suc q) k ≡ unit k → stageRow c (suc (suc q)) k ≡ unit k
+    atom-stays k h e = go (base c F q .counts k h) (base c F (suc q) .counts k h)
+      where
+        Test : ℕ → Field → Type 0
+        Test s a = T (stage c (kindNorm c) s (unit k) a)
+
+        go : {A B C D : Type 0} → (A × ((a : Field) → Before c k a → ¬ Test (suc q) a)) ⊎ (Before c k (stageRow c (suc q) k) × B)
+            → ((stageRow c (suc (suc q)) k ≡ unit k) × C) ⊎ (Before c k (stageRow c (suc (suc q)) k) × D) → stageRow c (suc (suc q)) k ≡ unit k
+        go p (inl r) = r .0
+        go (inl p) (inr r) =
+            absurd (p .1 (stageRow c (suc (suc q)) k) (r .0) (stages c (kindNorm c) F .next q (unit k) (stageRow c (suc (suc q)) k) .0 (base c F (suc q) .related k h) .0))
+        go (inr p) (inr r) = absurd (earlier-not k (p .0 k (rw e (omega (arith, unit-same k))) .1))
+
+    -- A form is a product of atoms of the field's norm, of kinds no later than the field's.
+    module _ (a : Field) (u : OfKinds c a) where
+      whole : Within N (past N fin) a
+      whole = tidy-within N (past N fin) (past-whole N fin) a (tidy c (kindNorm c) F a u)
+
+      pub form-atoms : (j : ℕ) → 0 < stageForm c (suc q) a j → (j < c .kinds) × (stageRow c (suc q) j ≡ unit j)
+      form-atoms j i =
+          let t = form-within N (level N q) (past N fin) (level-base N fin q) (past N fin) a (omega arith) whole in
+          let p = rw (ap (λ (x : Field). x j) (theirs c (kindNorm c) F q a)) at i in
+          let h = t .0 j p .0 in
+          (h, row-of c F q j h ∙ t .1 j p)
+
+      pub form-kinds : OfKinds c (stageForm c (suc q) a)
+      form-kinds j i = form-atoms j i .0
+
+      pub form-norm : norm c (stageForm c (suc q) a) ≡ norm c a
+      form-norm =
+          ap (norm c) (theirs c (kindNorm c) F q a)
+          ∙ sym (level-cong N q .norms a _ (form-rel N (level N q) (past N fin) (level-base N fin q) (level-cong N q) (level-low N fin q) a whole))
+
+    pub form-before : (k : ℕ) → k < c .kinds → (a : Field) → Before c k a → Before c k (stageForm c (suc q) a)
+    form-before k h a f = before c F k h (stageForm c (suc q) a) (λ j i.
+        form-within N (level N q) (past N fin) (level-base N fin q) (rank N k) a (omega (arith, past-whole N fin k h)) (within c F k h a f) .0 j
+        (rw (ap (λ (x : Field). x j) (theirs c (kindNorm c) F q a)) at i))
+
+    -- So no count of a form passes the field's norm, and none of a row its kind's.
+    pub form-count : (a : Field) → OfKinds c a → (j : ℕ) → stageForm c (suc q) a j ≤ norm c a
+    form-count a u j = omega (arith, count-most (stageForm c (suc q) a) (form-kinds a u) j, form-norm a u)
+
+    pub row-norm : (k : ℕ) → k < c .kinds → norm c (stageRow c (suc q) k) ≡ kindNorm c k
+    row-norm k h = ap (norm c) (sym (form-unit k h)) ∙ form-norm (unit k) (unit-kinds k h) ∙ weigh-unit (c .kinds) (kindNorm c) k h
+
+    pub row-count : (k : ℕ) → k < c .kinds → (j : ℕ) → stageRow c (suc q) k j ≤ kindNorm c k
+    row-count k h j = omega (arith, count-most (stageRow c (suc q) k) (row-kinds k h) j, row-norm k h)
+
+    -- A row and a form are 0 past the kinds.
+    pub row-past : (k : ℕ) → k < c .kinds → (j : ℕ) → c .kinds ≤ j → stageRow c (suc q) k j ≡ 0
+    row-past k h j i = go (decLt 0 (stageRow c (suc q) k j))
+      where
+        go : Dec (0 < stageRow c (suc q) k j) → stageRow c (suc q) k j ≡ 0
+        go (yes p) = absurd (omega (arith, row-kinds k h j p))
+        go (no p) = none-of _ p
+
+    pub form-past : (a : Field) (j : ℕ) → c .kinds ≤ j → stageForm c (suc q) a j ≡ 0
+    unfolding formAt
+    form-past a j i = go (decLt 0 (weigh (c .kinds) (λ k. stageRow c (suc q) k j) a))
+      where
+        go : Dec (0 < weigh (c .kinds) (λ k. stageRow c (suc q) k j) a) → weigh (c .kinds) (λ k. stageRow c (suc q) k j) a ≡ 0
+        go (yes p) = let t = weigh-some (c .kinds) (λ k. stageRow c (suc q) k j) a p in absurd (omega (arith, row-kinds (t .0) (t .1) j (t .3)))
+        go (no p) = none-of _ p
+
+-- A later stage relates no more than an earlier one: a field and its form at the next stage have one form at this one.
+module _ (c : Card) (F : Found (c .lines) (c .kinds) (kindNorm c)) (q : ℕ) (a : Field) (u : OfKinds c a) where
+  pub form-next : stageForm c (suc q) (stageForm c (suc (suc q)) a) ≡ stageForm c (suc q) a
+  form-next =
+      let f = form-kinds c F (suc q) a u in
+      let e = form-self c F (suc q) (stageForm c (suc (suc q)) a) f (λ j i. form-atoms c F (suc q) a u j i .1) in
+      test-next c (kindNorm c) F (stageForm c (suc (suc q)) a) a f u q .0 e .0

@@ -1,0 +1,8 @@
+-- What the contracts of this crate cite.
+-- What the tables hold at a stage, and lines at a stage: candidates, replies, classes.
+pub mod Stage
+-- Tables of forms.
+pub mod Forms
+-- Candidates for the row of a kind, and the tests they pass; what is given and known when rows are sought.
+pub mod Row
+pub mod StageRows

@@ -1,0 +1,8 @@
+// The rows of a stage, of an accepted sheet.
+
+// The forms of what the lines leave.
+pub mod line_forms;
+// The row of a kind.
+pub mod row;
+// The rows of a stage.
+pub mod stage;

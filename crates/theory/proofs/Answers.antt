@@ -1,0 +1,258 @@
+-- Demand 1: what each call answers, and what it refuses.
+use mathlib.Core.Bool.{Bool, true, false, not}
+use mathlib.Core.List.{List, [], _++_, _∷_, List·Memᴰ·head, List·Memᴰ·tail}
+use mathlib.Core.Logic.{_↔_, _⊎_, inl, inr}
+use mathlib.Core.Path.{_≡_, refl, sym, _∙_, ap}
+use Prim.Native.Nat.{ℕ, zero, suc, _+_, _*_, _-_, _≤_, _<_, min}
+use native.Mathlib.Decide.{decLt}
+use native.Mathlib.Nat.{mul-le-mul-right}
+use native.Mathlib.Omega.{arith}
+use lib.Dec.{ltb}
+use lib.ListN.{length, take, drop, getD, length-take, length-drop, List·getD-append}
+use lib.Seq.{getD-append-add}
+use Rattle.theory.proofs.Lists.{length-from, getD-from}
+use Rattle.model.specs.Finite.{concat, listFrom}
+use Rattle.model.specs.Norm.{kindNorm}
+use Rattle.model.specs.Base.{roundsAt, settledStage, settledRow}
+use Rattle.model.specs.Field.{at}
+use Rattle.model.specs.Walk.{spent, Walk}
+use Rattle.model.specs.Sheet.{kindCount, fieldCount, cardOf, fieldOf}
+use Rattle.model.specs.Limits.{mostKinds, mostRounds}
+use Rattle.model.specs.Refusal.{check, Finding, clear, refusal, firstOf, sheetChecks, normChecks, Accepted, settleChecks, compareChecks, formChecks, walkChecks, rowChecks}
+use Rattle.model.specs.Answer.{Answer, Lent, tableOf, primeForm, refused, given, Session, Walked, same, different, settleOf, rowCheckOf, rowOf, verdict, written, compareOf, formOf, within, fullWalk, walkOf}
+use Rattle.theory.specs.Demands.{Demand1}
+use Rattle.model.proofs.Plain.{plain}
+use Rattle.theory.proofs.Exec.{Tells, tells-lt}
+use Rattle.theory.proofs.Sheets.{first-append, then-clear, certified, clear-cons, clear-nil, clear-none, small, not-small, not-less, call-checks}
+use Rattle.theory.proofs.Checks.{cons-none, not-outside, from-outside, from-less, first-right}
+use Rattle.theory.proofs.Limits.{limits-accepted, accepted-limits}
+use Rattle.theory.proofs.Plain.{settled, verdict-cases}
+use Rattle.theory.proofs.Walks.{walk-not-spent}
+use Rattle.theory.proofs.Verdicts.{compare-is, L, field-tidy}
+
+never : {A : Type 0} (k p : ℕ) → _≡_ {A = Finding} clear (refusal k p) → A
+never k p e = let z : _≡_ {A = ℕ} 0 1 = cc in absurd (omega arith)
+
+-- A call over lent bytes, by what its checks find.
+module _ {A : Type 0} (x : A) (r : ℕ → ℕ → A) where
+  abbrev pub Call : Finding → A
+  Call f = elim f as (λ _. A) [ clear ↦ x | refusal k p ↦ r k p ]
+
+  pub call-clear : (f : Finding) → f ≡ clear → Call f ≡ x
+  call-clear clear e = refl
+  call-clear (refusal k p) e = never k p (sym e)
+
+  call-refused : (f : Finding) (k p : ℕ) → f ≡ refusal k p → Call f ≡ r k p
+  call-refused clear k p e = never k p e
+  call-refused (refusal j q) k p e = let i : j ≡ k = cc in let h : q ≡ p = cc in cc
+
+-- A table written row by row: entry j of row k.
+module _ (f : ℕ → ℕ → ℕ) (n : ℕ) where
+  Rows : ℕ → ℕ → List ℕ
+  Rows i m = concat (listFrom (λ k. listFrom (f k) 0 n) i m)
+
+  unroll : (i m : ℕ) (P : List ℕ → Type 0) → P (listFrom (f i) 0 n ++ Rows (suc i) m) → P (Rows i (suc m))
+  unfolding Rows concat listFrom
+  unroll i m P p = p
+
+  rows-at : (i m k j : ℕ) → k < m → j < n → getD (Rows i m) (k * n + j) 0 ≡ f (i + k) j
+  unfolding Rows concat
+  rows-at i zero k j h l = absurd (omega arith)
+  rows-at i (suc m) zero j h l =
+      let e : 0 * n + j ≡ j = omega arith in
+      let z : i + 0 ≡ i = omega arith in
+      let q : 0 + j ≡ j = omega arith in
+      rw (e, z) (unroll i m (λ r. getD r j 0 ≡ f i j) (List·getD-append (listFrom (f i) 0 n) (Rows (suc i) m) 0 j (omega (arith, length-from (f i) 0 n)) ∙ getD-from (f i) 0 n j 0 l ∙ ap (f i) q))
+  rows-at i (suc m) (suc k) j h l =
+      let e : suc k * n + j ≡ length (listFrom (f i) 0 n) + (k * n + j) = omega (arith, length-from (f i) 0 n) in
+      let z : i + suc k ≡ suc i + k = omega arith in
+      rw (e, z) (unroll i m (λ r. getD r (length (listFrom (f i) 0 n) + (k * n + j)) 0 ≡ f (suc i + k) j) (getD-append-add (listFrom (f i) 0 n) (Rows (suc i) m) (k * n + j) 0 ∙ rows-at (suc i) m k j (omega arith) l))
+
+module _ (s : List ℕ) where
+  settle-clear : Accepted s → (size : ℕ) → kindCount s * kindCount s ≤ size → firstOf (settleChecks s size) ≡ clear
+  unfolding settleChecks
+  settle-clear ok size h = call-checks s ok _ ∙ clear-cons 12 0 _ [] (not-less size (kindCount s * kindCount s) h) clear-nil
+
+  form-clear : Accepted s → (i size : ℕ) → i < fieldCount s → kindCount s ≤ size → firstOf (formChecks s i size) ≡ clear
+  unfolding formChecks
+  form-clear ok i size h k =
+      call-checks s ok _ ∙ clear-cons 11 0 _ _ (not-small i (fieldCount s) h) (clear-cons 12 0 _ [] (not-less size (kindCount s) k) clear-nil)
+
+  kinds-of : cardOf s .kinds ≡ kindCount s
+  unfolding cardOf
+  kinds-of = refl
+
+  called : Accepted s → (i j : ℕ) → i < fieldCount s → j < fieldCount s
+      → (compareOf s i j ≡ given same) ⊎ ((t : ℕ) × (r : ℕ) × (compareOf s i j ≡ given (different t r)))
+  called ok i j h k =
+      go (verdict-cases (cardOf s) (kindNorm (cardOf s)) (certified s ok) _ (L s ok .most) (L s ok .settled) (fieldOf s i) (fieldOf s j) (field-tidy s ok i) (field-tidy s ok j))
+    where
+      e : compareOf s i j ≡ given (verdict (cardOf s) (kindNorm (cardOf s)) (fieldOf s i) (fieldOf s j))
+      e = compare-is s ok i j h k
+
+      go : {P : Type 0} {Q : ℕ → Type 0} → ((verdict (cardOf s) (kindNorm (cardOf s)) (fieldOf s i) (fieldOf s j) ≡ same) × P)
+          ⊎ ((d : ℕ) × ((d ≤ cardOf s .kinds) × (verdict (cardOf s) (kindNorm (cardOf s)) (fieldOf s i) (fieldOf s j) ≡ different d (roundsAt (cardOf s) (kindNorm (cardOf s)) d (fieldOf s i) (fieldOf s j))) × Q d))
+          → (compareOf s i j ≡ given same) ⊎ ((t : ℕ) × (r : ℕ) × (compareOf s i j ≡ given (different t r)))
+      go (inl x) = inl (e ∙ ap given (x .0))
+      go (inr x) = inr (x .0, roundsAt (cardOf s) (kindNorm (cardOf s)) (x .0) (fieldOf s i) (fieldOf s j), e ∙ ap given (x .1 .1))
+
+  -- The walk itself never finds spent.
+  not-spent : (i j limit : ℕ) → ¬ (fullWalk s i j limit .found ≡ spent)
+  unfolding fullWalk
+  not-spent i j limit = walk-not-spent (cardOf s .lines) (fieldOf s i) (fieldOf s j) limit 1
+
+  module _ (v : Session) (u : Walk) where
+    Drawn : Bool → Walked
+    Drawn b =
+        elim b [
+          | true ↦ record { answer = given spent; drawn = v .left; after = record { left = 0 } }
+          | false ↦ record { answer = given (u .found); drawn = u .count; after = record { left = v .left - u .count } }
+        ]
+
+    within-is : within v u ≡ Drawn (ltb (v .left) (u .count))
+    unfolding within Drawn
+    within-is = refl
+
+    within-spent : ¬ (u .found ≡ spent) → (within v u .answer ≡ given spent) ↔ (v .left < u .count)
+    unfolding Drawn
+    within-spent n = rw within-is (go (ltb (v .left) (u .count)) (tells-lt (v .left) (u .count)))
+      where
+        go : (b : Bool) → Tells b (v .left < u .count) → (Drawn b .answer ≡ given spent) ↔ (v .left < u .count)
+        go true t = ((λ _. t .fact tt), (λ _. refl))
+        go false t = ((λ e. absurd (n (given-out e))), (λ h. absurd (t .test h)))
+          where
+            given-out : given (u .found) ≡ given spent → u .found ≡ spent
+            given-out e = cc
+
+    within-found : ¬ (v .left < u .count) → within v u .answer ≡ given (u .found)
+    unfolding Drawn
+    within-found n = rw within-is (go (ltb (v .left) (u .count)) (tells-lt (v .left) (u .count)))
+      where
+        go : (b : Bool) → Tells b (v .left < u .count) → Drawn b .answer ≡ given (u .found)
+        go true t = absurd (n (t .fact tt))
+        go false t = refl
+
+    within-draws : (within v u .drawn ≡ min (u .count) (v .left)) × (within v u .after .left + within v u .drawn ≡ v .left)
+    unfolding Drawn
+    within-draws = rw within-is (go (ltb (v .left) (u .count)) (tells-lt (v .left) (u .count)) (decLt (v .left) (u .count)))
+      where
+        go : (b : Bool) → Tells b (v .left < u .count) → Dec (v .left < u .count)
+            → (Drawn b .drawn ≡ min (u .count) (v .left)) × (Drawn b .after .left + Drawn b .drawn ≡ v .left)
+        go true t d = (omega (arith, t .fact tt), omega arith)
+        go false t (yes h) = absurd (t .test h)
+        go false t (no h) = (omega arith, omega arith)
+
+  row-part : (n k : ℕ) (table : List ℕ) → 0 < n → k < n → n * n ≤ length table → ¬ (take n (drop (k * n) table) ≡ [])
+  row-part n k table p h i e =
+      omega (arith, ap length e, length-take n (drop (k * n) table), length-drop (k * n) table, mul-le-mul-right n h)
+
+  row-taken : (n k : ℕ) (table : List ℕ) → (rowCheckOf n k table ≡ clear) ↔ ((1 ≤ n) × (n ≤ mostKinds) × (k < n) × (n * n ≤ length table))
+  unfolding rowCheckOf rowChecks
+  row-taken n k table = (
+    (λ e.
+        let x = cons-none 2 0 _ _ e in
+        let y = cons-none 11 0 _ _ (x .1) in
+        let z = cons-none 12 0 _ _ (y .1) in
+        let w = from-outside 1 mostKinds n (x .0) in
+        (w .0, w .1, small k n (y .0), from-less (length table) (n * n) (z .0))),
+    (λ p. clear-cons 2 0 _ _ (not-outside 1 mostKinds n (p .0) (p .1))
+        (clear-cons 11 0 _ _ (not-small k n (p .2)) (clear-cons 12 0 _ [] (not-less (length table) (n * n) (p .3)) clear-nil))),
+  )
+
+  row-refuses : (n k : ℕ) (table : List ℕ) → (rowOf n k table ≡ []) ↔ ((q : ℕ) × (p : ℕ) × (rowCheckOf n k table ≡ refusal q p))
+  unfolding rowOf
+  row-refuses n k table = go (rowCheckOf n k table) refl
+    where
+      go : (f : Finding) → rowCheckOf n k table ≡ f
+          → (_≡_ {A = List ℕ} (elim f as (λ _. List ℕ) [ clear ↦ take n (drop (k * n) table) | refusal _ _ ↦ [] ]) []) ↔ ((q : ℕ) × (p : ℕ) × (f ≡ refusal q p))
+      go clear e = let w = row-taken n k table .0 e in ((λ x. absurd (row-part n k table (w .0) (w .2) (w .3) x)), (λ x. never (x .0) (x .1) (x .2)))
+      go (refusal q p) e = ((λ _. (q, p, refl)), (λ _. refl))
+
+  settle-room : (size : ℕ) → firstOf (settleChecks s size) ≡ clear → kindCount s * kindCount s ≤ size
+  unfolding settleChecks
+  settle-room size e =
+      from-less size (kindCount s * kindCount s) (clear-none (List·Memᴰ·head refl)
+      (then-clear (firstOf (sheetChecks s ++ normChecks s)) (firstOf (check 12 0 (ltb size (kindCount s * kindCount s)) ∷ [])) (sym (first-append (sheetChecks s ++ normChecks s) _) ∙ e) .1))
+
+  form-room : (i size : ℕ) → firstOf (formChecks s i size) ≡ clear → kindCount s ≤ size
+  unfolding formChecks
+  form-room i size e =
+      from-less size (kindCount s) (clear-none (List·Memᴰ·tail (List·Memᴰ·head refl))
+      (then-clear (firstOf (sheetChecks s ++ normChecks s)) (firstOf (check 11 0 (not (ltb i (fieldCount s))) ∷ check 12 0 (ltb size (kindCount s)) ∷ [])) (sym (first-append (sheetChecks s ++ normChecks s) _) ∙ e) .1))
+
+  kept : {A : Type 0} (x : Answer A) (xs buffer : List ℕ) (f : Finding) → (f ≡ clear → length xs ≤ length buffer)
+      → length ((elim f as (λ _. Lent A) [ clear ↦ record { answer = x; lent = written xs buffer } | refusal k p ↦ record { answer = refused k p; lent = buffer } ]) .lent) ≡ length buffer
+  kept x xs buffer clear h = plain .written-to xs buffer .long (h refl)
+  kept x xs buffer (refusal k p) h = refl
+
+  past : {A : Type 0} (x : Answer A) (xs buffer : List ℕ) (f : Finding) (e : ℕ) → length xs ≤ e
+      → at ((elim f as (λ _. Lent A) [ clear ↦ record { answer = x; lent = written xs buffer } | refusal k p ↦ record { answer = refused k p; lent = buffer } ]) .lent) e ≡ at buffer e
+  past x xs buffer clear e h = plain .written-to xs buffer .past e h
+  past x xs buffer (refusal k p) e h = refl
+
+  table-row : (k j : ℕ) → k < kindCount s → j < kindCount s
+      → at (tableOf s) (k * kindCount s + j) ≡ settledRow (cardOf s) k j
+  unfolding tableOf Rows
+  table-row k j h l = let z : 0 + k ≡ k = omega arith in rw z at (rows-at (settledRow (cardOf s)) (kindCount s) 0 (kindCount s) k j h l)
+
+  walk-taken : (i j limit : ℕ) → (firstOf (walkChecks s i j limit) ≡ clear)
+      ↔ ((firstOf (sheetChecks s) ≡ clear) × (i < fieldCount s) × (j < fieldCount s) × (limit ≤ mostRounds))
+  unfolding walkChecks
+  walk-taken i j limit = (
+    (λ e.
+        let p = then-clear (firstOf (sheetChecks s)) _ (sym (first-append (sheetChecks s) _) ∙ e) in
+        let x = cons-none 11 0 _ _ (p .1) in
+        let y = cons-none 11 1 _ _ (x .1) in
+        let z = cons-none 13 0 _ _ (y .1) in
+        (p .0, small i (fieldCount s) (x .0), small j (fieldCount s) (y .0), from-less mostRounds limit (z .0))),
+    (λ p. first-right (sheetChecks s) _ (p .0)
+        ∙ clear-cons 11 0 _ _ (not-small i (fieldCount s) (p .1))
+        (clear-cons 11 1 _ _ (not-small j (fieldCount s) (p .2)) (clear-cons 13 0 _ [] (not-less mostRounds limit (p .3)) clear-nil))),
+  )
+
+  walk-clear : (i j limit : ℕ) (v : Session) → firstOf (walkChecks s i j limit) ≡ clear → walkOf s i j limit v ≡ within v (fullWalk s i j limit)
+  unfolding walkOf
+  walk-clear i j limit v e = call-clear _ _ (firstOf (walkChecks s i j limit)) e
+
+  walk-loses : (i j limit : ℕ) (v : Session) → walkOf s i j limit v .after .left + walkOf s i j limit v .drawn ≡ v .left
+  unfolding walkOf
+  walk-loses i j limit v = go (firstOf (walkChecks s i j limit))
+    where
+      after : Finding → Walked
+      after f = elim f [ clear ↦ within v (fullWalk s i j limit) | refusal k p ↦ record { answer = refused k p; drawn = 0; after = v } ]
+
+      go : (f : Finding) → after f .after .left + after f .drawn ≡ v .left
+      go clear = within-draws v (fullWalk s i j limit) .1
+      go (refusal k p) = omega arith
+
+  pub demand1 : Demand1 s
+  unfolding settleOf compareOf formOf walkOf rowOf
+  demand1 = record {
+    accepted = (accepted-limits s, limits-accepted s);
+    settled = λ L table h. call-clear _ _ (firstOf (settleChecks s (length table))) (settle-clear (limits-accepted s L) (length table) h);
+    table-row = table-row;
+    table-size = plain .table-size s;
+    form-size = plain .form-size s;
+    settle-length = λ table.
+        kept (given (settledStage (cardOf s))) (tableOf s) table (firstOf (settleChecks s (length table))) (λ e. omega (arith, plain .table-size s, settle-room (length table) e));
+    form-length = λ i buffer.
+        kept (given tt) (primeForm s i) buffer (firstOf (formChecks s i (length buffer))) (λ e. omega (arith, plain .form-size s i, form-room i (length buffer) e));
+    settle-past = λ table e h.
+        past (given (settledStage (cardOf s))) (tableOf s) table (firstOf (settleChecks s (length table))) e (omega (arith, plain .table-size s));
+    form-past = λ i buffer e h.
+        past (given tt) (primeForm s i) buffer (firstOf (formChecks s i (length buffer))) e (omega (arith, plain .form-size s i));
+    called = λ L. called (limits-accepted s L);
+    formed = λ L i buffer h k. call-clear _ _ (firstOf (formChecks s i (length buffer))) (form-clear (limits-accepted s L) i (length buffer) h k);
+    settle-refused = λ table k p e. call-refused _ _ (firstOf (settleChecks s (length table))) k p e;
+    compare-refused = λ i j k p e. call-refused _ _ (firstOf (compareChecks s i j)) k p e;
+    form-refused = λ i buffer k p e. call-refused _ _ (firstOf (formChecks s i (length buffer))) k p e;
+    walk-refused = λ i j limit v k p e. call-refused _ _ (firstOf (walkChecks s i j limit)) k p e;
+    walk-taken = walk-taken;
+    walk-spent = λ i j limit v e. rw (walk-clear i j limit v e) (within-spent v (fullWalk s i j limit) (not-spent i j limit));
+    walk-found = λ i j limit v e n. rw (walk-clear i j limit v e) (within-found v (fullWalk s i j limit) n);
+    walk-draws = λ i j limit v e. rw (walk-clear i j limit v e) (within-draws v (fullWalk s i j limit) .0);
+    walk-session = walk-loses;
+    row-taken = row-taken;
+    row-part = λ n k table e. call-clear _ _ (rowCheckOf n k table) e;
+    row-refused = row-refuses;
+  }

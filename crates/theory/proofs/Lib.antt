@@ -1,0 +1,50 @@
+-- What the model claims, proved. The end is Demands (`demands`) and Meanings (`meanings`); for the code Program, Cut and Checks.
+-- Over any normed card, with a second weight that related fields share (0 for document 01) and any set of live kinds:
+pub mod Search
+pub mod Field
+pub mod Moves
+pub mod Norms
+pub mod Normed
+pub mod Stages
+pub mod Game
+pub mod Rank
+pub mod Base
+pub mod Settle
+pub mod Decide
+pub mod Find
+pub mod Count
+pub mod Step
+pub mod Consequences
+pub mod Further
+-- The model's tests decide what they are named for; its lists and searches; its norms, rows and settled stage.
+pub mod Exec
+pub mod Lists
+pub mod Certified
+pub mod Sweeps
+pub mod Fewest
+pub mod Cut
+pub mod Enumerate
+pub mod Rows
+-- Pairs examined where an allowance may end the count: one part after another, and runs through lists.
+pub mod Counted
+pub mod Runs
+-- Document 01: the plain comparison, whole games, sheets, checks, limits, calls, widths, decimals, pages.
+pub mod Plain
+pub mod Paper
+pub mod Plays
+pub mod Sheets
+pub mod Checks
+pub mod Limits
+pub mod Gain
+pub mod Places
+pub mod Headers
+pub mod Verdicts
+pub mod Walks
+pub mod Answers
+pub mod Settling
+pub mod Program
+pub mod Widths
+pub mod Decimals
+pub mod Pages
+pub mod Meanings
+pub mod Demands

@@ -1,0 +1,124 @@
+-- A sheet is accepted just when it lies within the written limits.
+use mathlib.Core.List.{List, _++_}
+use mathlib.Core.Path.{_≡_, refl, sym, _∙_}
+use Prim.Native.Nat.{ℕ, _+_, _≤_, _<_}
+use native.Mathlib.Decide.{decLt}
+use native.Mathlib.Omega.{arith}
+use lib.Dec.{ltb, eqb}
+use lib.ListN.{length}
+use Rattle.model.specs.Finite.{listFrom}
+use Rattle.model.specs.Field.{unit, at}
+use Rattle.model.specs.Norm.{IsNorm, kindNorm}
+use Rattle.theory.specs.Meanings.{Norms}
+use Rattle.model.specs.Sheet.{u32At, kindCount, codeCount, lineCount, fieldCount, fieldsOffset, totalOf, lineOf, cardOf}
+use Rattle.model.specs.Limits.{mostKinds, mostCodes, mostLines, mostFields, normLimit, Limits}
+use Rattle.model.specs.Refusal.{check, clear, firstOf, headerChecks, lineChecks, normChecks, sheetChecks, Accepted}
+use Rattle.theory.proofs.Exec.{tells-eq}
+use Rattle.theory.proofs.Sheets.{first-append, then-clear, clear-cons, clear-nil, small, not-small, not-less, tame, sheet-clear, positive}
+use Rattle.theory.proofs.Checks.{not-outside, not-differ, both-then, all-clear, each-clear, from-outside, from-less, from-differ, all-none, cons-none, each-none}
+use Rattle.theory.proofs.Fewest.{norms}
+
+module _ (s : List ℕ) (L : Limits s) where
+  header : firstOf (headerChecks s) ≡ clear
+  unfolding headerChecks
+  header =
+      clear-cons 1 0 _ _ (not-less _ _ (L .bytes)) (clear-cons 2 0 _ _ (not-outside 1 mostKinds (kindCount s) (L .kinds .0) (L .kinds .1))
+      (clear-cons 3 0 _ _ (not-outside 1 mostCodes (codeCount s) (L .codes .0) (L .codes .1)) (clear-cons 4 0 _ _ (not-less mostLines (lineCount s) (L .lines))
+      (clear-cons 5 0 _ _ (not-less mostFields (fieldCount s) (L .fields)) (clear-cons 6 0 _ _ (not-differ (u32At s 8) 20 (L .layout .0))
+      (clear-cons 6 1 _ _ (not-differ (u32At s 12) (fieldsOffset s) (L .layout .1)) (clear-cons 6 2 _ _ (not-differ (u32At s 16) (totalOf s) (L .layout .2))
+      (clear-cons 6 3 _ _ (not-differ (length s) (totalOf s) (L .layout .3)) clear-nil))))))))
+
+  of-lines : firstOf (lineChecks s) ≡ clear
+  unfolding lineChecks
+  of-lines = all-clear _ 0 (lineCount s) (λ j h.
+      let u = L .line (0 + j) (omega (arith, h)) in
+      clear-cons 7 _ _ _ (not-small (lineOf s (0 + j) .kind) (kindCount s) (u .0)) (clear-cons 8 _ _ _ (not-small (lineOf s (0 + j) .code) (codeCount s) (u .1)) clear-nil))
+
+  of-sheet : firstOf (sheetChecks s) ≡ clear
+  unfolding sheetChecks
+  of-sheet = first-append (headerChecks s) (lineChecks s) ∙ both-then (firstOf (headerChecks s)) (firstOf (lineChecks s)) header of-lines
+
+  N : Norms (cardOf s)
+  N = norms (cardOf s) (tame s of-sheet)
+
+  kinds-is : cardOf s .kinds ≡ kindCount s
+  unfolding cardOf
+  kinds-is = refl
+
+  found : (k : ℕ) → k < kindCount s → (0 < kindNorm (cardOf s) k) × (kindNorm (cardOf s) k ≤ normLimit)
+  unfolding IsNorm
+  found k h = go (decLt 0 (kindNorm (cardOf s) k)) (L .norm k h)
+    where
+      go : Dec (0 < kindNorm (cardOf s) k) → (v : ℕ) × (v ≤ normLimit) × IsNorm (cardOf s) (unit k) v → (0 < kindNorm (cardOf s) k) × (kindNorm (cardOf s) k ≤ normLimit)
+      go (yes p) (v, l, e) = (p, omega (arith, l, N .kinds k (omega (arith, h, kinds-is)) p .1 v (e .0)))
+      go (no p) (v, l, e) = absurd (N .missing k (omega (arith, h, kinds-is)) (omega arith) v (e .0))
+
+  of-norms : firstOf (normChecks s) ≡ clear
+  unfolding normChecks
+  of-norms =
+      first-append (listFrom (λ k. check 9 k (eqb (v k) 0)) 0 (kindCount s)) (listFrom (λ k. check 10 k (ltb normLimit (v k))) 0 (kindCount s))
+      ∙ both-then _ _ (each-clear 9 (λ k. eqb (v k) 0) 0 (kindCount s) (λ k h t. omega (arith, at-v (0 + k) (omega (arith, h)) .0, tells-eq (v (0 + k)) 0 .fact t)))
+      (each-clear 10 (λ k. ltb normLimit (v k)) 0 (kindCount s) (λ k h. not-less normLimit (v (0 + k)) (at-v (0 + k) (omega (arith, h)) .1)))
+    where
+      v : ℕ → ℕ
+      v = kindNorm (cardOf s)
+
+      at-v : (k : ℕ) → k < kindCount s → (0 < v k) × (v k ≤ normLimit)
+      at-v k h = found k h
+
+  -- "Every sheet within the written limits" is accepted.
+  pub limits-accepted : Accepted s
+  unfolding Accepted
+  limits-accepted = first-append (sheetChecks s) (normChecks s) ∙ both-then (firstOf (sheetChecks s)) (firstOf (normChecks s)) of-sheet of-norms
+
+module _ (s : List ℕ) (ok : Accepted s) where
+  clears : (firstOf (headerChecks s) ≡ clear) × (firstOf (lineChecks s) ≡ clear) × (firstOf (normChecks s) ≡ clear)
+  unfolding Accepted sheetChecks
+  clears =
+      let a = then-clear (firstOf (headerChecks s ++ lineChecks s)) (firstOf (normChecks s)) (sym (first-append (headerChecks s ++ lineChecks s) (normChecks s)) ∙ ok) in
+      let b = then-clear (firstOf (headerChecks s)) (firstOf (lineChecks s)) (sym (first-append (headerChecks s) (lineChecks s)) ∙ a .0) in
+      (b .0, b .1, a .1)
+
+  pub limit-of : (k : ℕ) → k < kindCount s → kindNorm (cardOf s) k ≤ normLimit
+  unfolding normChecks
+  limit-of k h =
+      let z : 0 + k ≡ k = omega arith in
+      let e = then-clear (firstOf (listFrom (λ k. check 9 k (eqb (v k) 0)) 0 (kindCount s))) (firstOf (listFrom (λ k. check 10 k (ltb normLimit (v k))) 0 (kindCount s)))
+      (sym (first-append (listFrom (λ k. check 9 k (eqb (v k) 0)) 0 (kindCount s)) (listFrom (λ k. check 10 k (ltb normLimit (v k))) 0 (kindCount s))) ∙ clears .2) .1 in
+      (from-less normLimit (v k) (rw z at (each-none 10 (λ k. ltb normLimit (v k)) 0 (kindCount s) e k h)))
+    where
+      v : ℕ → ℕ
+      v = kindNorm (cardOf s)
+
+  kinds-are : cardOf s .kinds ≡ kindCount s
+  unfolding cardOf
+  kinds-are = refl
+
+  pub accepted-limits : Limits s
+  unfolding headerChecks lineChecks
+  accepted-limits =
+      let c1 = cons-none 1 0 _ _ (clears .0) in
+      let c2 = cons-none 2 0 _ _ (c1 .1) in
+      let c3 = cons-none 3 0 _ _ (c2 .1) in
+      let c4 = cons-none 4 0 _ _ (c3 .1) in
+      let c5 = cons-none 5 0 _ _ (c4 .1) in
+      let d0 = cons-none 6 0 _ _ (c5 .1) in
+      let d1 = cons-none 6 1 _ _ (d0 .1) in
+      let d2 = cons-none 6 2 _ _ (d1 .1) in
+      let d3 = cons-none 6 3 _ _ (d2 .1) in
+      record {
+        bytes = from-less (length s) 20 (c1 .0);
+        kinds = from-outside 1 mostKinds (kindCount s) (c2 .0);
+        codes = from-outside 1 mostCodes (codeCount s) (c3 .0);
+        lines = from-less mostLines (lineCount s) (c4 .0);
+        fields = from-less mostFields (fieldCount s) (c5 .0);
+        layout = (from-differ (u32At s 8) 20 (d0 .0), from-differ (u32At s 12) (fieldsOffset s) (d1 .0), from-differ (u32At s 16) (totalOf s) (d2 .0), from-differ (length s) (totalOf s) (d3 .0));
+        line = λ j h.
+            let z : 0 + j ≡ j = omega arith in
+            let f = all-none _ 0 (lineCount s) (clears .1) j h in
+            let x = cons-none 7 _ _ _ f in
+            let y = cons-none 8 _ _ _ (x .1) in
+            let u : (lineOf s (0 + j) .kind < kindCount s) × (lineOf s (0 + j) .code < codeCount s) = (small _ _ (x .0), small _ _ (y .0)) in
+            rw z at u;
+        norm = λ k h. (kindNorm (cardOf s) k, limit-of k h, norms (cardOf s) (tame s (sheet-clear s ok)) .kinds k (omega (arith, h, kinds-are)) (positive s ok k h));
+      }

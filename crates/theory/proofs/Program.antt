@@ -1,0 +1,157 @@
+-- What a program that settles a card tests, in the model's words: equal forms for related fields, and few candidates for a row.
+use mathlib.Core.Logic.{_↔_, _⊎_, inl, inr}
+use mathlib.Core.Path.{_≡_, sym, _∙_, ap, fun-ext}
+use Prim.Native.Nat.{ℕ, suc, _+_, _<_}
+use native.Mathlib.Decide.{decLt}
+use native.Mathlib.Omega.{arith}
+use lib.Dec.{T}
+use Rattle.model.specs.Field.{Field, _⊕_, unit}
+use Rattle.model.specs.Card.{Line, Card, On, fire}
+use Rattle.model.specs.Norm.{normBy}
+use Rattle.theory.specs.Expansion.{Expands}
+use Rattle.model.specs.Stage.{equalNorm, stage}
+use Rattle.theory.specs.Stages.{Lowers}
+use Rattle.model.specs.Base.{earlier, row, formAt}
+use Rattle.theory.specs.Terms.{OfKinds}
+use Rattle.theory.proofs.Moves.{expands-map, weigh-fire}
+use Rattle.theory.proofs.Normed.{Normed}
+use Rattle.theory.proofs.Stages.{Stage, level, level-cong}
+use Rattle.theory.proofs.Rank.{Within}
+use Rattle.theory.proofs.Base.{Base, Prime, Atom, Made, form, form-iff, candidate}
+use Rattle.theory.proofs.Settle.{tidy-within}
+use Rattle.theory.proofs.Decide.{Finite}
+use Rattle.theory.proofs.Count.{past, past-whole, level-low, level-base}
+use Rattle.theory.proofs.Exec.{Tells}
+use Rattle.theory.proofs.Certified.{Found}
+use Rattle.theory.proofs.Rows.{finite, tells-earlier, row-is, form-is}
+use Rattle.theory.proofs.Plain.{plain, tidy, tells-equal, tells-plain, stages}
+
+module _ (c : Card) (w : ℕ → ℕ) (F : Found (c .lines) (c .kinds) w) where
+  abbrev N : Normed
+  N = plain c w F
+
+  abbrev fin : Finite (N .on)
+  fin = finite N (c .lines) (λ l o. o) (λ l o. o) (F .positive) (equalNorm c w) (tells-equal c w F)
+
+  -- The form of a field at stage q + 1; two fields of equal forms.
+  abbrev pub formBy : ℕ → Field → Field
+  formBy q a = formAt c w (stage c w) (suc q) a
+
+  abbrev pub Equal : ℕ → Field → Field → Type 0
+  Equal q a b = formBy q a ≡ formBy q b
+
+  abbrev pub rowBy : ℕ → ℕ → Field
+  rowBy q k = row c w (stage c w) (suc q) k
+
+  pub theirs : (q : ℕ) (a : Field) → formBy q a ≡ form N (level N q) (past N fin) (level-base N fin q) a
+  unfolding stage
+  theirs q a = form-is N (c .lines) (λ l o. o) (λ l o. o) (F .positive) (equalNorm c w) (tells-equal c w F) q a
+
+  row-of : (q k : ℕ) → k < c .kinds → rowBy q k ≡ level-base N fin q .row k
+  unfolding stage
+  row-of q k h = row-is N (c .lines) (λ l o. o) (λ l o. o) (F .positive) (equalNorm c w) (tells-equal c w F) q k h
+
+  tells-level : (q : ℕ) (a b : Field) → Tells (stage c w (suc q) a b) (level N q a b)
+  unfolding Stage
+  tells-level q a b = tells-plain c w F (suc q) a b
+
+  pub fire-kinds : (l : Line) (a : Field) → On c l → OfKinds c a → OfKinds c (fire l a)
+  fire-kinds l a o f k h = go (decLt 0 (a k))
+    where
+      go : Dec (0 < a k) → k < c .kinds
+      go (yes p) = f k p
+      go (no p) = F .counts l o k (omega arith)
+
+  -- A stage from 1 up relates the fields of equal forms.
+  pub stage-forms : (q : ℕ) (a b : Field) → OfKinds c a → OfKinds c b → T (stage c w (suc q) a b) ↔ Equal q a b
+  stage-forms q a b u v = (
+    (λ t. theirs q a ∙ i .0 (tells-level q a b .fact t) ∙ sym (theirs q b)),
+    (λ e. tells-level q a b .test (i .1 (sym (theirs q a) ∙ e ∙ theirs q b))),
+  )
+    where
+      within : (x : Field) → OfKinds c x → Within N (past N fin) x
+      within x f = tidy-within N (past N fin) (past-whole N fin) x (tidy c w F x f)
+
+      i : level N q a b ↔ (form N (level N q) (past N fin) (level-base N fin q) a ≡ form N (level N q) (past N fin) (level-base N fin q) b)
+      i = form-iff N (level N q) (past N fin) (level-base N fin q) (level-cong N q) (level-low N fin q) a b (within a u) (within b v)
+
+  -- So expansion in a stage is expansion in equal forms, by all lines or by those that lower the norm.
+  module _ (L : Line → Type 0) (in-card : (l : Line) → L l → On c l) (q : ℕ) (a b : Field) (u : OfKinds c a) (v : OfKinds c b) where
+    abbrev Related : Field → Field → Type 0
+    Related x y = T (stage c w (suc q) x y)
+
+    pub expands-forms : Expands L Related a b ↔ Expands L (Equal q) a b
+    expands-forms = (
+      expands-map L Related (Equal q) a b (λ l m o _ p _. stage-forms q _ _ (fire-kinds l a (in-card l o) u) (fire-kinds m b (in-card m p) v) .0),
+      expands-map L (Equal q) Related a b (λ l m o _ p _. stage-forms q _ _ (fire-kinds l a (in-card l o) u) (fire-kinds m b (in-card m p) v) .1),
+    )
+
+  module _ (a b : Field) (u : OfKinds c a) (v : OfKinds c b) where
+    -- The test of a pair at stage 1, and at each later stage from the forms of the stage before.
+    pub test-one : Equal 0 a b ↔ ((normBy c w a ≡ normBy c w b) × Expands (Lowers c w) (Equal 0) a b)
+    test-one =
+        let f = stage-forms 0 a b u v in
+        let e = expands-forms (Lowers c w) (λ l o. o .0) 0 a b u v in
+        let S = stages c w F in (
+          (λ x. let y = S .one a b .0 (f .1 x) in (S .start a b .0 (y .0), e .0 (y .1))),
+          (λ x. f .0 (S .one a b .1 (S .start a b .1 (x .0), e .1 (x .1)))),
+        )
+
+    pub test-next : (q : ℕ) → Equal (suc q) a b ↔ (Equal q a b × Expands (On c) (Equal q) a b × Expands (Lowers c w) (Equal (suc q)) a b)
+    test-next q =
+        let f = stage-forms (suc q) a b u v in
+        let g = stage-forms q a b u v in
+        let d = expands-forms (On c) (λ l o. o) q a b u v in
+        let e = expands-forms (Lowers c w) (λ l o. o .0) (suc q) a b u v in
+        let S = stages c w F in (
+          (λ x. let y = S .next q a b .0 (f .1 x) in (g .0 (y .0), d .0 (y .1), e .0 (y .2))),
+          (λ x. f .0 (S .next q a b .1 (g .1 (x .0), d .1 (x .1), e .1 (x .2)))),
+        )
+
+  -- What a line does to a form, and when two lines leave equal forms where the forms were equal: that depends on the lines alone.
+  pub form-fire : (q : ℕ) (l : Line) (a : Field) → On c l → 0 < a (l .kind) → (j : ℕ) → formBy q (fire l a) j + rowBy q (l .kind) j ≡ formBy q a j + formBy q (l .left) j
+  unfolding formAt
+  form-fire q l a o h j = weigh-fire (c .kinds) (λ k. rowBy q k j) l a (F .kinds l o) h
+
+  pub effects : (q : ℕ) (l m : Line) (a b : Field) → On c l → On c m → 0 < a (l .kind) → 0 < b (m .kind) → Equal q a b
+      → Equal q (fire l a) (fire m b) ↔ (formBy q (l .left) ⊕ rowBy q (m .kind) ≡ formBy q (m .left) ⊕ rowBy q (l .kind))
+  effects q l m a b o p h i e = (
+    (λ x. fun-ext (λ j. omega (arith, form-fire q l a o h j, form-fire q m b p i j, ap (λ (f : Field). f j) e, ap (λ (f : Field). f j) x))),
+    (λ x. fun-ext (λ j. omega (arith, form-fire q l a o h j, form-fire q m b p i j, ap (λ (f : Field). f j) e, ap (λ (f : Field). f j) x))),
+  )
+
+  -- The candidates: whatever line l of a kind that lowers the norm is asked, if the kind is no atom its row is told by l and by a line m of an
+  -- earlier atom, of l's code, that lowers the norm.
+  pub record Candidate (q k : ℕ) (l : Line) : Type 0 where
+    pub line : Line
+    pub lowers : Lowers c w line
+    pub before : T (earlier w k (line .kind))
+    pub own : rowBy q (line .kind) ≡ unit (line .kind)
+    pub code : line .code ≡ l .code
+    pub row-told : rowBy q k ⊕ formBy q (line .left) ≡ unit (line .kind) ⊕ formBy q (l .left)
+
+  pub row-candidate : (q k : ℕ) → k < c .kinds → ¬ (rowBy q k ≡ unit k) → (l : Line) → Lowers c w l → l .kind ≡ k → Candidate q k l
+  row-candidate q k h n l o e = go (D .sort k h (F .positive k h) (past-whole N fin k h))
+    where
+      R : Field → Field → Type 0
+      R = level N q
+
+      D : Base N R (past N fin)
+      D = level-base N fin q
+
+      go : (Atom (D .row) k × Prime N R k) ⊎ Made N (D .row) k → Candidate q k l
+      go (inl p) = absurd (n (row-of q k h ∙ p .0))
+      go (inr m) =
+          let W = past-whole N fin in
+          let t = candidate N R (past N fin) D (level-cong N q) (level-low N fin q) k (omega (arith, W k h)) (D .row k)
+          ((λ j i. let u = m j i in (u .0, u .1, W j (u .0))), (λ j i. m j i .3)) (D .rel k h (F .positive k h) (W k h)) l o e in
+          let y = t .0 in
+          let u = m (y .kind) (t .2) in
+          record {
+            line = y;
+            lowers = t .1;
+            before = tells-earlier N (c .lines) (λ l o. o) (λ l o. o) (F .positive) (equalNorm c w) (tells-equal c w F) k (y .kind) h (u .0) .test (u .2);
+            own = row-of q (y .kind) (u .0) ∙ u .3;
+            code = t .3;
+            row-told = rw (row-of q k h, theirs q (y .left), theirs q (l .left)) (t .4);
+          }

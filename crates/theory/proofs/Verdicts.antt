@@ -1,0 +1,245 @@
+-- Demands 2 and 3, of two fields of an accepted sheet.
+use mathlib.Core.List.{List, []}
+use mathlib.Core.Logic.{_↔_}
+use mathlib.Core.Path.{_≡_, refl, sym, _∙_, ap, fun-ext}
+use Prim.Native.Nat.{ℕ, _+_, _<_}
+use native.Mathlib.Decide.{decLt}
+use native.Mathlib.Omega.{arith}
+use lib.ListN.{getD}
+use Rattle.model.specs.Finite.{listFrom}
+use Rattle.model.specs.Field.{Field, unit, at}
+use Rattle.model.specs.Card.{Card, On}
+use Rattle.model.specs.Norm.{IsNorm, kindNorm, norm}
+use Rattle.theory.specs.Expansion.{Expands, Bisimilar}
+use Rattle.model.specs.Stage.{equalNorm, stage}
+use Rattle.model.specs.Base.{gain, firstSettled, formAt, roundsAt}
+use Rattle.theory.specs.Game.{Always}
+use Rattle.theory.specs.Terms.{Earlier, Before, Prime, OfKinds}
+use Rattle.model.specs.Sheet.{kindCount, fieldCount, cardOf, fieldOf}
+use Rattle.model.specs.Refusal.{Finding, clear, refusal, firstOf, Accepted, compareChecks}
+use Rattle.model.specs.Answer.{Answer, refused, given, same, different, verdict, compareOf, primeForm}
+use Rattle.theory.specs.Demands.{Demand2, Demand3}
+use Rattle.theory.proofs.Moves.{expands-map}
+use Rattle.theory.proofs.Normed.{Normed, Tidy}
+use Rattle.theory.proofs.Stages.{Stage, level, level-cong}
+use Rattle.theory.proofs.Rank.{rank, Within}
+use Rattle.theory.proofs.Base.{Base, form, form-within, form-rel, form-iff, unit-some}
+use Rattle.theory.proofs.Base.{Prime as BasePrime}
+use Rattle.theory.proofs.Settle.{tidy-within, tidy-fire}
+use Rattle.theory.proofs.Decide.{Finite, dec-stage}
+use Rattle.theory.proofs.Count.{past, past-whole, level-low, level-base}
+use Rattle.theory.proofs.Further.{atom-prime}
+use Rattle.theory.proofs.Lists.{getD-from, getD-past}
+use Rattle.theory.proofs.Fewest.{norms}
+use Rattle.theory.proofs.Rows.{Least, finite, order-iff, form-is}
+use Rattle.theory.proofs.Plain.{plain, tidy, tells-equal, tells-plain, settled, settled-bisimilar, settled-always, same-iff, different-iff, different-parts}
+use Rattle.theory.proofs.Plays.{parts, parted-parting, parting-not, strategy-holds, plays-all}
+use Rattle.theory.proofs.Gain.{is-gain}
+use Rattle.model.proofs.Plain as model
+use Rattle.theory.proofs.Sheets.{clear-cons, clear-nil, not-small, field-kinds, call-checks, sheet-clear, tame, some-kind, certified}
+
+pub given-clear : {A : Type 0} (f : Finding) (x : A) → f ≡ clear → (elim f as (λ _. Answer A) [ clear ↦ given x | refusal k p ↦ refused k p ]) ≡ given x
+given-clear clear x e = refl
+given-clear (refusal k p) x e = let z : _≡_ {A = ℕ} 0 1 = cc in absurd (omega arith)
+
+given-same : {A : Type 0} (x y : A) → given x ≡ given y → x ≡ y
+given-same x y e = cc
+
+module _ (s : List ℕ) (ok : Accepted s) where
+  abbrev pub c : Card
+  c = cardOf s
+
+  abbrev pub w : ℕ → ℕ
+  w = kindNorm (cardOf s)
+
+  abbrev pub N : Normed
+  N = plain (cardOf s) (kindNorm (cardOf s)) (certified s ok)
+
+  pub some : 0 < cardOf s .kinds
+  unfolding cardOf
+  some = some-kind s ok
+
+  abbrev pub t : ℕ
+  t = firstSettled c w (stage c w)
+
+  pub L : Least N (c .lines) (λ l o. o) (λ l o. o) (certified s ok .positive) (equalNorm c w) (tells-equal c w (certified s ok)) t
+  L = settled c w (certified s ok) some
+
+  abbrev pub field : ℕ → Field
+  field i = fieldOf s i
+
+  pub field-tidy : (i : ℕ) → Tidy N (field i)
+  field-tidy i = tidy c w (certified s ok) (field i) (field-kinds s i)
+
+  pub compare-clear : (i j : ℕ) → i < fieldCount s → j < fieldCount s → firstOf (compareChecks s i j) ≡ clear
+  unfolding compareChecks
+  compare-clear i j h k =
+      call-checks s ok _ ∙ clear-cons 11 0 _ _ (not-small i (fieldCount s) h) (clear-cons 11 1 _ [] (not-small j (fieldCount s) k) clear-nil)
+
+  pub compare-is : (i j : ℕ) → i < fieldCount s → j < fieldCount s → compareOf s i j ≡ given (verdict c w (field i) (field j))
+  unfolding compareOf
+  compare-is i j h k = given-clear (firstOf (compareChecks s i j)) _ (compare-clear i j h k)
+
+  -- The base at the settled stage q + 1.
+  abbrev pub q : ℕ
+  q = L .before
+
+  abbrev pub fin : Finite (N .on)
+  fin = finite N (c .lines) (λ l o. o) (λ l o. o) (certified s ok .positive) (equalNorm c w) (tells-equal c w (certified s ok))
+
+  abbrev pub B : ℕ
+  B = past N fin
+
+  abbrev pub R : Field → Field → Type 0
+  R = level N q
+
+  abbrev pub D : Base N R B
+  D = level-base N fin q
+
+  to-stage : (a b : Field) → R a b → Stage N t a b
+  unfolding Stage
+  to-stage a b p = rw (L .is) p
+
+  from-stage : (a b : Field) → Stage N t a b → R a b
+  unfolding Stage
+  from-stage a b p = rw (L .is) at p
+
+  field-within : (i : ℕ) → Within N B (field i)
+  field-within i = tidy-within N B (past-whole N fin) (field i) (field-tidy i)
+
+  -- What is written is the form of the field.
+  pub form-of : ℕ → Field
+  form-of i = form N R B D (field i)
+
+  written-is : (i : ℕ) → formAt c w (stage c w) t (field i) ≡ form-of i
+  unfolding form-of stage
+  written-is i = rw (L .is) (form-is N (c .lines) (λ l o. o) (λ l o. o) (certified s ok .positive) (equalNorm c w) (tells-equal c w (certified s ok)) q (field i))
+
+  prime-form-is : (i : ℕ) → primeForm s i ≡ listFrom (form-of i) 0 (kindCount s)
+  unfolding primeForm
+  prime-form-is i = ap (λ (f : Field). listFrom f 0 (kindCount s)) (written-is i)
+
+  pub form-parts : (i : ℕ) → Within N B (form-of i) × ((k : ℕ) → 0 < form-of i k → D .row k ≡ unit k)
+  unfolding form-of
+  form-parts i = form-within N R B D B (field i) (omega arith) (field-within i)
+
+  pub kinds-is : cardOf s .kinds ≡ kindCount s
+  unfolding cardOf
+  kinds-is = refl
+
+  pub at-form : (i : ℕ) → at (primeForm s i) ≡ form-of i
+  at-form i = fun-ext (λ k. ap (λ (l : List ℕ). getD l k 0) (prime-form-is i) ∙ each k (decLt k (kindCount s)) (decLt 0 (form-of i k)))
+    where
+      zero-of : (n : ℕ) → ¬ (0 < n) → 0 ≡ n
+      zero-of n h = omega arith
+
+      each : (k : ℕ) → Dec (k < kindCount s) → Dec (0 < form-of i k) → getD (listFrom (form-of i) 0 (kindCount s)) k 0 ≡ form-of i k
+      each k (yes h) p = let z : 0 + k ≡ k = omega arith in getD-from (form-of i) 0 (kindCount s) k 0 h ∙ ap (form-of i) z
+      each k (no h) (yes p) = absurd (omega (arith, form-parts i .0 k p .0, kinds-is))
+      each k (no h) (no p) = getD-past (form-of i) 0 (kindCount s) k 0 (omega arith) ∙ zero-of (form-of i k) p
+
+  form-tidy : (i : ℕ) → Tidy N (form-of i)
+  form-tidy i k h = let u = form-parts i .0 k h in (u .0, u .1)
+
+  bisimilar {ℓ} : (a b : Field) → Tidy N a → Tidy N b → Stage N t a b ↔ Bisimilar {ℓ} (On c) a b
+  bisimilar a b u v = settled-bisimilar c w (certified s ok) t (L .most) (L .settled) a b u v
+
+  pub field-form : (i : ℕ) → R (field i) (form-of i)
+  unfolding form-of
+  field-form i = form-rel N R B D (level-cong N q) (level-low N fin q) (field i) (field-within i)
+
+  -- Prime at the settled stage is prime.
+  pub prime-iff {ℓ} : (k : ℕ) → k < c .kinds → BasePrime N R k ↔ Prime {ℓ} c k
+  prime-iff k h = (
+    (λ p. (h, λ a f x. p a (within a f) (from-stage (unit k) a (bisimilar (unit k) a unit-tidy (within-tidy a (within a f)) .1 x)))),
+    (λ p a f x. p .1 a (before a f) (bisimilar (unit k) a unit-tidy (within-tidy a f) .0 (to-stage (unit k) a x))),
+  )
+    where
+      order : (j : ℕ) → j < c .kinds → Earlier c j k ↔ (rank N j < rank N k)
+      order j i = order-iff N (c .lines) (λ l o. o) (λ l o. o) (certified s ok .positive) (equalNorm c w) (tells-equal c w (certified s ok)) k j h i
+
+      within : (a : Field) → Before c k a → Within N (rank N k) a
+      within a f j x = let v = f j x in (v .0, certified s ok .positive j (v .0), order j (v .0) .0 (v .1))
+
+      before : (a : Field) → Within N (rank N k) a → Before c k a
+      before a f j x = let v = f j x in (v .0, order j (v .0) .1 (v .2))
+
+      unit-tidy : Tidy N (unit k)
+      unit-tidy j x = rw (unit-some k j x) (h, certified s ok .positive k h)
+
+      within-tidy : (a : Field) → Within N (rank N k) a → Tidy N a
+      within-tidy a f j x = let v = f j x in (v .0, v .1)
+
+  form-prime {ℓ} : (i k : ℕ) → 0 < form-of i k → Prime {ℓ} c k
+  form-prime i k h =
+      let u = form-parts i .0 k h in
+      prime-iff k (u .0) .0 (atom-prime N R B (level-cong N q) (level-low N fin q) D k (u .0) (u .1) (u .2) (form-parts i .1 k h))
+
+  module _ (i j : ℕ) (hi : i < fieldCount s) (hj : j < fieldCount s) where
+    abbrev a : Field
+    a = fieldOf s i
+
+    abbrev b : Field
+    b = fieldOf s j
+
+    same-stage : (compareOf s i j ≡ given same) ↔ Stage N t a b
+    same-stage =
+        let x = same-iff c w (certified s ok) t (L .most) (L .settled) a b (field-tidy i) (field-tidy j) in
+        let e = compare-is i j hi hj in
+        ((λ p. x .0 (given-same _ _ (sym e ∙ p))), (λ p. e ∙ ap given (x .1 p)))
+
+    different-stage : ((d : ℕ) × (r : ℕ) × (compareOf s i j ≡ given (different d r))) ↔ (¬ Stage N t a b)
+    different-stage =
+        let x = different-iff c w (certified s ok) t (L .most) (L .settled) a b (field-tidy i) (field-tidy j) in
+        let e = compare-is i j hi hj in
+        ((λ p. x .0 (p .0, p .1, given-same _ _ (sym e ∙ p .2))), (λ p. let y = x .1 p in (y .0, y .1, e ∙ ap given (y .2))))
+
+    forms-iff : R a b ↔ (form-of i ≡ form-of j)
+    unfolding form-of
+    forms-iff = form-iff N R B D (level-cong N q) (level-low N fin q) a b (field-within i) (field-within j)
+
+    pub demand2 {ℓ} : Demand2 {ℓ} s i j
+    demand2 =
+        let x = bisimilar a b (field-tidy i) (field-tidy j) in
+        record {
+          same-means = ((λ p. x .0 (same-stage .0 p)), (λ p. same-stage .1 (x .1 p)));
+          different-means = ((λ p y. different-stage .0 p (x .1 y)), (λ n. different-stage .1 (λ p. n (x .0 p))));
+          form-primes = λ k h. form-prime i k (rw (ap (λ (f : Field). f k) (at-form i)) at h);
+          form-bisimilar = rw (at-form i) (bisimilar a (form-of i) (field-tidy i) (form-tidy i) .0 (to-stage a (form-of i) (field-form i)));
+          form-equal = (
+            (λ p. same-stage .1 (to-stage a b (forms-iff .1 (sym (at-form i) ∙ ap at p ∙ at-form j)))),
+            (λ p. prime-form-is i ∙ ap (λ (f : Field). listFrom f 0 (kindCount s)) (forms-iff .0 (from-stage a b (same-stage .0 p))) ∙ sym (prime-form-is j)),
+          );
+        }
+
+    always : Stage N t a b ↔ Always c a b
+    always = settled-always c w (certified s ok) t (L .most) (L .settled) a b (field-tidy i) (field-tidy j)
+
+    again : (a b : Field) → OfKinds c a → OfKinds c b → Always c a b → Expands (On c) (Always c) a b
+    again a b u v h =
+        let F = certified s ok in
+        let at-all : (x : Field) → OfKinds c x → Tidy N x = λ x f. tidy c w F x f in
+        expands-map (On c) (Stage N t) (Always c) a b
+        (λ l m o _ p _ z. settled-always c w F t (L .most) (L .settled) _ _ (tidy-fire N l a o (at-all a u)) (tidy-fire N m b p (at-all b v)) .0 z)
+        (L .settled a b (at-all a u) (at-all b v) (settled-always c w F t (L .most) (L .settled) a b (at-all a u) (at-all b v) .1 h))
+
+    norm-is : (k : ℕ) → IsNorm c (fieldOf s k) (norm c (fieldOf s k))
+    norm-is k = norms c (tame s (sheet-clear s ok)) .fields (fieldOf s k) (field-tidy k)
+
+    pub demand3 : Demand3 s i j
+    unfolding roundsAt cardOf
+    demand3 = record {
+      same-plays = λ p.
+          plays-all c (Stage N t) (dec-stage N fin t) (Tidy N) (λ l o x u. tidy-fire N l x o u) (λ x y u v z. L .settled x y u v z) a b (Always c)
+          (λ x y g. settled-always c w (certified s ok) t (L .most) (L .settled) x y (g .0) (g .1) .0 (g .2)) (field-tidy i, field-tidy j, same-stage .0 p);
+      plays-same = λ f g. same-stage .1 (always .1 (λ r. strategy-holds c f r [] a b g));
+      parted-different = λ x.
+          different-stage .1 (parting-not c (Stage N t) (Tidy N) (λ l o y u. tidy-fire N l y o u) (λ y z u v p. L .settled y z u v p) x (field-tidy i) (field-tidy j));
+      different-parted = λ d r e.
+          let x = different-parts c w (certified s ok) t (L .most) (L .settled) a b (field-tidy i) (field-tidy j) d r (given-same _ _ (sym (compare-is i j hi hj) ∙ e)) in
+          (parted-parting c r a b (parts c r a b (x .2)), parts c r a b (x .2), x .2, x .0, (norm c a, norm c b, gain c, norm-is i, norm-is j, is-gain s ok, (λ z. x .1 ∙ rw z (model.plain .rounds-none _ _)), (λ z. x .1 ∙ model.plain .rounds-some _ _ d z)));
+      different-stage = λ d r e.
+          let x = different-parts c w (certified s ok) t (L .most) (L .settled) a b (field-tidy i) (field-tidy j) d r (given-same _ _ (sym (compare-is i j hi hj) ∙ e)) in
+          ((λ y. x .3 .0 (tells-plain c w (certified s ok) d a b .fact y)), (λ q h. tells-plain c w (certified s ok) q a b .test (x .3 .1 q h)));
+      always-again = again;
+    }

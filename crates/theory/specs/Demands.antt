@@ -1,0 +1,105 @@
+-- The three demands, as types over the answers.
+use mathlib.Core.List.{List, []}
+use mathlib.Core.Logic.{_↔_, _⊎_}
+use mathlib.Core.Path.{_≡_}
+use Prim.Native.Nat.{ℕ, _+_, _-_, _*_, _≤_, _<_, min}
+use lib.ListN.{length, take, drop}
+use Rattle.model.specs.Field.{Field, at}
+use Rattle.model.specs.Card.{On}
+use Rattle.model.specs.Norm.{IsNorm}
+use Rattle.theory.specs.Expansion.{Expands, Bisimilar}
+use Rattle.model.specs.Base.{settledStage, settledRow}
+use Rattle.theory.specs.Game.{Holds, Always, Parting, Parted, Strategy, Answered, Challenge}
+use Rattle.model.specs.Walk.{spent}
+use Rattle.model.specs.Sheet.{kindCount, fieldCount, cardOf, fieldOf}
+use Rattle.model.specs.Limits.{mostKinds, mostRounds, Limits}
+use Rattle.model.specs.Refusal.{Accepted, clear, refusal, firstOf, sheetChecks, settleChecks, compareChecks, formChecks, walkChecks}
+use Rattle.theory.specs.Terms.{OfKinds, IsGain, Stage, Prime}
+use Rattle.model.specs.Answer.{refused, given, Session, same, different, settleOf, compareOf, formOf, walkOf, rowOf, rowCheckOf, tableOf, primeForm, written, fullWalk}
+
+-- Demand 1.
+pub record Demand1 (s : List ℕ) : Type 0 where
+  -- "A sheet is accepted when none of 1 to 10 applies to it": just when it lies within the written limits.
+  pub accepted : Accepted s ↔ Limits s
+  -- "Every sheet within the written limits is settled, any two of its fields are called same or different, and every prime form is written."
+  pub settled : Limits s → (table : List ℕ) → kindCount s * kindCount s ≤ length table
+      → settleOf s table ≡ record { answer = given (settledStage (cardOf s)); lent = written (tableOf s) table }
+  -- "row by row in kind number, n × n of them"
+  pub table-row : (k j : ℕ) → k < kindCount s → j < kindCount s
+      → at (tableOf s) (k * kindCount s + j) ≡ settledRow (cardOf s) k j
+  pub table-size : length (tableOf s) ≡ kindCount s * kindCount s
+  -- "n counts"
+  pub form-size : (i : ℕ) → length (primeForm s i) ≡ kindCount s
+  -- A lent buffer keeps its length, whatever the answer.
+  pub settle-length : (table : List ℕ) → length (settleOf s table .lent) ≡ length table
+  pub form-length : (i : ℕ) (buffer : List ℕ) → length (formOf s i buffer .lent) ≡ length buffer
+  -- "Bytes of a lent buffer past those named keep their values."
+  pub settle-past : (table : List ℕ) (e : ℕ) → kindCount s * kindCount s ≤ e → at (settleOf s table .lent) e ≡ at table e
+  pub form-past : (i : ℕ) (buffer : List ℕ) (e : ℕ) → kindCount s ≤ e → at (formOf s i buffer .lent) e ≡ at buffer e
+  pub called : Limits s → (i j : ℕ) → i < fieldCount s → j < fieldCount s
+      → (compareOf s i j ≡ given same) ⊎ ((t : ℕ) × (r : ℕ) × (compareOf s i j ≡ given (different t r)))
+  pub formed : Limits s → (i : ℕ) (buffer : List ℕ) → i < fieldCount s → kindCount s ≤ length buffer
+      → formOf s i buffer ≡ record { answer = given tt; lent = written (primeForm s i) buffer }
+  -- "Every other sheet, field number, round limit or short buffer gets the first number that applies in the table, and nothing lent changes."
+  pub settle-refused : (table : List ℕ) (k p : ℕ) → firstOf (settleChecks s (length table)) ≡ refusal k p
+      → settleOf s table ≡ record { answer = refused k p; lent = table }
+  pub compare-refused : (i j k p : ℕ) → firstOf (compareChecks s i j) ≡ refusal k p → compareOf s i j ≡ refused k p
+  pub form-refused : (i : ℕ) (buffer : List ℕ) (k p : ℕ) → firstOf (formChecks s i (length buffer)) ≡ refusal k p
+      → formOf s i buffer ≡ record { answer = refused k p; lent = buffer }
+  pub walk-refused : (i j limit : ℕ) (v : Session) (k p : ℕ) → firstOf (walkChecks s i j limit) ≡ refusal k p
+      → walkOf s i j limit v ≡ record { answer = refused k p; drawn = 0; after = v }
+  -- Walk: "two fields, a round limit 0 to 8 .. It takes cards without norms": it is not refused just when the sheet passes 1 to 8 and the three numbers are such.
+  pub walk-taken : (i j limit : ℕ) → (firstOf (walkChecks s i j limit) ≡ clear)
+      ↔ ((firstOf (sheetChecks s) ≡ clear) × (i < fieldCount s) × (j < fieldCount s) × (limit ≤ mostRounds))
+  -- "The walker's spent is given when its counted pairs pass the allowance, and not otherwise."
+  pub walk-spent : (i j limit : ℕ) (v : Session) → firstOf (walkChecks s i j limit) ≡ clear
+      → (walkOf s i j limit v .answer ≡ given spent) ↔ (v .left < fullWalk s i j limit .count)
+  pub walk-found : (i j limit : ℕ) (v : Session) → firstOf (walkChecks s i j limit) ≡ clear → ¬ (v .left < fullWalk s i j limit .count)
+      → walkOf s i j limit v .answer ≡ given (fullWalk s i j limit .found)
+  pub walk-draws : (i j limit : ℕ) (v : Session) → firstOf (walkChecks s i j limit) ≡ clear
+      → walkOf s i j limit v .drawn ≡ min (fullWalk s i j limit .count) (v .left)
+  -- What is drawn is what the session loses, refused or not.
+  pub walk-session : (i j limit : ℕ) (v : Session) → walkOf s i j limit v .after .left + walkOf s i j limit v .drawn ≡ v .left
+  -- Row, of which the sheet is no part: "that part of the lent table" that begins at k × n, and "the part is empty just when that check refuses".
+  -- It is not refused just when n is 1 to 32, the kind is under n, and the table has n × n entries.
+  pub row-taken : (n k : ℕ) (table : List ℕ) → (rowCheckOf n k table ≡ clear) ↔ ((1 ≤ n) × (n ≤ mostKinds) × (k < n) × (n * n ≤ length table))
+  pub row-part : (n k : ℕ) (table : List ℕ) → rowCheckOf n k table ≡ clear → rowOf n k table ≡ take n (drop (k * n) table)
+  pub row-refused : (n k : ℕ) (table : List ℕ) → (rowOf n k table ≡ []) ↔ ((q : ℕ) × (p : ℕ) × (rowCheckOf n k table ≡ refusal q p))
+
+-- Demand 2, of fields i and j of an accepted sheet, with bisimulations of every universe.
+pub record Demand2 {ℓ} (s : List ℕ) (i j : ℕ) : Type (ℓ + 1) where
+  -- "Same means that some bisimulation of Hirshfeld, Jerrum and Moller relates them, and different that none does."
+  pub same-means : (compareOf s i j ≡ given same) ↔ Bisimilar {ℓ} (On (cardOf s)) (fieldOf s i) (fieldOf s j)
+  pub different-means : ((t : ℕ) × (r : ℕ) × (compareOf s i j ≡ given (different t r))) ↔ (¬ Bisimilar {ℓ} (On (cardOf s)) (fieldOf s i) (fieldOf s j))
+  -- "A prime form holds prime kinds only, is bisimilar to its field, and is equal for two fields just when they are the same."
+  pub form-primes : (k : ℕ) → 0 < at (primeForm s i) k → Prime {ℓ} (cardOf s) k
+  pub form-bisimilar : Bisimilar {ℓ} (On (cardOf s)) (fieldOf s i) (at (primeForm s i))
+  pub form-equal : (primeForm s i ≡ primeForm s j) ↔ (compareOf s i j ≡ given same)
+
+-- Demand 3, one claim about whole games, of fields i and j of an accepted sheet.
+pub record Demand3 (s : List ℕ) (i j : ℕ) : Type 0 where
+  -- "The two are called same exactly when, whatever list of challenges is given, however long and on whichever side each falls, every
+  -- challenge can be answered, by replies that need not know what is still to come." The pair left after every such list holds at every r.
+  pub same-plays : compareOf s i j ≡ given same
+      → (f : Strategy (cardOf s)) × ((hs : List (Challenge (cardOf s))) → Answered (cardOf s) f (Always (cardOf s)) [] hs (fieldOf s i) (fieldOf s j))
+  pub plays-same : (f : Strategy (cardOf s))
+      → ((hs : List (Challenge (cardOf s))) → Answered (cardOf s) f (λ _ _. Unit {0}) [] hs (fieldOf s i) (fieldOf s j)) → compareOf s i j ≡ given same
+  -- "They are called different exactly when some choice of challenges, each made in view of the replies so far, parts them whatever the replies,
+  -- and then within the number of rounds reported, which is N + 1 + (s - 1)(g + 1), or N + 1 if s is 0: N the smaller of the two norms, s the
+  -- stage reported, never above the number of kinds, g the most that one read adds to a norm."
+  pub parted-different : Parting (cardOf s) (fieldOf s i) (fieldOf s j) → (t : ℕ) × (q : ℕ) × (compareOf s i j ≡ given (different t q))
+  pub different-parted : (t r : ℕ) → compareOf s i j ≡ given (different t r) → Parting (cardOf s) (fieldOf s i) (fieldOf s j) × Parted (cardOf s) r (fieldOf s i) (fieldOf s j)
+      × (¬ Holds (cardOf s) r (fieldOf s i) (fieldOf s j)) × (t ≤ kindCount s)
+      × ((x : ℕ) × (y : ℕ) × (g : ℕ) × IsNorm (cardOf s) (fieldOf s i) x × IsNorm (cardOf s) (fieldOf s j) y × IsGain (cardOf s) g
+      × (t ≡ 0 → r ≡ min x y + 1) × (0 < t → r ≡ min x y + 1 + (t - 1) * (g + 1)))
+  -- "The stage is the least that does not relate the pair."
+  pub different-stage : (t r : ℕ) → compareOf s i j ≡ given (different t r)
+      → (¬ Stage (cardOf s) t (fieldOf s i) (fieldOf s j)) × ((q : ℕ) → q < t → Stage (cardOf s) q (fieldOf s i) (fieldOf s j))
+  -- "Each challenge to them has a reply that leaves a pair which again holds at every r, and this stays so after every list of rounds so answered."
+  pub always-again : (a b : Field) → OfKinds (cardOf s) a → OfKinds (cardOf s) b → Always (cardOf s) a b → Expands (On (cardOf s)) (Always (cardOf s)) a b
+
+-- The whole: of every sheet, and of every two fields of an accepted sheet.
+pub record Demands {ℓ} : Type (ℓ + 1) where
+  pub demand1 : (s : List ℕ) → Demand1 s
+  pub demand2 : (s : List ℕ) → Accepted s → (i j : ℕ) → i < fieldCount s → j < fieldCount s → Demand2 {ℓ} s i j
+  pub demand3 : (s : List ℕ) → Accepted s → (i j : ℕ) → i < fieldCount s → j < fieldCount s → Demand3 s i j

@@ -1,0 +1,45 @@
+-- Expansion and bisimulation (document 000, section 2), as types.
+use mathlib.Core.Path.{_≡_}
+use Prim.Native.Nat.{ℕ, _<_}
+use Rattle.model.specs.Field.{Field}
+use Rattle.model.specs.Card.{Line, fire}
+
+-- A reply to a read of code c that left x: a line of L that b may use, of the same code, with the results related.
+pub record Reply {ℓ} (L : Line → Type 0) (R : Field → Field → Type ℓ) (c : ℕ) (x b : Field) : Type ℓ where
+  pub line : Line
+  pub on : L line
+  pub can : 0 < b (line .kind)
+  pub same : line .code ≡ c
+  pub rel : R x (fire line b)
+
+-- Each read of the first side by a line of L has such a reply of the second.
+abbrev pub Simulates {ℓ} : (Line → Type 0) → (Field → Field → Type ℓ) → Field → Field → Type ℓ
+Simulates L R a b = (l : Line) → L l → 0 < a (l .kind) → Reply L R (l .code) (fire l a) b
+
+abbrev pub flip {ℓ} : (Field → Field → Type ℓ) → Field → Field → Type ℓ
+flip R x y = R y x
+
+-- "A pair satisfies expansion in a relation when each read of either side has a read of the same code on the other and the
+-- results are related." L is the card's lines, or those that lower the norm, "for challenge and reply alike".
+abbrev pub Expands {ℓ} : (Line → Type 0) → (Field → Field → Type ℓ) → Field → Field → Type ℓ
+Expands L R a b = Simulates L R a b × Simulates L (flip R) b a
+
+-- A bisimulation: each of its pairs satisfies expansion in it. Two fields are bisimilar when one relates them.
+abbrev pub Bisimulation {ℓ} : (Line → Type 0) → (Field → Field → Type ℓ) → Type ℓ
+Bisimulation L R = (a b : Field) → R a b → Expands L R a b
+
+unfoldable pub Bisimilar {ℓ} : (Line → Type 0) → Field → Field → Type (ℓ + 1)
+Bisimilar L a b = (R : Field → Field → Type ℓ) × Bisimulation L R × R a b
+
+-- The same as document 000 has it: a step is a read of some code, and a bisimulation answers every step of either side.
+pub record Step (L : Line → Type 0) (a : Field) (c : ℕ) (x : Field) : Type 0 where
+  pub line : Line
+  pub on : L line
+  pub can : 0 < a (line .kind)
+  pub reads : line .code ≡ c
+  pub goes : fire line a ≡ x
+
+abbrev pub StepBisimulation {ℓ} : (Line → Type 0) → (Field → Field → Type ℓ) → Type ℓ
+StepBisimulation L R =
+    (a b : Field) → R a b
+    → ((c : ℕ) (x : Field) → Step L a c x → (y : Field) × Step L b c y × R x y) × ((c : ℕ) (y : Field) → Step L b c y → (x : Field) × Step L a c x × R x y)

@@ -1,0 +1,11 @@
+-- The terms as the papers say them: expansion, bisimulation, the sentences on stages, the base; the round game.
+pub mod Expansion
+pub mod Stages
+pub mod Terms
+pub mod Game
+-- Pairs examined and counted, where an allowance may end the count.
+pub mod Counted
+-- What is claimed: how large numbers grow, what the terms that compute mean, and the demands.
+pub mod Widths
+pub mod Meanings
+pub mod Demands

@@ -1,0 +1,128 @@
+-- What the terms that compute mean, in the words of document 01: each record is proved of every sheet that it speaks of.
+use mathlib.Core.Bool.{true}
+use mathlib.Core.List.{List, [], _∷_, _++_, List·Memᴰ}
+use mathlib.Core.Logic.{_↔_}
+use mathlib.Core.Path.{_≡_}
+use Prim.Native.Nat.{ℕ, suc, _+_, _*_, _/_, _%_, _≤_, _<_}
+use lib.Dec.{T}
+use lib.ListN.{length, take}
+use Rattle.model.specs.Field.{Field, unit, weighFrom, at}
+use Rattle.model.specs.Card.{Line, Card, Live, liveCount, On, fire}
+use Rattle.model.specs.Norm.{Clears, IsNorm, kindNorm, norm}
+use Rattle.theory.specs.Expansion.{Bisimulation, StepBisimulation}
+use Rattle.theory.specs.Stages.{Lowers, Stages}
+use Rattle.model.specs.Base.{stageRow, settledStage, settledRow, gain}
+use Rattle.theory.specs.Game.{Challenge, sideOf, Holds, Parted, Strategy, Answered}
+use Rattle.model.specs.Walk.{apart, together}
+use Rattle.model.specs.Sheet.{linesOffset, kindCount, codeCount, lineCount, fieldCount, lineOf, cardOf, fieldOf}
+use Rattle.model.specs.Limits.{mostKinds, mostLines, mostFields, normLimit, mostInput}
+use Rattle.model.specs.Refusal.{Check, check, clear, refusal, firstOf, headerChecks, sheetChecks, acceptChecks, Accepted}
+use Rattle.model.specs.Answer.{tableOf, rowOf, fullWalk}
+use Rattle.model.specs.Plain.{headerBytes}
+use Rattle.theory.specs.Widths.{Bytes, Widths}
+use Rattle.model.specs.Page.{number, itself, refusedLine, pageOf, printed}
+use Rattle.theory.specs.Terms.{IsGain, Stage, BaseOf, Prime, Settled}
+
+-- "the first that applies is given with its place"
+pub record Firsts (xs : List Check) : Type 0 where
+  pub given-iff : (k p : ℕ) → (firstOf xs ≡ refusal k p)
+      ↔ ((before : List Check) × (after : List Check) × (xs ≡ before ++ (check k p true ∷ after)) × ((x : Check) → List·Memᴰ x before → ¬ T (x .applies)))
+  pub clear-iff : (firstOf xs ≡ clear) ↔ ((x : Check) → List·Memᴰ x xs → ¬ T (x .applies))
+
+-- Where each line's and each kind's refusal is found, of a sheet that passes what is checked before.
+pub record Places (s : List ℕ) : Type 0 where
+  -- "lines, in order": 7 at a line whose kind is not under n, where all lines before it pass both checks.
+  pub kind-place : firstOf (headerChecks s) ≡ clear → (j : ℕ) → (firstOf (sheetChecks s) ≡ refusal 7 j)
+      ↔ ((j < lineCount s) × (¬ (lineOf s j .kind < kindCount s)) × ((i : ℕ) → i < j → (lineOf s i .kind < kindCount s) × (lineOf s i .code < codeCount s)))
+  -- "same line, next": 8 at a line whose kind passes and whose code does not.
+  pub code-place : firstOf (headerChecks s) ≡ clear → (j : ℕ) → (firstOf (sheetChecks s) ≡ refusal 8 j)
+      ↔ ((j < lineCount s) × ((lineOf s j .kind < kindCount s) × (¬ (lineOf s j .code < codeCount s)))
+      × ((i : ℕ) → i < j → (lineOf s i .kind < kindCount s) × (lineOf s i .code < codeCount s)))
+  -- "a kind has no norm", at the "lowest such".
+  pub missing-place : firstOf (sheetChecks s) ≡ clear → (k : ℕ) → (firstOf (acceptChecks s) ≡ refusal 9 k)
+      ↔ ((k < kindCount s) × ((r : ℕ) → ¬ Clears (On (cardOf s)) r (unit k)) × ((j : ℕ) → j < k → (v : ℕ) × IsNorm (cardOf s) (unit j) v))
+  -- "a norm over 1,000,000", at the "lowest such": every kind has a norm, and those of lower kinds are within the limit.
+  pub over-place : firstOf (sheetChecks s) ≡ clear → (k : ℕ) → (firstOf (acceptChecks s) ≡ refusal 10 k)
+      ↔ ((k < kindCount s) × ((v : ℕ) × (normLimit < v) × IsNorm (cardOf s) (unit k) v) × ((j : ℕ) → j < kindCount s → (v : ℕ) × IsNorm (cardOf s) (unit j) v)
+      × ((j : ℕ) → j < k → (v : ℕ) × (v ≤ normLimit) × IsNorm (cardOf s) (unit j) v))
+
+-- Of a sheet that passes 1 to 8. "A kind has a norm if it can be cleared."
+pub record Norms (c : Card) : Type 0 where
+  pub kinds : (k : ℕ) → k < c .kinds → 0 < kindNorm c k → IsNorm c (unit k) (kindNorm c k)
+  pub missing : (k : ℕ) → k < c .kinds → kindNorm c k ≡ 0 → (r : ℕ) → ¬ Clears (On c) r (unit k)
+  pub fields : (a : Field) → ((k : ℕ) → 0 < a k → (k < c .kinds) × (0 < kindNorm c k)) → IsNorm c a (norm c a)
+  -- "the norm of its first kind's tokens plus the norm of the rest"
+  pub first-rest : (a : Field) → norm c a ≡ weighFrom 0 (c .kinds) (kindNorm c) a
+
+-- Of every card.
+pub record Games (c : Card) : Type 1 where
+  -- "A line that its side has no token for is neither, and in a list of challenges it is passed over."
+  pub passed-over : (f : Strategy c) (K : Field → Field → Type 0) (past hs : List (Challenge c)) (h : Challenge c) (a b : Field)
+      → ¬ (0 < sideOf (h .side) a b (h .line .kind)) → Answered c f K past (h ∷ hs) a b ↔ Answered c f K (h ∷ past) hs a b
+  -- "A pair is parted within r rounds when it does not hold at r."
+  pub parted-iff : (r : ℕ) (a b : Field) → Parted c r a b ↔ (¬ Holds c r a b)
+
+-- Of every sheet: what the walk answers, the allowance aside.
+pub record Walks (s : List ℕ) (i j limit : ℕ) : Type 0 where
+  pub apart-iff : (r : ℕ) → (fullWalk s i j limit .found ≡ apart r)
+      ↔ ((r ≤ limit) × (¬ Holds (cardOf s) r (fieldOf s i) (fieldOf s j)) × ((q : ℕ) → q < r → Holds (cardOf s) q (fieldOf s i) (fieldOf s j)))
+  pub together-iff : (fullWalk s i j limit .found ≡ together) ↔ Holds (cardOf s) limit (fieldOf s i) (fieldOf s j)
+
+module _ (c : Card) where
+  -- Of the card of an accepted sheet.
+  pub record Settles : Type 1 where
+    -- The stages are those of the paper, and no others are.
+    pub stages : Stages c (kindNorm c) (Stage c)
+    pub stages-only : (S : ℕ → Field → Field → Type 0) → Stages c (kindNorm c) S → (s : ℕ) (a b : Field) → S s a b ↔ Stage c s a b
+    -- From stage 1 up the rows are the base, the only one.
+    pub base : (s : ℕ) → BaseOf c (Stage c (suc s)) (stageRow c (suc s))
+    pub only : (s : ℕ) (rows : ℕ → Field) → BaseOf c (Stage c (suc s)) rows → (k : ℕ) → Live c k → rows k ≡ stageRow c (suc s) k
+    -- "the final base"
+    pub final : BaseOf c (Stage c (settledStage c)) (settledRow c)
+    -- "The settled stage is the least s from 1 up in which every related pair satisfies expansion; it is at most n."
+    pub from : 1 ≤ settledStage c
+    pub most : settledStage c ≤ liveCount c
+    pub settled : Settled c (settledStage c)
+    pub least : (s : ℕ) → 1 ≤ s → s < settledStage c → ¬ Settled c s
+    -- "reads that lower the norm": those by a line that leaves less than its kind's norm, whatever field uses it.
+    pub lowers-iff : (l : Line) (a : Field) → On c l → 0 < a (l .kind) → (norm c (fire l a) < norm c a) ↔ Lowers c (kindNorm c) l
+    -- g, "the most that one read adds to a norm".
+    pub is-gain : IsGain c (gain c)
+    pub gain-most : (l : Line) (a : Field) → On c l → 0 < a (l .kind) → norm c (fire l a) ≤ norm c a + gain c
+
+  -- Of the same card: "A prime kind's row is itself once."
+  pub record Primes {ℓ} : Type (ℓ + 1) where
+    pub own-row : (k : ℕ) → Live c k → (settledRow c k ≡ unit k) ↔ Prime {ℓ} c k
+
+-- A number of the page stands in decimal: a digit, or the number without its last digit and then that digit.
+pub record Decimal (x : ℕ) : Type 0 where
+  pub one-digit : x < 10 → number x ≡ (48 + x) ∷ []
+  pub more-digits : 10 ≤ x → number x ≡ number (x / 10) ++ ((48 + x % 10) ∷ [])
+
+-- The printed page, of any input.
+pub record Pages {ℓ} (s : List ℕ) : Type (ℓ + 1) where
+  -- That the program reads no more than "12,821 bytes" changes no page.
+  pub whole : printed s ≡ pageOf s
+  -- They are one more than the longest sheet has; longer input is refused, by the header's checks.
+  pub longest : mostInput ≡ linesOffset + mostLines * (2 + mostKinds) + 2 * mostKinds * mostFields + 1
+  pub too-long : mostInput ≤ length s → (k : ℕ) × (p : ℕ) × (firstOf (headerChecks s) ≡ refusal k p) × (printed s ≡ refusedLine k p)
+  -- The row that the page shows, and its word prime, which is given to the prime kinds alone.
+  pub row-shown : Accepted s → (k j : ℕ) → k < kindCount s → j < kindCount s → at (rowOf (kindCount s) k (tableOf s)) j ≡ settledRow (cardOf s) k j
+  pub prime-word : Accepted s → (k : ℕ) → k < kindCount s → T (itself k (rowOf (kindCount s) k (tableOf s))) ↔ Prime {ℓ} (cardOf s) k
+
+-- What the terms mean, of every sheet that they speak of, with bisimulations of every universe.
+pub record Meanings {ℓ} : Type (ℓ + 1) where
+  pub firsts : (xs : List Check) → Firsts xs
+  -- The header of a sheet of bytes that passes 1 to 6 is that of the table "The sheet", byte by byte.
+  pub headers : (s : List ℕ) → Bytes s → firstOf (headerChecks s) ≡ clear
+      → take linesOffset s ≡ headerBytes (kindCount s) (codeCount s) (lineCount s) (fieldCount s)
+  pub places : (s : List ℕ) → Places s
+  pub norms : (s : List ℕ) → firstOf (sheetChecks s) ≡ clear → Norms (cardOf s)
+  pub steps : (L : Line → Type 0) (R : Field → Field → Type ℓ) → Bisimulation L R ↔ StepBisimulation L R
+  pub games : (c : Card) → Games c
+  pub walks : (s : List ℕ) (i j limit : ℕ) → Walks s i j limit
+  pub settles : (s : List ℕ) → Accepted s → Settles (cardOf s)
+  pub primes : (s : List ℕ) → Accepted s → Primes {ℓ} (cardOf s)
+  pub decimals : (x : ℕ) → Decimal x
+  pub pages : (s : List ℕ) → Pages {ℓ} s
+  pub widths : (s : List ℕ) → Bytes s → Accepted s → Widths s

@@ -1,0 +1,47 @@
+-- How large the numbers of an accepted sheet grow, from its bytes and the written limits alone.
+use mathlib.Core.List.{List}
+use mathlib.Core.Path.{_≡_}
+use Prim.Native.Nat.{ℕ, suc, _+_, _-_, _*_, _^_, _≤_, _<_}
+use Rattle.model.specs.Field.{Field, at}
+use Rattle.model.specs.Card.{Line, On, fire}
+use Rattle.model.specs.Norm.{kindNorm, norm}
+use Rattle.model.specs.Base.{settledStage, stageRow, stageForm, settledRow, gain}
+use Rattle.theory.specs.Terms.{OfKinds}
+use Rattle.model.specs.Sheet.{byte, kindCount, fieldCount, cardOf, fieldOf}
+use Rattle.model.specs.Limits.{mostKinds, normLimit}
+use Rattle.model.specs.Answer.{given, different, compareOf, primeForm}
+
+-- The sheet's numbers are bytes.
+abbrev pub Bytes : List ℕ → Type 0
+Bytes s = (i : ℕ) → byte s i < 256
+
+-- The norm of "n count bytes", and of "n counts of two bytes".
+abbrev pub mostLeftNorm : ℕ
+mostLeftNorm = mostKinds * (255 * normLimit)
+
+abbrev pub mostFieldNorm : ℕ
+mostFieldNorm = mostKinds * (65535 * normLimit)
+
+-- "N + 1 + (s - 1)(g + 1)"
+abbrev pub mostReported : ℕ
+mostReported = mostFieldNorm + 1 + (mostKinds - 1) * (mostLeftNorm + 1)
+
+-- Of an accepted sheet of bytes.
+pub record Widths (s : List ℕ) : Type 0 where
+  pub left-count : (l : Line) → On (cardOf s) l → (k : ℕ) → l .left k ≤ 255
+  pub field-count : (i k : ℕ) → fieldOf s i k ≤ 65535
+  -- So after r rounds of the walk no count passes 65,535 + 255 × r.
+  pub fire-count : (l : Line) → On (cardOf s) l → (a : Field) (m k : ℕ) → a k ≤ m → fire l a k ≤ m + 255
+  pub kind-norm : (k : ℕ) → k < kindCount s → kindNorm (cardOf s) k ≤ normLimit
+  pub left-norm : (l : Line) → On (cardOf s) l → norm (cardOf s) (l .left) ≤ mostLeftNorm
+  pub field-norm : (i : ℕ) → norm (cardOf s) (fieldOf s i) ≤ mostFieldNorm
+  pub gain-most : gain (cardOf s) ≤ mostLeftNorm
+  -- The rows, and the decompositions by them, at every stage from 1 up; the settled stage is one of them.
+  pub row-count : (q k j : ℕ) → k < kindCount s → stageRow (cardOf s) (suc q) k j ≤ normLimit
+  pub form-count : (q : ℕ) (a : Field) → OfKinds (cardOf s) a → (j : ℕ) → stageForm (cardOf s) (suc q) a j ≤ norm (cardOf s) a
+  pub settled-count : (k j : ℕ) → k < kindCount s → settledRow (cardOf s) k j ≤ normLimit
+  pub written-count : (i k : ℕ) → at (primeForm s i) k ≤ norm (cardOf s) (fieldOf s i)
+  pub stage-most : settledStage (cardOf s) ≤ mostKinds
+  pub verdict-most : (i j t r : ℕ) → i < fieldCount s → j < fieldCount s → compareOf s i j ≡ given (different t r) → (t ≤ mostKinds) × (r ≤ mostReported)
+  -- So a "table of 32-bit counts" holds the rows, and "counts of 64 bits" everything else.
+  pub narrow : (normLimit < 2 ^ 32) × (mostReported < 2 ^ 64)
