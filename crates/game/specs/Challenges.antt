@@ -11,7 +11,7 @@ use Rattle.theory.specs.Game.{Side, first, second, sideOf}
 use Rattle.theory.specs.Counted.{leaves}
 use Rattle.moves.specs.Lines.{usable, answers}
 
--- "A challenge is a side and a line that this side may use." (Whether it may, the fields of the moment say.)
+-- A challenge that has a number: its side and its line. (The Challenge of theory has beside them that the line is the card's.)
 pub record Challenge : Type 0 where
   pub side : Side
   pub line : Line

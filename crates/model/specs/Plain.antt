@@ -1,4 +1,4 @@
--- What definitions that compute come to, said in plain arithmetic and of every input, so that none of them is pinned by examples alone.
+-- What definitions that compute come to, said in plain arithmetic and of every input: the bytes, what is written to a buffer, sizes, rounds.
 use mathlib.Core.List.{List, [], _∷_, _++_}
 use mathlib.Core.Path.{_≡_}
 use Prim.Native.Nat.{ℕ, _+_, _-_, _*_, _/_, _%_, _≤_, _<_}
@@ -23,7 +23,7 @@ headerBytes n codes m f =
 
 -- What is read of a sheet that begins with that header, whatever follows it.
 pub record HeaderRead (n codes m f : ℕ) (s : List ℕ) : Type 0 where
-  pub kinds : kindCount s ≡ n
+  pub kind-count : kindCount s ≡ n
   pub code-count : codeCount s ≡ codes
   pub line-count : lineCount s ≡ m
   pub field-count : fieldCount s ≡ f

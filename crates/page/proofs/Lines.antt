@@ -10,20 +10,8 @@ use Rattle.model.specs.Page.{kindLine, fieldLine, pairLine, lines}
 use Rattle.listing.specs.Line.{headText, rowText, kindText, fieldText}
 use Rattle.verdicts.specs.Pair.{pairText}
 
--- The model's lines, and all of them.
+-- All of them.
 module _ (s table : List ℕ) (w : ℕ → ℕ) where
-  pub kind-line : (k : ℕ) → kindLine s table w k ≡ kindText k (w k) (rowOf (kindCount s) k table)
-  unfolding kindLine kindText rowText
-  kind-line k = refl
-
-  pub field-line : (i : ℕ) → fieldLine s table w i ≡ fieldText i (primeForm s i)
-  unfolding fieldLine fieldText
-  field-line i = refl
-
-  pub pair-line : (j : ℕ) → pairLine s table w j ≡ pairText j (compareOf s 0 j)
-  unfolding pairLine pairText
-  pair-line j = refl
-
   pub lines-are : lines s table w
       ≡ headText (kindCount s) (settledStage (cardOf s)) ++ concat (listFrom (λ k. kindText k (w k) (rowOf (kindCount s) k table)) 0 (kindCount s))
       ++ concat (listFrom (λ i. fieldText i (primeForm s i)) 0 (fieldCount s)) ++ concat (listFrom (λ j. pairText j (compareOf s 0 j)) 1 (fieldCount s - 1))

@@ -137,8 +137,8 @@ pub fn play_stored() {
 // The sheet that a seed gives.
 fn with_seed(seed: u64, count: Count) -> Count {
     let mut sheet = [0u8; 128];
-    let made = random_cards::random_sheet(seed, &mut sheet);
-    with_front(sheet, made.length, count)
+    let bytes = random_cards::random_sheet(seed, &mut sheet);
+    with_front(sheet, bytes, count)
 }
 
 // The sheet at the front of an array.

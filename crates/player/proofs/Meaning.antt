@@ -16,7 +16,7 @@ use Rattle.theory.proofs.Walks.{tells-examine, Holds-less, walk-parts, walk-hol
 use Rattle.theory.proofs.Counted.{over, under}
 use Rattle.player.specs.declared.game.Tried.{Tried}
 use Rattle.player.specs.declared.game.Tried.the-variants.{Parted, Held, OutOfBudget, OutOfBounds}
-use Rattle.player.specs.Played.{mostKinds, mostRounds, tried, partingOf}
+use Rattle.player.specs.Played.{mostKindsPlayed, mostRoundsPlayed, tried, partingOf}
 use Rattle.player.specs.Meaning.{Means}
 use Rattle.player.proofs.Rounds.{tried-none, tried-bound, tried-one, kinds-bound, first-bound, second-bound, fields-tried}
 
@@ -42,7 +42,7 @@ module _ (c : Card) (a b : Field) where
   Found v r many (Parted q) = (r < q) × (q ≤ r + many) × (¬ Holds c q a b) × HoldsTo (q - 1) × (pairs r q ≤ v)
   Found v r many (Held q) = (q ≡ r + many) × HoldsTo q × (pairs r q ≤ v)
   Found v r many (OutOfBudget q) = (r ≤ q) × (q < r + many) × HoldsTo q × (v < pairs r (q + 1))
-  Found v r many (OutOfBounds q) = (r ≤ q) × (q < r + many) × HoldsTo q × (mostRounds ≤ q)
+  Found v r many (OutOfBounds q) = (r ≤ q) × (q < r + many) × HoldsTo q × (mostRoundsPlayed ≤ q)
 
   abbrev seen : ℕ → Seen
   seen r = examine (c .lines) (r + 1) a b
@@ -76,12 +76,12 @@ module _ (c : Card) (a b : Field) where
   found : (many v r : ℕ) → HoldsTo r → Found v r many (tried (c .lines) a b v r many)
   unfolding Found
   found zero v r h = rw (tried-none (c .lines) a b v r zero refl) (omega arith, h, omega (arith, pairs-none r))
-  found (suc many) v r h = go (λ u. found many u (r + 1)) (decLt r mostRounds)
+  found (suc many) v r h = go (λ u. found many u (r + 1)) (decLt r mostRoundsPlayed)
     where
       Later : Type 0
       Later = (u : ℕ) → HoldsTo (r + 1) → Found u (r + 1) many (tried (c .lines) a b u (r + 1) many)
 
-      played : Later → r < mostRounds → (d : Bool) → seen r .holds ≡ d → Tells d (Holds c (r + 1) a b) → Dec (v < seen r .count) → Found v r (suc many) (tried (c .lines) a b v r (suc many))
+      played : Later → r < mostRoundsPlayed → (d : Bool) → seen r .holds ≡ d → Tells d (Holds c (r + 1) a b) → Dec (v < seen r .count) → Found v r (suc many) (tried (c .lines) a b v r (suc many))
       played later l d e t (yes g) = rw (tried-one (c .lines) a b v r many l, over v (seen r) g) (omega arith, omega arith, h, omega (arith, pairs-one r))
       played later l true e t (no g) =
           rw (tried-one (c .lines) a b v r many l, under v (seen r) (omega arith), e)
@@ -90,7 +90,7 @@ module _ (c : Card) (a b : Field) where
           let z : r + 1 - 1 ≡ r = omega arith in
           rw (tried-one (c .lines) a b v r many l, under v (seen r) (omega arith), e) (omega arith, omega arith, (λ x. t .test x), rw z h, omega (arith, pairs-one r))
 
-      go : Later → Dec (r < mostRounds) → Found v r (suc many) (tried (c .lines) a b v r (suc many))
+      go : Later → Dec (r < mostRoundsPlayed) → Found v r (suc many) (tried (c .lines) a b v r (suc many))
       go later (yes l) = played later l (seen r .holds) refl (tells-examine c (r + 1) a b) (decLt v (seen r .count))
       go later (no l) = rw (tried-bound (c .lines) a b v r many (omega arith)) (omega arith, omega arith, h, omega arith)
 
@@ -109,9 +109,9 @@ module _ (s : List ℕ) (limit first second budget : ℕ) where
   -- Every answer of the player means what it says.
   pub parting-means : Means s first second limit budget (partingOf s limit first second budget)
   unfolding Means
-  parting-means = go (decLt mostKinds (kindCount s)) (decLt first (fieldCount s)) (decLt second (fieldCount s))
+  parting-means = go (decLt mostKindsPlayed (kindCount s)) (decLt first (fieldCount s)) (decLt second (fieldCount s))
     where
-      go : Dec (mostKinds < kindCount s) → Dec (first < fieldCount s) → Dec (second < fieldCount s) → Means s first second limit budget (partingOf s limit first second budget)
+      go : Dec (mostKindsPlayed < kindCount s) → Dec (first < fieldCount s) → Dec (second < fieldCount s) → Means s first second limit budget (partingOf s limit first second budget)
       go (yes h) f g = rw (← kinds-bound s limit first second budget h) (omega arith, holds-none, inl h)
       go (no h) (no f) g = rw (← first-bound s limit first second budget (omega arith) (omega arith)) (omega arith, holds-none, inr (inl (omega arith)))
       go (no h) (yes f) (no g) = rw (← second-bound s limit first second budget (omega arith) f (omega arith)) (omega arith, holds-none, inr (inr (inl (omega arith))))

@@ -9,7 +9,7 @@ use Rattle.model.specs.Card.{Line}
 use Rattle.model.specs.Sheet.{kindCount, fieldCount, cardOf, fieldOf}
 use Rattle.model.specs.Walk.{examine}
 use Rattle.theory.specs.Counted.{Counted, cut}
-use Rattle.player.specs.Played.{mostKinds, mostRounds, next, tried, partingOf}
+use Rattle.player.specs.Played.{mostKindsPlayed, mostRoundsPlayed, next, tried, partingOf}
 use Rattle.player.specs.declared.game.Tried.{Tried}
 use Rattle.player.specs.declared.game.Tried.the-variants.{Held, OutOfBounds}
 
@@ -19,13 +19,13 @@ module _ (xs : List Line) (a b : Field) (v r : ℕ) where
   unfolding tried
   tried-none many e = rw e refl
 
-  pub tried-bound : (many : ℕ) → mostRounds ≤ r → tried xs a b v r (suc many) ≡ OutOfBounds r
+  pub tried-bound : (many : ℕ) → mostRoundsPlayed ≤ r → tried xs a b v r (suc many) ≡ OutOfBounds r
   unfolding tried
-  tried-bound many l = rw (le-ltb r mostRounds l, tried) refl
+  tried-bound many l = rw (le-ltb r mostRoundsPlayed l, tried) refl
 
-  pub tried-one : (many : ℕ) → r < mostRounds → tried xs a b v r (suc many) ≡ next r (cut v (examine xs (r + 1) a b)) (λ left. tried xs a b left (r + 1) many)
+  pub tried-one : (many : ℕ) → r < mostRoundsPlayed → tried xs a b v r (suc many) ≡ next r (cut v (examine xs (r + 1) a b)) (λ left. tried xs a b left (r + 1) many)
   unfolding tried
-  tried-one many l = rw (lt-ltb r mostRounds l, tried) refl
+  tried-one many l = rw (lt-ltb r mostRoundsPlayed l, tried) refl
 
   -- None is tried yet.
   pub rounds-start : (limit : ℕ) → tried xs a b v r (limit - 0) ≡ tried xs a b v r limit
@@ -36,10 +36,10 @@ module _ (xs : List Line) (a b : Field) (v r : ℕ) where
     pub rounds-end : limit ≤ r → Held r ≡ whole
     rounds-end h = sym (tried-none (limit - r) (omega arith)) ∙ from
 
-    pub rounds-bound : r < limit → mostRounds ≤ r → OutOfBounds r ≡ whole
+    pub rounds-bound : r < limit → mostRoundsPlayed ≤ r → OutOfBounds r ≡ whole
     rounds-bound h l = let e : limit - r ≡ suc (limit - (r + 1)) = omega arith in sym (tried-bound (limit - (r + 1)) l) ∙ ap (tried xs a b v r) (sym e) ∙ from
 
-    pub rounds-next : r < limit → r < mostRounds → {found known : Counted} → found ≡ cut v (examine xs (r + 1) a b) → found ≡ known
+    pub rounds-next : r < limit → r < mostRoundsPlayed → {found known : Counted} → found ≡ cut v (examine xs (r + 1) a b) → found ≡ known
         → next r known (λ left. tried xs a b left (r + 1) (limit - (r + 1))) ≡ whole
     rounds-next h l d k =
         let e : limit - r ≡ suc (limit - (r + 1)) = omega arith in
@@ -50,20 +50,20 @@ module _ (xs : List Line) (a b : Field) (v r : ℕ) where
 
 -- Two fields of a sheet: out of bounds, or tried.
 module _ (s : List ℕ) (limit first second budget : ℕ) where
-  pub kinds-bound : mostKinds < kindCount s → OutOfBounds 0 ≡ partingOf s limit first second budget
+  pub kinds-bound : mostKindsPlayed < kindCount s → OutOfBounds 0 ≡ partingOf s limit first second budget
   unfolding partingOf
-  kinds-bound h = rw (lt-leb (kindCount s) mostKinds h, partingOf) refl
+  kinds-bound h = rw (lt-leb (kindCount s) mostKindsPlayed h, partingOf) refl
 
-  module _ (few : kindCount s ≤ mostKinds) where
+  module _ (few : kindCount s ≤ mostKindsPlayed) where
     pub first-bound : fieldCount s ≤ first → OutOfBounds 0 ≡ partingOf s limit first second budget
     unfolding partingOf
-    first-bound h = rw (le-leb (kindCount s) mostKinds few, le-ltb first (fieldCount s) h, partingOf) refl
+    first-bound h = rw (le-leb (kindCount s) mostKindsPlayed few, le-ltb first (fieldCount s) h, partingOf) refl
 
     module _ (one : first < fieldCount s) where
       pub second-bound : fieldCount s ≤ second → OutOfBounds 0 ≡ partingOf s limit first second budget
       unfolding partingOf
-      second-bound h = rw (le-leb (kindCount s) mostKinds few, lt-ltb first (fieldCount s) one, le-ltb second (fieldCount s) h, partingOf) refl
+      second-bound h = rw (le-leb (kindCount s) mostKindsPlayed few, lt-ltb first (fieldCount s) one, le-ltb second (fieldCount s) h, partingOf) refl
 
       pub fields-tried : second < fieldCount s → tried (cardOf s .lines) (fieldOf s first) (fieldOf s second) budget 0 limit ≡ partingOf s limit first second budget
       unfolding partingOf
-      fields-tried h = sym (rw (le-leb (kindCount s) mostKinds few, lt-ltb first (fieldCount s) one, lt-ltb second (fieldCount s) h, partingOf) refl)
+      fields-tried h = sym (rw (le-leb (kindCount s) mostKindsPlayed few, lt-ltb first (fieldCount s) one, lt-ltb second (fieldCount s) h, partingOf) refl)

@@ -8,7 +8,7 @@ use Rattle.model.specs.Walk.{walk}
 use Rattle.theory.specs.Game.{Holds}
 use Rattle.player.specs.declared.game.Tried.{Tried}
 use Rattle.player.specs.declared.game.Tried.the-variants.{Parted, Held, OutOfBudget, OutOfBounds}
-use Rattle.player.specs.Played.{mostKinds, mostRounds}
+use Rattle.player.specs.Played.{mostKindsPlayed, mostRoundsPlayed}
 
 module _ (s : List ℕ) (first second : ℕ) where
   -- The two fields hold at r rounds.
@@ -21,7 +21,7 @@ module _ (s : List ℕ) (first second : ℕ) where
 
   -- A bound of the player: the kinds, the numbers of the fields, or the rounds after r.
   abbrev pub Bound : ℕ → Type 0
-  Bound r = (mostKinds < kindCount s) ⊎ ((fieldCount s ≤ first) ⊎ ((fieldCount s ≤ second) ⊎ (mostRounds ≤ r)))
+  Bound r = (mostKindsPlayed < kindCount s) ⊎ ((fieldCount s ≤ first) ⊎ ((fieldCount s ≤ second) ⊎ (mostRoundsPlayed ≤ r)))
 
   -- How far the player looked and why it stopped, where it was asked for so many rounds and given so many pairs. "A pair is parted within r rounds
   -- when it does not hold at r."

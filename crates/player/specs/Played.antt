@@ -26,12 +26,12 @@ abbrev pub challenger : Bool → game.Side
 challenger false = game.first
 challenger true = game.second
 
--- The player's bounds.
-abbrev pub mostKinds : ℕ
-mostKinds = 32
+-- The player's own bounds: the most kinds and the most rounds that it plays.
+abbrev pub mostKindsPlayed : ℕ
+mostKindsPlayed = 32
 
-abbrev pub mostRounds : ℕ
-mostRounds = 200
+abbrev pub mostRoundsPlayed : ℕ
+mostRoundsPlayed = 200
 
 -- What the number of rounds after r comes to, and what is found after it where the pair holds at it.
 abbrev pub next : ℕ → Counted → (ℕ → Tried) → Tried
@@ -43,7 +43,7 @@ next r spent later = OutOfBudget r
 unfoldable pub tried : List Line → Field → Field → ℕ → ℕ → ℕ → Tried
 tried xs a b budget r zero = Held r
 tried xs a b budget r (suc many) =
-    elim (ltb r mostRounds) [
+    elim (ltb r mostRoundsPlayed) [
       | true ↦ next r (cut budget (examine xs (r + 1) a b)) (λ left. tried xs a b left (r + 1) many)
       | false ↦ OutOfBounds r
     ]
@@ -51,7 +51,7 @@ tried xs a b budget r (suc many) =
 -- Two fields of a sheet at 1, 2, .. rounds, up to a limit.
 unfoldable pub partingOf : List ℕ → ℕ → ℕ → ℕ → ℕ → Tried
 partingOf s limit first second budget =
-    elim (both (leb (kindCount s) mostKinds) (both (ltb first (fieldCount s)) (ltb second (fieldCount s)))) [
+    elim (both (leb (kindCount s) mostKindsPlayed) (both (ltb first (fieldCount s)) (ltb second (fieldCount s)))) [
       | true ↦ tried (cardOf s .lines) (fieldOf s first) (fieldOf s second) budget 0 limit
       | false ↦ OutOfBounds 0
     ]

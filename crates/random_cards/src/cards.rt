@@ -1,7 +1,6 @@
 // Random small cards, written as sheets in document 01's format: 1 to 4 kinds, 1 to 3 codes, at most 8 lines, 2 to 4 fields. Most cards have a
 // norm for each kind: line k clears kind k, leaving tokens of lower kinds only. Most fields differ from field 0 in one token, for which stands
 // another token, or what clearing it leaves and one token of kind 0, so that many pairs have equal norms.
-use crate::random::next;
 use crate::random::pick;
 use crate::random::pick_high;
 use crate::random::reduce;
@@ -21,12 +20,6 @@ struct Shape {
     flat: bool,
     chain: bool,
     loose: bool,
-}
-
-// The seed for the next sheet, and the length of this one.
-pub struct Made {
-    pub state: u64,
-    pub length: usize,
 }
 
 // The numbers that a seed gives.
@@ -245,16 +238,13 @@ fn put_fields(c: Shape, out: &mut [u8; 128])
     }
 }
 
-// The sheet of a seed, at the front of a buffer.
-pub fn random_sheet(seed: u64, out: &mut [u8; 128]) -> Made
-    ensures { λ r. ⌜ r .length ≤ 100 ⌝ }
+// The sheet of a seed, at the front of a buffer: its length.
+pub fn random_sheet(seed: u64, out: &mut [u8; 128]) -> usize
+    ensures { λ r. ⌜ r ≤ 100 ⌝ }
 {
     let c = shape_of(seed);
     put_header(c, out);
     put_lines(c, out);
     put_fields(c, out);
-    Made {
-        state: next(seed),
-        length: field_start(c, c.fields),
-    }
+    field_start(c, c.fields)
 }

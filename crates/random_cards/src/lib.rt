@@ -2,5 +2,4 @@
 pub mod random; // numbers that a seed gives
 pub mod cards; // random small cards, written as sheets
 
-pub use cards::Made;
 pub use cards::random_sheet;

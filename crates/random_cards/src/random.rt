@@ -35,8 +35,3 @@ pub fn pick_high(seed: u64, place: usize, n: usize) -> usize
     let y = pick(seed, place + 1000, n);
     if x < y { y } else { x }
 }
-
-// The seed after this one.
-pub fn next(seed: u64) -> u64 {
-    std::num::wrapping_add_u64(seed, 1)
-}

@@ -3,6 +3,6 @@
 pub mod Stage
 -- Tables of forms.
 pub mod Forms
--- Candidates for the row of a kind, and the tests they pass; what is given and known when rows are sought.
+-- Which lines tell candidates for the row of a kind; what is given and known when rows are sought.
 pub mod Row
 pub mod StageRows

@@ -13,27 +13,10 @@ use lib.Seq.{getD-set-same, getD-set-other}
 use Rattle.model.specs.Finite.{both}
 use Rattle.model.specs.Field.{Field, unit, at}
 use Rattle.model.specs.Card.{fire}
-use Rattle.model.specs.Sheet.{byte, u16At, kindCount, lineCount, fieldsOffset, linesOffset, counts, lineOf, fieldOf}
-use Rattle.theory.proofs.Exec.{Tells, tells-lt}
+use Rattle.model.specs.Sheet.{byte, u16At, kindCount, lineCount, fieldsOffset, linesOffset, lineOf, fieldOf}
+use Rattle.model.proofs.Plain.{counts-below, counts-past}
 use Rattle.theory.proofs.Field.{unit-same, unit-other}
 use Rattle.second_reader.specs.Fields.{Fits, After}
-
--- The counts of n kinds: those read below n, none from n on.
-counts-below : (n : ℕ) (f : ℕ → ℕ) (k : ℕ) → k < n → counts n f k ≡ f k
-unfolding counts
-counts-below n f k h = go (ltb k n) (tells-lt k n)
-  where
-    go : (b : Bool) → Tells b (k < n) → (elim b as (λ _. ℕ) [ true ↦ f k | false ↦ 0 ]) ≡ f k
-    go true t = refl
-    go false t = absurd (t .test h)
-
-counts-past : (n : ℕ) (f : ℕ → ℕ) (k : ℕ) → n ≤ k → counts n f k ≡ 0
-unfolding counts
-counts-past n f k h = go (ltb k n) (tells-lt k n)
-  where
-    go : (b : Bool) → Tells b (k < n) → _≡_ {A = ℕ} (elim b as (λ _. ℕ) [ true ↦ f k | false ↦ 0 ]) 0
-    go true t = let l : k < n = t .fact tt in absurd (omega arith)
-    go false t = refl
 
 -- What stands where, on a sheet.
 module _ (s : List ℕ) where

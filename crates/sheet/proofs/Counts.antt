@@ -1,35 +1,16 @@
 -- Lists of counts, over any number of kinds.
-use mathlib.Core.Bool.{Bool, true, false}
 use mathlib.Core.List.{List}
-use mathlib.Core.Path.{_≡_, refl, sym, _∙_, ap, fun-ext}
+use mathlib.Core.Path.{_≡_, sym, _∙_, ap, fun-ext}
 use Prim.Native.Nat.{ℕ, _+_, _≤_, _<_}
 use native.Mathlib.Decide.{decLt, ℕ-discrete}
 use native.Mathlib.Omega.{arith}
-use lib.Dec.{ltb}
 use lib.ListN.{length, getD, set, take, drop, replicate, length-take, length-drop, length-set, length-replicate, getD-replicate}
 use lib.Seq.{ext-getD, getD-take, getD-drop, getD-set-same, getD-set-other}
 use Rattle.model.specs.Finite.{listFrom}
 use Rattle.model.specs.Field.{at}
 use Rattle.model.specs.Sheet.{byte, counts}
-use Rattle.theory.proofs.Exec.{Tells, tells-lt}
+pub use Rattle.model.proofs.Plain.{counts-below, counts-past}
 use Rattle.theory.proofs.Lists.{length-from, getD-from, getD-past}
-
--- The counts of n kinds: those read below n, none from n on.
-pub counts-below : (n : ℕ) (f : ℕ → ℕ) (k : ℕ) → k < n → counts n f k ≡ f k
-unfolding counts
-counts-below n f k h = go (ltb k n) (tells-lt k n)
-  where
-    go : (b : Bool) → Tells b (k < n) → (elim b as (λ _. ℕ) [ true ↦ f k | false ↦ 0 ]) ≡ f k
-    go true t = refl
-    go false t = absurd (t .test h)
-
-pub counts-past : (n : ℕ) (f : ℕ → ℕ) (k : ℕ) → n ≤ k → counts n f k ≡ 0
-unfolding counts
-counts-past n f k h = go (ltb k n) (tells-lt k n)
-  where
-    go : (b : Bool) → Tells b (k < n) → _≡_ {A = ℕ} (elim b as (λ _. ℕ) [ true ↦ f k | false ↦ 0 ]) 0
-    go true t = let l : k < n = t .fact tt in absurd (omega arith)
-    go false t = refl
 
 -- A list of m counts of n kinds, m no fewer, is the field of them.
 pub at-counts : (n m : ℕ) (f : ℕ → ℕ) → n ≤ m → at (listFrom (counts n f) 0 m) ≡ counts n f

@@ -23,15 +23,12 @@ use Rattle.model.specs.Answer.{Answer, Lent, tableOf, primeForm, refused, given
 use Rattle.theory.specs.Demands.{Demand1}
 use Rattle.model.proofs.Plain.{plain}
 use Rattle.theory.proofs.Exec.{Tells, tells-lt}
-use Rattle.theory.proofs.Sheets.{first-append, then-clear, certified, clear-cons, clear-nil, clear-none, small, not-small, not-less, call-checks}
+use Rattle.theory.proofs.Sheets.{never, first-append, then-clear, certified, clear-cons, clear-nil, clear-none, small, not-small, not-less, call-checks}
 use Rattle.theory.proofs.Checks.{cons-none, not-outside, from-outside, from-less, first-right}
 use Rattle.theory.proofs.Limits.{limits-accepted, accepted-limits}
 use Rattle.theory.proofs.Plain.{settled, verdict-cases}
 use Rattle.theory.proofs.Walks.{walk-not-spent}
 use Rattle.theory.proofs.Verdicts.{compare-is, L, field-tidy}
-
-never : {A : Type 0} (k p : ℕ) → _≡_ {A = Finding} clear (refusal k p) → A
-never k p e = let z : _≡_ {A = ℕ} 0 1 = cc in absurd (omega arith)
 
 -- A call over lent bytes, by what its checks find.
 module _ {A : Type 0} (x : A) (r : ℕ → ℕ → A) where

@@ -16,12 +16,9 @@ use Rattle.model.specs.Limits.{normLimit}
 use Rattle.model.specs.Refusal.{Check, check, Finding, clear, refusal, firstOf, headerChecks, lineChecks, normChecks, sheetChecks, acceptChecks}
 use Rattle.theory.specs.Meanings.{Norms, Places}
 use Rattle.theory.proofs.Exec.{Tells, tells-lt, tells-eq}
-use Rattle.theory.proofs.Sheets.{first-append, then}
+use Rattle.theory.proofs.Sheets.{never, first-append, then}
 use Rattle.theory.proofs.Checks.{each-clear, each-none, first-right, first-of-all, first-here}
 use Rattle.theory.proofs.Gain.{sheet-norms}
-
-never : {A : Type 0} (k p : ℕ) → _≡_ {A = Finding} clear (refusal k p) → A
-never k p e = let z : _≡_ {A = ℕ} 0 1 = cc in absurd (omega arith)
 
 other : {A : Type 0} (k p j q : ℕ) → refusal k p ≡ refusal j q → ¬ (k ≡ j) → A
 other k p j q e n = let i : k ≡ j = cc in absurd (n i)
@@ -51,7 +48,7 @@ from-one f i (suc m) x k e = go (firstOf (f i)) refl (sym (first-append (f i) (c
 
 -- Where the refusals of list j have the place j.
 module _ (f : ℕ → List Check) (places : (j x k : ℕ) → firstOf (f j) ≡ refusal x k → k ≡ j) (m : ℕ) where
-  pub first-place : (x k : ℕ) → (firstOf (concat (listFrom f 0 m)) ≡ refusal x k)
+  first-place : (x k : ℕ) → (firstOf (concat (listFrom f 0 m)) ≡ refusal x k)
       ↔ ((k < m) × (firstOf (f k) ≡ refusal x k) × ((q : ℕ) → q < k → firstOf (f q) ≡ clear))
   first-place x k = (
     (λ e.

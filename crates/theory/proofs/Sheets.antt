@@ -37,13 +37,14 @@ first-append (x ∷ xs) ys = go (x .applies) (first-append xs ys)
     go true e = refl
     go false e = e
 
-never : (k p : ℕ) → _≡_ {A = Finding} (refusal k p) clear → ⊥
-never k p e = let z : _≡_ {A = ℕ} 0 1 = cc in omega arith
+-- What is clear is no refusal.
+pub never : {A : Type 0} (k p : ℕ) → _≡_ {A = Finding} clear (refusal k p) → A
+never k p e = let z : _≡_ {A = ℕ} 0 1 = cc in absurd (omega arith)
 
 pub then-clear : (f g : Finding) → then f g ≡ clear → (f ≡ clear) × (g ≡ clear)
 unfolding then
 then-clear clear g e = (refl, e)
-then-clear (refusal k p) g e = absurd (never k p e)
+then-clear (refusal k p) g e = never k p (sym e)
 
 -- Nothing applies where the checks come out clear, and the other way round.
 pub clear-none : {x : Check} {xs : List Check} → List·Memᴰ x xs → firstOf xs ≡ clear → ¬ T (x .applies)
@@ -51,12 +52,12 @@ unfolding firstOf
 clear-none {x} (List·Memᴰ·head {x = y} {xs = xs} e) h t = go (y .applies) refl h
   where
     go : (b : Bool) → y .applies ≡ b → (elim b as (λ _. Finding) [ true ↦ refusal (y .number) (y .place) | false ↦ firstOf xs ]) ≡ clear → ⊥
-    go true q r = never _ _ r
+    go true q r = never _ _ (sym r)
     go false q r = rw (ap (λ (z : Check). z .applies) e ∙ q) at t
 clear-none {x} (List·Memᴰ·tail {x = y} {xs = xs} m) h t = go (y .applies) h (clear-none m)
   where
     go : (b : Bool) → (elim b as (λ _. Finding) [ true ↦ refusal (y .number) (y .place) | false ↦ firstOf xs ]) ≡ clear → (firstOf xs ≡ clear → ¬ T (x .applies)) → ⊥
-    go true r f = never _ _ r
+    go true r f = never _ _ (sym r)
     go false r f = f r t
 
 none-clear : (xs : List Check) → ((x : Check) → List·Memᴰ x xs → ¬ T (x .applies)) → firstOf xs ≡ clear
