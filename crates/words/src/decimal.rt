@@ -1,7 +1,7 @@
 // Numbers in decimal.
 ghost use mathlib.Core.Path.{_≡_};
 ghost use Prim.Native.Nat.{_+_, _*_, _-_, _≤_, _<_};
-ghost use Rattle.walkline.specs.Word.{numberOf, digitOf};
+ghost use Rattle.words.specs.Word.{numberOf, digitOf};
 
 // What a word says: a number, or none that is wanted.
 pub enum Word {

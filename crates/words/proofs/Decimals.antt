@@ -11,9 +11,9 @@ use lib.ListN.{length, getD, drop, drop-of-length-le}
 use lib.Seq.{drop-cons}
 use borrow.Author.Tests.{lt-ltb, le-ltb, le-leb, lt-leb}
 use Rattle.model.specs.Finite.{both, all}
-use Rattle.walkline.specs.Word.{digitOf, isDigit, valueFrom, some, numberOf}
-use Rattle.walkline.specs.declared.words.Word.{Word}
-use Rattle.walkline.specs.declared.words.Word.the-variants.{Number, Other}
+use Rattle.words.specs.Word.{digitOf, isDigit, valueFrom, some, numberOf}
+use Rattle.words.specs.declared.decimal.Word.{Word}
+use Rattle.words.specs.declared.decimal.Word.the-variants.{Number, Other}
 
 pub digit-low : (c : ℕ) → c < 48 → 10 ≡ digitOf c
 unfolding digitOf

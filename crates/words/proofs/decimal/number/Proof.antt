@@ -3,12 +3,9 @@ use borrow.Author.Needs.{needs}
 use native.Mathlib.Omega.{arith}
 use Prim.Native.Nat.{_-_}
 use lib.ListN.{length}
-use Rattle.walkline.proofs.Decimals.{Reading, none, reading-starts, reading-other, reading-over, reading-on, reading-ends}
-use Rattle.walkline.proofs.words.number.Statement.{statement}
-use Rattle.walkline.proofs.words.number.Tie as tie
-use Rattle.walkline.proofs.words.number.Reads as reads
-use Rattle.walkline.proofs.words.number.Lts as lts
-use Rattle.walkline.proofs.words.digit.Reads as digit-reads
+use Rattle.words.proofs.Decimals.{Reading, none, reading-starts, reading-other, reading-over, reading-on, reading-ends}
+use Rattle.words.proofs.decimal.number.Statement.{statement}
+use Rattle.words.proofs.decimal.number.Tie as tie
 
 abbrev Inv-loop : tie.InvT-loop
 Inv-loop word most value₀ i₀ value i = Reading most word value i

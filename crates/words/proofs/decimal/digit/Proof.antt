@@ -1,24 +1,18 @@
 -- Outside 48 to 57 it is none.
 use borrow.Author.Needs.{needs}
-use Rattle.walkline.proofs.Decimals.{digit-low, digit-high, digit-is}
-use Rattle.walkline.proofs.words.digit.Statement.{statement}
-use Rattle.walkline.proofs.words.digit.Tie as tie
-use Rattle.walkline.proofs.words.digit.Reads as reads
-use Rattle.walkline.proofs.words.digit.Lts as lts
+use Rattle.words.proofs.Decimals.{digit-low, digit-high, digit-is}
+use Rattle.words.proofs.decimal.digit.Statement.{statement}
+use Rattle.words.proofs.decimal.digit.Tie as tie
 
--- src/words.rt:17:9
 returns : tie.Need-returns
 returns c = digit-low (c .before .args .byte) (c .if1 .taken)
 
--- src/words.rt:20:9
 returns-2 : tie.Need-returns-2
 returns-2 c = digit-high (c .before .before .args .byte) (c .if2 .taken)
 
--- src/words.rt:22:5
 cast-result : tie.Need-cast-result
 cast-result c = search needs
 
--- src/words.rt:13:1
 returns-3 : tie.Need-returns-3
 returns-3 c = digit-is (c .before .before .args .byte) (c .before .if1 .left) (c .if2 .left)
 

@@ -4,8 +4,8 @@ use mathlib.Core.List.{List, [], _∷_}
 use Prim.Native.Nat.{ℕ, _+_, _-_, _*_}
 use lib.Dec.{ltb, leb}
 use Rattle.model.specs.Finite.{both, all}
-use Rattle.walkline.specs.declared.words.Word.{Word}
-use Rattle.walkline.specs.declared.words.Word.the-variants.{Number, Other}
+use Rattle.words.specs.declared.decimal.Word.{Word}
+use Rattle.words.specs.declared.decimal.Word.the-variants.{Number, Other}
 
 -- The digit that a byte is, 10 where it is none.
 unfoldable pub digitOf : ℕ → ℕ
