@@ -1,7 +1,7 @@
 -- Words one after another, each ended by a byte 0, and the numbers that they say.
 use mathlib.Core.Bool.{Bool, true, false}
 use mathlib.Core.List.{List, [], _∷_, _++_}
-use Prim.Native.Nat.{ℕ, zero, suc}
+use Prim.Native.Nat.{ℕ, zero, suc, _≤_}
 use lib.Dec.{eqb}
 use lib.ListN.{take}
 use Rattle.model.specs.Finite.{both}
@@ -55,3 +55,7 @@ numbersOf (suc most) (w ∷ ws) = saidAfter (numberOf mostWide w) (numbersOf mos
 abbrev pub countOf : Count → List ℕ → Said
 countOf (Numbers n) values = numbers (take n values)
 countOf NoNumbers values = nothing
+
+abbrev pub CountWithin : Count → ℕ → Type 0
+CountWithin (Numbers n) most = n ≤ most
+CountWithin NoNumbers most = Unit {0}

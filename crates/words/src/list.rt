@@ -3,7 +3,7 @@ use crate::decimal::Word;
 use crate::decimal::number;
 ghost use mathlib.Core.Path.{_≡_};
 ghost use lib.ListN.{length};
-ghost use Rattle.words.specs.Words.{firstWord, wordsOf, sameWord, numbersOf, countOf};
+ghost use Rattle.words.specs.Words.{firstWord, wordsOf, sameWord, numbersOf, countOf, CountWithin};
 
 // The largest number of 64 bits.
 const WIDE: u64 = 18_446_744_073_709_551_615;
@@ -48,6 +48,7 @@ pub fn same_word(word: &[u8], other: &[u8]) -> bool
 // The numbers that the words of a text say, to the front of a lent array: all of them, where each word is a number of 64 bits and the array has room.
 pub fn numbers_in(text: &[u8], values: &mut [u64]) -> Count
     ensures { λ r. ⌜ countOf r (now (values .exit)) ≡ numbersOf (length (now (values .entry))) (wordsOf (now (text .entry))) ⌝ }
+    ensures { λ r. ⌜ CountWithin r (length (now (values .entry))) ⌝ }
 {
     let mut at = 0;
     let mut count = 0;

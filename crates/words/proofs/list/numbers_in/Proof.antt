@@ -38,14 +38,14 @@ same-length c = c .before .before .before .before .loop .inv .size
 
 returns : tie.Need-returns Inv-loop μ-loop
 returns c =
-    counting-stops (length (c .before .before .before .before .before .before .before .args .values .now)) (c .before .before .before .before .before .before .before .args .text .now) (c .before .before .before .before .loop .values) (c .before .before .before .before .loop .at) (c .before .before .before .before .loop .count) (c .before .before .before .before .loop .inv) (c .before .word-end .result) (c .before .word-end .ensures) (c .if1 .taken)
+    (counting-stops (length (c .before .before .before .before .before .before .before .args .values .now)) (c .before .before .before .before .before .before .before .args .text .now) (c .before .before .before .before .loop .values) (c .before .before .before .before .loop .at) (c .before .before .before .before .loop .count) (c .before .before .before .before .loop .inv) (c .before .word-end .result) (c .before .word-end .ensures) (c .if1 .taken), c .before .before .before .before .loop .inv .room)
 
 same-length-2 : tie.Need-same-length-2 Inv-loop μ-loop
 same-length-2 c = c .before .before .before .before .before .loop .inv .size
 
 returns-2 : tie.Need-returns-2 Inv-loop μ-loop
 returns-2 c =
-    counting-full (length (c .before .before .before .before .before .before .before .before .args .values .now)) (c .before .before .before .before .before .before .before .before .args .text .now) (c .before .before .before .before .before .loop .values) (c .before .before .before .before .before .loop .at) (c .before .before .before .before .before .loop .count) (c .before .before .before .before .before .loop .inv) (c .before .before .word-end .result) (c .before .before .word-end .ensures) (omega (arith, c .before .if1 .left)) (omega (arith, c .before .before .before .before .before .loop .inv .size, c .if2 .taken))
+    (counting-full (length (c .before .before .before .before .before .before .before .before .args .values .now)) (c .before .before .before .before .before .before .before .before .args .text .now) (c .before .before .before .before .before .loop .values) (c .before .before .before .before .before .loop .at) (c .before .before .before .before .before .loop .count) (c .before .before .before .before .before .loop .inv) (c .before .before .word-end .result) (c .before .before .word-end .ensures) (omega (arith, c .before .if1 .left)) (omega (arith, c .before .before .before .before .before .loop .inv .size, c .if2 .taken)), tt)
 
 sub-number : tie.Need-sub-number Inv-loop μ-loop
 sub-number c = omega arith
@@ -70,7 +70,7 @@ same-length-3 c = c .before .before .before .before .before .before .before .bef
 
 returns-3 : tie.Need-returns-3 Inv-loop μ-loop
 returns-3 c =
-    counting-other (length (c .before .before .before .before .before .before .before .before .before .before .before .before .args .values .now)) (c .before .before .before .before .before .before .before .before .before .before .before .before .args .text .now) (c .before .before .before .before .before .before .before .before .before .loop .values) (c .before .before .before .before .before .before .before .before .before .loop .at) (c .before .before .before .before .before .before .before .before .before .loop .count) (c .before .before .before .before .before .before .before .before .before .loop .inv) (c .before .before .before .before .before .before .word-end .result) (c .before .before .before .before .before .before .word-end .ensures) (omega (arith, c .before .before .before .before .before .if1 .left)) (omega (arith, c .before .before .before .before .before .before .before .before .before .loop .inv .size, c .before .before .before .before .if2 .left)) (sym (c .before .before .number .ensures) ∙ c .enum-told .given .1)
+    (counting-other (length (c .before .before .before .before .before .before .before .before .before .before .before .before .args .values .now)) (c .before .before .before .before .before .before .before .before .before .before .before .before .args .text .now) (c .before .before .before .before .before .before .before .before .before .loop .values) (c .before .before .before .before .before .before .before .before .before .loop .at) (c .before .before .before .before .before .before .before .before .before .loop .count) (c .before .before .before .before .before .before .before .before .before .loop .inv) (c .before .before .before .before .before .before .word-end .result) (c .before .before .before .before .before .before .word-end .ensures) (omega (arith, c .before .before .before .before .before .if1 .left)) (omega (arith, c .before .before .before .before .before .before .before .before .before .loop .inv .size, c .before .before .before .before .if2 .left)) (sym (c .before .before .number .ensures) ∙ c .enum-told .given .1), tt)
 
 mul-values : tie.Need-mul-values Inv-loop μ-loop
 mul-values c = search needs
@@ -96,7 +96,7 @@ same-length-4 c = c .before .loop .inv .size
 
 returns-4 : tie.Need-returns-4 Inv-loop μ-loop
 returns-4 c =
-    counting-ends (length (c .before .before .before .before .args .values .now)) (c .before .before .before .before .args .text .now) (c .before .loop .values) (c .before .loop .at) (c .before .loop .count) (c .before .loop .inv) (c .loop-test .left)
+    (counting-ends (length (c .before .before .before .before .args .values .now)) (c .before .before .before .before .args .text .now) (c .before .loop .values) (c .before .loop .at) (c .before .loop .count) (c .before .loop .inv) (c .loop-test .left), c .before .loop .inv .room)
 
 pub numbers-in-spec : {M : Type 1} → statement M
 numbers-in-spec =
