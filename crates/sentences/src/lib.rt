@@ -1,0 +1,11 @@
+// Refusals in words: the sentence of a number and place.
+
+// The table of sentences.
+mod table;
+
+// Its sentences, written.
+mod sentence;
+
+pub use sentence::put_sentence;
+pub use table::Place;
+pub use table::Row;
