@@ -4,7 +4,7 @@ use mathlib.Core.List.{List, [], _∷_, _++_}
 use Prim.Native.Nat.{ℕ}
 use Prim.Native.String.{String}
 use lib.Dec.{eqb}
-use Rattle.model.specs.Finite.{both}
+use Rattle.model.specs.Finite.{both, pick}
 use Rattle.model.specs.Page.{bytes, number, newline}
 use Rattle.sentences.specs.declared.table.Place.{Place}
 use Rattle.sentences.specs.declared.table.Place.the-variants.{Only, Line, Kind}
@@ -12,11 +12,11 @@ use Rattle.sentences.specs.declared.table.Place.the-variants.{Only, Line
 -- A row of the table: the number of a refusal, its places (one, any line or any kind), and what is said.
 pub record Sentence : Type 0 where
   pub number : ℕ
-  pub place : Place
+  pub places : Place
   pub words : List ℕ
 
 abbrev pub row : ℕ → Place → String → Sentence
-row k q words = record { number = k; place = q; words = bytes words ++ newline }
+row k q words = record { number = k; places = q; words = bytes words ++ newline }
 
 -- The table. 1,000,000 is the model's `normLimit`.
 unfoldable pub sentences : List Sentence
@@ -40,20 +40,18 @@ sentences =
     ∷ row 12 (Only 0) "a buffer or table is too short"
     ∷ []
 
--- A number or a place that the table does not have.
+-- What stands for a number or a place that the table does not have.
 abbrev pub unsaid : Sentence
-unsaid = record { number = 0; place = Only 0; words = [] }
+unsaid = record { number = 0; places = Only 0; words = [] }
 
--- Whether a place is among those of a row.
+-- Whether a row has the number k and the place p.
 unfoldable pub among : Place → ℕ → Bool
 among (Only q) p = eqb q p
 among Line p = true
 among Kind p = true
 
--- The first of the rows that has the number k and the place p.
-unfoldable pub find : ℕ → ℕ → List Sentence → Sentence
-find k p [] = unsaid
-find k p (s ∷ rest) = elim (both (eqb (s .number) k) (among (s .place) p)) [ true ↦ s | false ↦ find k p rest ]
+unfoldable pub has : ℕ → ℕ → Sentence → Bool
+has k p s = both (eqb (s .number) k) (among (s .places) p)
 
 -- A line or a kind is named before what is said of it.
 unfoldable pub named : Place → ℕ → List ℕ
@@ -61,6 +59,6 @@ named (Only q) p = []
 named Line p = bytes "line " ++ number p ++ bytes ": "
 named Kind p = bytes "kind " ++ number p ++ bytes ": "
 
--- The sentence of a refusal with its newline; nothing where the table has none.
+-- The sentence of a refusal by its number and place, with its newline; nothing where the table has none.
 unfoldable pub sentenceOf : ℕ → ℕ → List ℕ
-sentenceOf k p = let s = find k p sentences in named (s .place) p ++ s .words
+sentenceOf k p = let s = pick (has k p) sentences unsaid in named (s .places) p ++ s .words

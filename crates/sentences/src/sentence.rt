@@ -1,6 +1,6 @@
 // The sentence of a refusal.
 use crate::table::Place;
-use crate::table::row_of;
+use crate::table::find_row;
 use text::put_bytes;
 use text::put_labelled;
 ghost use Prim.Native.Nat.{_+_, _≤_};
@@ -31,10 +31,10 @@ pub fn put_sentence(out: &mut [u8], at: usize, number: usize, place: usize) -> u
     requires { ⌜ at + 80 ≤ length (now out) ⌝ }
     ensures { λ r. ⌜ Appended 80 (now (out .entry)) at (sentenceOf number place) (now (out .exit)) r ⌝ }
 {
-    let row = row_of(number, place);
-    let places = row.1;
-    let words = row.3;
-    let count = row.2;
+    let row = find_row(number, place);
+    let places = row.places;
+    let words = row.words;
+    let count = row.count;
     let next = put_place(out, at, places, place);
     put_bytes(out, next, &words[..count])
 }

@@ -1,0 +1,5 @@
+-- Laws that the proofs cite, and the examples.
+-- The rows of the code and the table; a search from row to row.
+pub mod Rows
+-- A sentence of each kind, closed by computation.
+pub mod Worked
