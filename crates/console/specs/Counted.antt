@@ -2,8 +2,8 @@
 use Prim.Native.Nat.{ℕ}
 use Rattle.console.specs.declared.input.Reading.{Reading}
 use Rattle.console.specs.declared.input.Reading.the-variants.{Read, Failed}
-use Rattle.console.specs.declared.arguments.Words.{Words}
-use Rattle.console.specs.declared.arguments.Words.the-variants.{All, TooLong}
+use Rattle.console.specs.declared.command_line.Words.{Words}
+use Rattle.console.specs.declared.command_line.Words.the-variants.{All, TooLong}
 
 abbrev pub bytesOf : Reading → ℕ
 bytesOf (Read bytes) = bytes

@@ -16,7 +16,7 @@ pub use output::print;
 pub use output::unread;
 
 // The words of the command line.
-mod arguments;
+mod command_line;
 
-pub use arguments::Words;
-pub use arguments::arguments;
+pub use command_line::Words;
+pub use command_line::arguments;

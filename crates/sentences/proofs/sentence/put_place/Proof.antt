@@ -8,78 +8,58 @@ use Rattle.sentences.specs.Sentence.{named}
 use borrow.Author.Needs.{needs}
 use Rattle.sentences.proofs.sentence.put_place.Statement.{statement}
 use Rattle.sentences.proofs.sentence.put_place.Tie as tie
-use Rattle.sentences.proofs.sentence.put_place.Reads as reads
-use Rattle.sentences.proofs.sentence.put_place.Lts as lts
-use Rattle.text.proofs.put_bytes.Reads as put-bytes-reads
-use Rattle.text.proofs.put_labelled.Reads as put-labelled-reads
 
--- src/sentence.rt:17:27
 enum-told : tie.Need-enum-told
 enum-told c = search needs
 
--- src/sentence.rt:19:37
 enum-told-2 : tie.Need-enum-told-2
 enum-told-2 c = search needs
 
--- src/sentence.rt:19:46
 slice-aggregate-put-labelled : tie.Need-slice-aggregate-put-labelled
 slice-aggregate-put-labelled c = search needs
 
--- src/sentence.rt:19:17
 put-labelled-requires : tie.Need-put-labelled-requires
 put-labelled-requires c κs = search needs
 
--- src/sentence.rt:20:34
 slice-aggregate-put-bytes : tie.Need-slice-aggregate-put-bytes
 slice-aggregate-put-bytes c = search needs
 
--- src/sentence.rt:20:13
 put-bytes-requires : tie.Need-put-bytes-requires
 put-bytes-requires c κs = search needs
 
--- src/sentence.rt:23:37
 enum-told-3 : tie.Need-enum-told-3
 enum-told-3 c = search needs
 
--- src/sentence.rt:23:46
 slice-aggregate-put-labelled-2 : tie.Need-slice-aggregate-put-labelled-2
 slice-aggregate-put-labelled-2 c = search needs
 
--- src/sentence.rt:23:17
 put-labelled-requires-2 : tie.Need-put-labelled-requires-2
 put-labelled-requires-2 c κs = search needs
 
--- src/sentence.rt:24:34
 slice-aggregate-put-bytes-2 : tie.Need-slice-aggregate-put-bytes-2
 slice-aggregate-put-bytes-2 c = search needs
 
--- src/sentence.rt:24:13
 put-bytes-requires-2 : tie.Need-put-bytes-requires-2
 put-bytes-requires-2 c κs = search needs
 
--- src/sentence.rt:12:1
 returns : tie.Need-returns
 unfolding named
 returns c =
     let a = c .before .before .before .args in
     reads-as 27 (named (a .places) (a .place)) (nothing (a .out .now) (a .at)) (omega arith) (sym (ap (λ (q : Place). named q (a .place)) (c .enum-told .given .1)))
 
--- src/sentence.rt:12:1
 same-length : tie.Need-same-length
 same-length c = search needs
 
--- src/sentence.rt:12:1
 returns-2 : tie.Need-returns-2
 unfolding named bytes
 returns-2 c =
     let a = c .before .before .before .before .before .before .before .before .before .before .before .before .before .args in
     reads-as 27 (named (a .places) (a .place)) (then (c .before .before .before .before .before .before .before .put-labelled .ensures) (c .before .before .put-bytes .ensures)) (omega arith) (sym (ap (λ (q : Place). named q (a .place)) (c .before .before .before .before .before .before .before .before .before .before .enum-told2 .given .1)))
 
--- src/sentence.rt:12:1
 same-length-2 : tie.Need-same-length-2
 same-length-2 c = search needs
 
--- src/sentence.rt:12:1
 returns-3 : tie.Need-returns-3
 unfolding named bytes
 returns-3 c =

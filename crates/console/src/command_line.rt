@@ -1,4 +1,5 @@
 // The words of the command line.
+use text::put_byte;
 ghost use Prim.Native.Nat.{_≤_};
 ghost use lib.ListN.{length};
 ghost use Rattle.io.specs.Counts.{Counts};
@@ -39,9 +40,9 @@ fn put_argument(words: &mut [u8], at: usize, i: usize) -> Words
     if os::errno() != 0 {
         return Words::TooLong;
     }
-    if end == words.len() {
+    if words.len() <= end {
         return Words::TooLong;
     }
-    words[end] = 0;
-    Words::All { length: end + 1 }
+    let length = put_byte(words, end, 0);
+    Words::All { length }
 }

@@ -1,0 +1,3 @@
+-- Laws that the proofs cite.
+-- A count within a list.
+pub mod Counting
