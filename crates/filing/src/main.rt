@@ -25,13 +25,16 @@ fn explain_refusal(s: &[u8]) {
     }
 }
 
+fn file(s: &[u8]) {
+    if print_page(s) {
+        explain_refusal(s);
+    }
+}
+
 fn main() {
     let mut sheet = [0u8; console::INPUT];
-    let Reading::Read { bytes } = console::read_sheet(&mut sheet) else {
-        console::unread(b"filing");
-        return;
-    };
-    if print_page(&sheet[..bytes]) {
-        explain_refusal(&sheet[..bytes]);
+    match console::read_sheet(&mut sheet) {
+        Reading::Read { bytes } => file(&sheet[..bytes]),
+        Reading::Failed => console::unread(b"filing"),
     }
 }

@@ -1,11 +1,10 @@
 -- `arguments`: the words so far lie in the buffer, which keeps its length. The measure is how many are left.
-use mathlib.Core.Path.{_≡_, ap}
+use mathlib.Core.Path.{_≡_}
 use Prim.Native.Nat.{_≤_, _-_}
 use native.Mathlib.Omega.{arith}
 use lib.ListN.{length}
 use borrow.Author.Needs.{needs}
-use Rattle.console.specs.Counted.{lengthOf}
-use Rattle.console.proofs.Counting.{counts}
+use Rattle.console.proofs.Counting.{counts, words-count}
 use Rattle.console.proofs.command_line.arguments.Statement.{statement}
 use Rattle.console.proofs.command_line.arguments.Tie as tie
 
@@ -47,9 +46,8 @@ loop-less c = search needs
 
 loop-again : tie.Need-loop-again Inv-loop μ-loop
 loop-again c =
-    let e = ap lengthOf (c .before .length .given .1) in
     let word = c .before .before .before .before .before .put-argument in
-    (omega (arith, word .ensures .0), omega (arith, word .kept .0))
+    (words-count (word .last .0) (word .ensures) (c .before .length .given .1) .0, omega (arith, word .kept .0))
 
 same-length-2 : tie.Need-same-length-2 Inv-loop μ-loop
 same-length-2 c = search needs
