@@ -3,3 +3,5 @@
 pub mod Rows
 -- A sentence of each kind, closed by computation.
 pub mod Worked
+-- Every refusal has a sentence.
+pub mod Spoken

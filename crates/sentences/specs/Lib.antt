@@ -3,3 +3,5 @@
 pub mod Sentence
 -- A row of the table as the code has it.
 pub mod Row
+-- The claim that every refusal has a sentence.
+pub mod Every
