@@ -7,5 +7,3 @@ mod table;
 mod sentence;
 
 pub use sentence::put_sentence;
-pub use table::Place;
-pub use table::Row;
