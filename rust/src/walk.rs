@@ -2,7 +2,7 @@
 
 use crate::{Refusal, done, ffi};
 
-/// What is left of an allowance of pairs "for all callers together": every walk of a session draws the pairs that it examined. It has no `Clone`, since a copy would be an allowance that nobody gave.
+/// What is left of an allowance of pairs that several walks share: each draws the pairs that it examined. It has no `Clone`, since a copy would be an allowance that nobody gave.
 ///
 /// A session over several walks:
 ///
