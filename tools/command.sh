@@ -203,7 +203,7 @@ build_alone() { # NAME PRODUCT JOBS WORD..
 ready_by() { # NAME PRODUCT JOBS WORD..
     if up_to_date "$1"; then return; fi
     mkdir -p "$programs" 2>/dev/null
-    { [ -w "$here/target" ] && [ -w "$programs" ]; } || fail "$1 is not built of the sources as they are, and this user may not write in $here/target: its owner runs $name once"
+    [ -w "$programs" ] || fail "$1 is not built of the sources as they are, and this user may not write in $here/target: its owner runs $name once"
     command -v rt >/dev/null || fail "$1 is not built of the sources as they are, and rt is not on the PATH (the Rattle kit is expected in /opt/rattle: PATH=\$PATH:/opt/rattle/bin)"
     command -v flock >/dev/null || fail 'flock (of util-linux) is needed to build'
     build_alone "$@" 9>>"$programs/lock" || fail "can not write $programs/lock"
