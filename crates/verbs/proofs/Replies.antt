@@ -1,9 +1,9 @@
 -- What a text that was appended to the front of a buffer tells.
 use mathlib.Core.List.{List}
 use mathlib.Core.Path.{_≡_, refl, sym, ap, _∙_}
-use Prim.Native.Nat.{ℕ}
+use Prim.Native.Nat.{ℕ, _≤_}
 use native.Mathlib.Omega.{arith}
-use lib.ListN.{length}
+use lib.ListN.{length, drop, length-append}
 use Rattle.model.specs.Answer.{Answer, refused, given, written}
 use Rattle.model.specs.Page.{refusedLine}
 use Rattle.text.specs.Appended.{Appended}
@@ -30,3 +30,8 @@ tells-nothing buffer r e = record { outcome-is = ap (λ (x : Reply). x .outcome)
 -- The same by another name for what is told.
 pub told-as : {t : Told} {before after : List ℕ} {r : Reply} (u : Told) → Tells t before after r → t ≡ u → Tells u before after r
 told-as u tells e = rw (sym e) tells
+
+-- The text lies in the buffer: what a caller that takes it from there owes.
+pub tells-within : {t : Told} {before after : List ℕ} {r : Reply} → Tells t before after r → r .length ≤ length after
+unfolding written
+tells-within {t} {before} tells = omega (arith, tells .length-is, ap length (tells .text-is), length-append (t .text) (drop (length (t .text)) before))
