@@ -2,7 +2,7 @@
 use console::Reading;
 use console::Words;
 use libc::STDERR_FILENO;
-use verbs::Outcome;
+use replies::Outcome;
 
 // What is said of words that are no call.
 fn usage() {
@@ -14,8 +14,8 @@ fn usage() {
 
 // The call that the words ask for, of a sheet: its text to standard output; the sentence of a refusal, or the usage, to standard error.
 fn answer(s: &[u8], words: &[u8]) {
-    let mut text = [0u8; verbs::TEXT];
-    let reply = verbs::answer(s, words, &mut text);
+    let mut text = [0u8; queries::TEXT];
+    let reply = queries::answer(s, words, &mut text);
     let length = reply.length;
     let printed = console::print(b"query", &text[..length]);
     let outcome = reply.outcome;

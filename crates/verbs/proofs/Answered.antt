@@ -2,27 +2,21 @@
 use mathlib.Core.Bool.{true, false}
 use mathlib.Core.List.{List, [], _∷_, _++_}
 use mathlib.Core.Path.{_≡_, refl, sym, ap, _∙_}
-use Prim.Native.Nat.{ℕ, suc, _+_, _-_, _≤_, _<_}
+use Prim.Native.Nat.{ℕ, _≤_, _<_}
 use native.Mathlib.Omega.{arith}
-use lib.ListN.{length, take, drop, length-drop}
-use lib.Seq.{take-all}
+use borrow.Author.Tests.{le-leb, lt-leb}
+use lib.ListN.{length, take}
 use Rattle.model.specs.Sheet.{kindCount}
 use Rattle.model.specs.Walk.{WalkAnswer}
-use Rattle.model.specs.Answer.{Answer, refused, given, settleOf, formOf, walkOf, rowOf, rowCheckOf, written}
-use Rattle.model.specs.Page.{bytes}
+use Rattle.model.specs.Answer.{Answer, refused, given, settleOf, formOf, walkOf, rowCheckOf}
 use Rattle.text.specs.Count.{countsLine}
 use Rattle.text.specs.Appended.{Appended}
 use Rattle.text.proofs.Append.{from-start}
 use Rattle.walkline.specs.Line.{drawnText, foundText, answerLine}
-use Rattle.words.specs.Words.{firstWord, wordsOf, sameWord, Said, numbers, nothing, numbersOf}
-use Rattle.words.proofs.Texts.{words-next, words-none}
-use Rattle.verbs.specs.Told.{Told, told, noCall, endOf, Tells}
+use Rattle.replies.specs.Told.{told, noCall, endOf, Tells}
+use Rattle.replies.specs.declared.reply.Outcome.{Outcome}
 use Rattle.verbs.specs.Texts.{worded, tableRoom, formRoom, stagesLine, rowLines, settleText, rowIn, rowAfter, rowText, formText, walkText}
-use Rattle.verbs.specs.Verb.{Named, verbIn, verbOf}
-use Rattle.verbs.specs.Query.{saidTold, mostNumbers, wordsTold, queryOf}
-use Rattle.verbs.specs.declared.reply.Outcome.{Outcome}
-use Rattle.verbs.specs.declared.table.Verb.{Verb}
-use Rattle.verbs.specs.declared.table.Verb.the-variants.{Other}
+use Rattle.verbs.specs.Calls.{mostNarrow, allowanceTold}
 
 -- Settle and Row, by what Settle gives for a table with room.
 module _ (s room table : List ℕ) (is-room : room ≡ tableRoom) (lent : table ≡ settleOf s room .lent) where
@@ -81,37 +75,12 @@ walk-tells s i j limit allowance e put =
     let w = walkOf s i j limit (record { left = allowance }) in
     rw (sym (walk-told (w .answer) (w .drawn))) (record { outcome-is = e; length-is = omega (arith, put .ends); text-is = from-start put })
 
--- The verb that a word is: the first of the table, or one of the others.
-module _ (x : Named) (xs : List Named) (word : List ℕ) where
-  pub verb-first : sameWord word (bytes (x .name)) ≡ true → x .verb ≡ verbIn (x ∷ xs) word
-  unfolding verbIn
-  verb-first e = rw (e, verbIn) refl
+-- An allowance of 32 bits, and one past them.
+module _ (s : List ℕ) (i j limit allowance : ℕ) where
+  pub allowance-taken : allowance ≤ mostNarrow → told (walkText s i j limit allowance) ≡ allowanceTold s i j limit allowance
+  unfolding allowanceTold
+  allowance-taken h = rw (le-leb allowance mostNarrow h, allowanceTold) refl
 
-  pub verb-later : sameWord word (bytes (x .name)) ≡ false → verbIn xs word ≡ verbIn (x ∷ xs) word
-  unfolding verbIn
-  verb-later e = rw (e, verbIn) refl
-
-pub verb-none : (word : List ℕ) → Other ≡ verbIn [] word
-unfolding verbIn
-verb-none word = refl
-
--- The words of a query: none, or a verb and what follows it.
-module _ (s text : List ℕ) (end : ℕ) (is-end : end ≡ length (firstWord text)) where
-  pub query-none : length text ≤ end → noCall ≡ queryOf s text
-  unfolding queryOf wordsTold
-  query-none h = ap (wordsTold s) (sym (words-none text (omega (arith, is-end))))
-
-  module _ (h : end < length text) where
-    -- The words that follow the verb, as a part of the text.
-    rest : take (length text - (end + 1)) (drop (end + 1) text) ≡ drop (suc (length (firstWord text))) text
-    rest =
-        let e : end + 1 ≡ suc (length (firstWord text)) = omega (arith, is-end) in
-        take-all (length text - (end + 1)) (drop (end + 1) text) (omega (arith, length-drop (end + 1) text)) ∙ ap (λ (n : ℕ). drop n text) e
-
-    pub query-verb : (verb : Verb) (said : Said) → verb ≡ verbOf (take end text) → said ≡ numbersOf mostNumbers (wordsOf (take (length text - (end + 1)) (drop (end + 1) text)))
-        → saidTold s verb said ≡ queryOf s text
-    unfolding queryOf wordsTold
-    query-verb verb said v e =
-        ap (λ (x : Verb). saidTold s x said) (v ∙ ap (λ (n : ℕ). verbOf (take n text)) is-end)
-        ∙ ap (saidTold s (verbOf (take (length (firstWord text)) text))) (e ∙ ap (λ (l : List ℕ). numbersOf mostNumbers (wordsOf l)) rest)
-        ∙ ap (wordsTold s) (sym (words-next text (omega (arith, is-end))))
+  pub allowance-past : mostNarrow < allowance → noCall ≡ allowanceTold s i j limit allowance
+  unfolding allowanceTold
+  allowance-past h = rw (lt-leb allowance mostNarrow h, allowanceTold) refl

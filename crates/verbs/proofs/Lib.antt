@@ -1,5 +1,3 @@
 -- Laws that the proofs cite.
-pub mod Replies  -- what a text that was appended tells
-pub mod Calls  -- what the calls give, and how large it is
-pub mod Numbers  -- calls with as many numbers as they take
-pub mod Answered  -- the texts of the calls
+pub mod Sizes  -- how large is what the calls give
+pub mod Answered  -- the texts of the calls, from what the calls give

@@ -1,19 +1,18 @@
 // compare I J.
-use crate::reply::Outcome;
-use crate::reply::Reply;
-use crate::reply::no_call;
-use crate::reply::refuse;
 use filer::Verdict;
 use filer::compare::compare;
+use replies::reply::Outcome;
+use replies::reply::Reply;
+use replies::reply::no_call;
+use replies::reply::refuse;
 use verdicts::put_different;
 use verdicts::put_same;
 ghost use Prim.Native.Nat.{_≤_};
 ghost use lib.ListN.{length};
 ghost use Rattle.filer.specs.Answers.{verdictOf};
-ghost use Rattle.verbs.specs.Told.{told, Tells};
+ghost use Rattle.replies.specs.Told.{told, Tells};
 ghost use Rattle.verbs.specs.Texts.{verdictText};
-ghost use Rattle.verbs.specs.Query.{mostText, verbTold};
-ghost use Rattle.verbs.specs.declared.table.Verb.the-variants.{Compare};
+ghost use Rattle.verbs.specs.Calls.{mostText, compareTold};
 
 // `same` or `different S R`.
 fn put_verdict(out: &mut [u8], verdict: Verdict) -> Reply
@@ -42,7 +41,7 @@ fn put_verdict(out: &mut [u8], verdict: Verdict) -> Reply
 // The verdict on two fields.
 pub fn compare_fields(s: &[u8], numbers: &[u64], out: &mut [u8]) -> Reply
     requires { ⌜ mostText ≤ length (now out) ⌝ }
-    ensures { λ r. ⌜ Tells (verbTold (now (s .entry)) Compare (now (numbers .entry))) (now (out .entry)) (now (out .exit)) r ⌝ }
+    ensures { λ r. ⌜ Tells (compareTold (now (s .entry)) (now (numbers .entry))) (now (out .entry)) (now (out .exit)) r ⌝ }
 {
     if numbers.len() != 2 {
         return no_call();

@@ -1,19 +1,18 @@
 // form I.
-use crate::reply::Outcome;
-use crate::reply::Reply;
-use crate::reply::no_call;
-use crate::reply::refuse;
 use filer::Forming;
 use filer::form::prime_form;
+use replies::reply::Outcome;
+use replies::reply::Reply;
+use replies::reply::no_call;
+use replies::reply::refuse;
 use sheet::Card;
 use text::put_form_line;
 ghost use mathlib.Core.Path.{_≡_};
 ghost use Prim.Native.Nat.{_≤_};
 ghost use lib.ListN.{length};
-ghost use Rattle.verbs.specs.Told.{Tells};
+ghost use Rattle.replies.specs.Told.{Tells};
 ghost use Rattle.verbs.specs.Texts.{formRoom};
-ghost use Rattle.verbs.specs.Query.{mostText, verbTold};
-ghost use Rattle.verbs.specs.declared.table.Verb.the-variants.{Form};
+ghost use Rattle.verbs.specs.Calls.{mostText, formTold};
 
 // Room for the prime form of any card's field.
 fn form_room() -> [u64; 32]
@@ -25,7 +24,7 @@ fn form_room() -> [u64; 32]
 // The counts of a field's prime form.
 pub fn field_form(s: &[u8], numbers: &[u64], out: &mut [u8]) -> Reply
     requires { ⌜ mostText ≤ length (now out) ⌝ }
-    ensures { λ r. ⌜ Tells (verbTold (now (s .entry)) Form (now (numbers .entry))) (now (out .entry)) (now (out .exit)) r ⌝ }
+    ensures { λ r. ⌜ Tells (formTold (now (s .entry)) (now (numbers .entry))) (now (out .entry)) (now (out .exit)) r ⌝ }
 {
     if numbers.len() != 1 {
         return no_call();

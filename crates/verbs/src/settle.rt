@@ -1,13 +1,13 @@
 // settle and row K.
-use crate::reply::Outcome;
-use crate::reply::Reply;
-use crate::reply::no_call;
-use crate::reply::refuse;
 use filer::RowCheck;
 use filer::Settling;
 use filer::row::row;
 use filer::row::row_check;
 use filer::settle::settle_sheet;
+use replies::reply::Outcome;
+use replies::reply::Reply;
+use replies::reply::no_call;
+use replies::reply::refuse;
 use sheet::Card;
 use text::put_byte;
 use text::put_labelled;
@@ -20,10 +20,9 @@ ghost use Rattle.model.specs.Limits.{mostKinds};
 ghost use Rattle.model.specs.Sheet.{kindCount};
 ghost use Rattle.model.specs.Answer.{given, rowCheckOf};
 ghost use Rattle.text.specs.Appended.{Appended};
-ghost use Rattle.verbs.specs.Told.{told, Tells};
+ghost use Rattle.replies.specs.Told.{told, Tells};
 ghost use Rattle.verbs.specs.Texts.{tableRoom, stagesLine, rowLines, rowIn};
-ghost use Rattle.verbs.specs.Query.{mostText, verbTold};
-ghost use Rattle.verbs.specs.declared.table.Verb.the-variants.{Settle, Row};
+ghost use Rattle.verbs.specs.Calls.{mostText, settleTold, rowTold};
 
 // Room for the table of any card.
 fn table_room() -> [u32; 1024]
@@ -73,7 +72,7 @@ fn put_settled(out: &mut [u8], s: &[u8], stage: usize, table: &[u32]) -> Reply
 // settle.
 pub fn settle(s: &[u8], numbers: &[u64], out: &mut [u8]) -> Reply
     requires { ⌜ mostText ≤ length (now out) ⌝ }
-    ensures { λ r. ⌜ Tells (verbTold (now (s .entry)) Settle (now (numbers .entry))) (now (out .entry)) (now (out .exit)) r ⌝ }
+    ensures { λ r. ⌜ Tells (settleTold (now (s .entry)) (now (numbers .entry))) (now (out .entry)) (now (out .exit)) r ⌝ }
 {
     if numbers.len() != 0 {
         return no_call();
@@ -105,7 +104,7 @@ fn put_row_of(out: &mut [u8], table: &[u32], n: usize, kind: usize) -> Reply
 // row K.
 pub fn settled_row(s: &[u8], numbers: &[u64], out: &mut [u8]) -> Reply
     requires { ⌜ mostText ≤ length (now out) ⌝ }
-    ensures { λ r. ⌜ Tells (verbTold (now (s .entry)) Row (now (numbers .entry))) (now (out .entry)) (now (out .exit)) r ⌝ }
+    ensures { λ r. ⌜ Tells (rowTold (now (s .entry)) (now (numbers .entry))) (now (out .entry)) (now (out .exit)) r ⌝ }
 {
     if numbers.len() != 1 {
         return no_call();

@@ -1,7 +1,7 @@
 // walk I J LIMIT ALLOWANCE.
-use crate::reply::Outcome;
-use crate::reply::Reply;
-use crate::reply::no_call;
+use replies::reply::Outcome;
+use replies::reply::Reply;
+use replies::reply::no_call;
 use walker::Answer;
 use walker::Session;
 use walker::walk;
@@ -10,9 +10,8 @@ ghost use mathlib.Core.Path.{_≡_};
 ghost use Prim.Native.Nat.{_≤_};
 ghost use lib.ListN.{length};
 ghost use Rattle.walker.specs.Answers.{answerOf};
-ghost use Rattle.verbs.specs.Told.{Tells, endOf};
-ghost use Rattle.verbs.specs.Query.{mostText, verbTold};
-ghost use Rattle.verbs.specs.declared.table.Verb.the-variants.{Walk};
+ghost use Rattle.replies.specs.Told.{Tells, endOf};
+ghost use Rattle.verbs.specs.Calls.{mostText, walkTold};
 
 // The largest number of 32 bits.
 const NARROW: u64 = 4_294_967_295;
@@ -32,7 +31,7 @@ fn outcome_of(answer: Answer) -> Outcome
 // The walk of two fields, in a session that has the allowance.
 pub fn walk_fields(s: &[u8], numbers: &[u64], out: &mut [u8]) -> Reply
     requires { ⌜ mostText ≤ length (now out) ⌝ }
-    ensures { λ r. ⌜ Tells (verbTold (now (s .entry)) Walk (now (numbers .entry))) (now (out .entry)) (now (out .exit)) r ⌝ }
+    ensures { λ r. ⌜ Tells (walkTold (now (s .entry)) (now (numbers .entry))) (now (out .entry)) (now (out .exit)) r ⌝ }
 {
     if numbers.len() != 4 {
         return no_call();

@@ -1,7 +1,7 @@
 -- `answer`: the text lies in its buffer.
 use mathlib.Core.Path.{sym}
 use lib.Seq.{length-take-le}
-use Rattle.verbs.proofs.Replies.{tells-within}
+use Rattle.replies.proofs.Replies.{tells-within}
 use borrow.Author.Needs.{needs}
 use Rattle.query.proofs.answer.Statement.{statement}
 use Rattle.query.proofs.answer.Tie as tie

@@ -1,11 +1,11 @@
 -- `compare_fields`: with two numbers, the verdict on these fields.
 use mathlib.Core.Path.{_≡_, sym, ap, _∙_}
 use lib.ListN.{getD}
-use Rattle.verbs.specs.Told.{told}
+use Rattle.replies.specs.Told.{told}
 use Rattle.verbs.specs.Texts.{verdictText, compareText}
-use Rattle.verbs.specs.Query.{verbTold}
-use Rattle.verbs.proofs.Numbers.{two-taken, two-other}
-use Rattle.verbs.proofs.Replies.{tells-nothing, told-as}
+use Rattle.verbs.specs.Calls.{compareTold}
+use Rattle.replies.proofs.Numbers.{two-taken, two-other}
+use Rattle.replies.proofs.Replies.{tells-nothing, told-as}
 use borrow.Author.Needs.{needs}
 use Rattle.verbs.proofs.compare.compare_fields.Statement.{statement}
 use Rattle.verbs.proofs.compare.compare_fields.Tie as tie
@@ -14,7 +14,7 @@ no-call-requires : tie.Need-no-call-requires
 no-call-requires c κs = search needs
 
 returns : tie.Need-returns
-unfolding verbTold
+unfolding compareTold
 returns c = told-as _ (tells-nothing (c .before .before .before .before .before .args .out .now) (c .no-call .result) (c .no-call .ensures)) (two-other _ (c .before .before .before .before .before .args .numbers .now) (c .before .if1 .taken))
 
 shared-slice-read-compare : tie.Need-shared-slice-read-compare
@@ -33,7 +33,7 @@ same-length : tie.Need-same-length
 same-length c = search needs
 
 returns-2 : tie.Need-returns-2
-unfolding verbTold compareText
+unfolding compareTold compareText
 returns-2 c =
     told-as _ (c .before .before .put-verdict .ensures) (ap (λ a. told (verdictText a)) (c .before .before .before .before .compare .ensures) ∙ two-taken _ (c .before .before .before .before .before .before .before .before .before .before .before .args .numbers .now) (c .before .before .before .before .before .before .before .if1 .left))
 

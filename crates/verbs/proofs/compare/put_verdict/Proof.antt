@@ -1,9 +1,9 @@
 -- `put_verdict`: the word of each case of the verdict.
 use mathlib.Core.Path.{sym, ap}
 use Rattle.filer.specs.Answers.{verdictOf}
-use Rattle.verbs.specs.Told.{told}
+use Rattle.replies.specs.Told.{told}
 use Rattle.verbs.specs.Texts.{worded, verdictText}
-use Rattle.verbs.proofs.Replies.{tells-answer, told-as}
+use Rattle.replies.proofs.Replies.{tells-answer, told-as}
 use borrow.Author.Needs.{needs}
 use Rattle.verbs.proofs.compare.put_verdict.Statement.{statement}
 use Rattle.verbs.proofs.compare.put_verdict.Tie as tie

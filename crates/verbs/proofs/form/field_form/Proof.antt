@@ -8,12 +8,12 @@ use Rattle.model.specs.Answer.{given}
 use Rattle.sheet.specs.declared.reader.Card.{Card}
 use Rattle.filer.specs.Answers.{formingOf}
 use Rattle.text.specs.Count.{countsLine}
-use Rattle.verbs.specs.Told.{told}
-use Rattle.verbs.specs.Query.{verbTold}
+use Rattle.replies.specs.Told.{told}
+use Rattle.verbs.specs.Calls.{formTold}
 use Rattle.verbs.proofs.Answered.{form-answered, form-refused}
-use Rattle.verbs.proofs.Calls.{formed-few}
-use Rattle.verbs.proofs.Numbers.{one-taken, one-other}
-use Rattle.verbs.proofs.Replies.{tells-answer, tells-nothing, told-as}
+use Rattle.verbs.proofs.Sizes.{formed-few}
+use Rattle.replies.proofs.Numbers.{one-taken, one-other}
+use Rattle.replies.proofs.Replies.{tells-answer, tells-nothing, told-as}
 use borrow.Author.Needs.{needs}
 use Rattle.verbs.proofs.form.field_form.Statement.{statement}
 use Rattle.verbs.proofs.form.field_form.Tie as tie
@@ -31,7 +31,7 @@ no-call-requires : tie.Need-no-call-requires
 no-call-requires c κs = search needs
 
 returns : tie.Need-returns
-unfolding verbTold
+unfolding formTold
 returns c = told-as _ (tells-nothing (c .before .before .before .before .before .args .out .now) (c .no-call .result) (c .no-call .ensures)) (one-other _ (c .before .before .before .before .before .args .numbers .now) (c .before .if1 .taken))
 
 form-room-requires : tie.Need-form-room-requires
@@ -71,7 +71,7 @@ same-length : tie.Need-same-length
 same-length c = search needs
 
 returns-2 : tie.Need-returns-2
-unfolding verbTold
+unfolding formTold
 returns-2 c =
     let start = c .before .before .before .before .before .before .before .before .before .before .before .before .before .before .before .before .before in
     let field = getD (start .args .numbers .now) 0 0 in
@@ -86,7 +86,7 @@ same-length-2 : tie.Need-same-length-2
 same-length-2 c = search needs
 
 returns-3 : tie.Need-returns-3
-unfolding verbTold
+unfolding formTold
 returns-3 c =
     let start = c .before .before .before .before .before .before .before .before .before .before .before .before .before .before .before .before in
     let field = getD (start .args .numbers .now) 0 0 in

@@ -6,10 +6,10 @@ use Rattle.model.specs.Refusal.{Finding}
 use Rattle.model.specs.Answer.{given}
 use Rattle.filer.specs.Answers.{findingOf}
 use Rattle.text.specs.Count.{countsLine}
-use Rattle.verbs.specs.Told.{told}
+use Rattle.replies.specs.Told.{told}
 use Rattle.verbs.specs.Texts.{rowIn}
-use Rattle.verbs.proofs.Calls.{row-most}
-use Rattle.verbs.proofs.Replies.{tells-answer, told-as}
+use Rattle.verbs.proofs.Sizes.{row-most}
+use Rattle.replies.proofs.Replies.{tells-answer, told-as}
 use borrow.Author.Needs.{needs}
 use Rattle.verbs.proofs.settle.put_row_of.Statement.{statement}
 use Rattle.verbs.proofs.settle.put_row_of.Tie as tie

@@ -11,7 +11,7 @@ use Rattle.text.specs.Count.{countsLine}
 use Rattle.text.proofs.Append.{reads-as}
 use Rattle.text.proofs.Sequence.{no-text, next-text}
 use Rattle.verbs.specs.Texts.{rowLines}
-use Rattle.verbs.proofs.Calls.{row-most}
+use Rattle.verbs.proofs.Sizes.{row-most}
 use Rattle.verbs.proofs.settle.put_rows.Statement.{statement}
 use Rattle.verbs.proofs.settle.put_rows.Tie as tie
 

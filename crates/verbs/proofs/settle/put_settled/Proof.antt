@@ -6,9 +6,9 @@ use native.Mathlib.Omega.{arith}
 use Rattle.model.specs.Answer.{given}
 use Rattle.sheet.specs.declared.reader.Card.{Card}
 use Rattle.text.proofs.Append.{then}
-use Rattle.verbs.specs.Told.{told}
+use Rattle.replies.specs.Told.{told}
 use Rattle.verbs.specs.Texts.{stagesLine, rowLines}
-use Rattle.verbs.proofs.Replies.{tells-answer, told-as}
+use Rattle.replies.proofs.Replies.{tells-answer, told-as}
 use borrow.Author.Needs.{needs}
 use Rattle.verbs.proofs.settle.put_settled.Statement.{statement}
 use Rattle.verbs.proofs.settle.put_settled.Tie as tie

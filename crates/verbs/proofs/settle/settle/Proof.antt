@@ -2,12 +2,12 @@
 use mathlib.Core.Path.{_≡_, sym, ap, _∙_}
 use native.Mathlib.Omega.{arith}
 use Rattle.filer.specs.Answers.{settlingOf}
-use Rattle.verbs.specs.Told.{told}
-use Rattle.verbs.specs.Query.{verbTold}
+use Rattle.replies.specs.Told.{told}
+use Rattle.verbs.specs.Calls.{settleTold}
 use Rattle.verbs.proofs.Answered.{settle-answered, settle-refused}
-use Rattle.verbs.proofs.Calls.{settled-few}
-use Rattle.verbs.proofs.Numbers.{none-taken, none-other}
-use Rattle.verbs.proofs.Replies.{tells-nothing, told-as}
+use Rattle.verbs.proofs.Sizes.{settled-few}
+use Rattle.replies.proofs.Numbers.{none-taken, none-other}
+use Rattle.replies.proofs.Replies.{tells-nothing, told-as}
 use borrow.Author.Needs.{needs}
 use Rattle.verbs.proofs.settle.settle.Statement.{statement}
 use Rattle.verbs.proofs.settle.settle.Tie as tie
@@ -16,7 +16,7 @@ no-call-requires : tie.Need-no-call-requires
 no-call-requires c κs = search needs
 
 returns : tie.Need-returns
-unfolding verbTold
+unfolding settleTold
 returns c = told-as _ (tells-nothing (c .before .before .before .before .before .args .out .now) (c .no-call .result) (c .no-call .ensures)) (none-other _ (c .before .before .before .before .before .args .numbers .now) (c .before .if1 .taken))
 
 table-room-requires : tie.Need-table-room-requires
@@ -50,7 +50,7 @@ same-length : tie.Need-same-length
 same-length c = search needs
 
 returns-2 : tie.Need-returns-2
-unfolding verbTold
+unfolding settleTold
 returns-2 c =
     let start = c .before .before .before .before .before .before .before .before .before .before .before .before .before .before .before .before in
     let answers = ap settlingOf (sym (c .before .before .before .before .before .before .stage .given .1)) ∙ c .before .before .before .before .before .before .before .before .before .settle-sheet .ensures .0 in
@@ -62,7 +62,7 @@ same-length-2 : tie.Need-same-length-2
 same-length-2 c = search needs
 
 returns-3 : tie.Need-returns-3
-unfolding verbTold
+unfolding settleTold
 returns-3 c =
     let start = c .before .before .before .before .before .before .before .before .before .before .before .before .before .before .before in
     let answers = ap settlingOf (sym (c .before .before .before .before .before .number .given .1)) ∙ c .before .before .before .before .before .before .before .before .settle-sheet .ensures .0 in

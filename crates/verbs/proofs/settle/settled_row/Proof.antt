@@ -5,12 +5,12 @@ use lib.ListN.{getD}
 use Rattle.model.specs.Answer.{rowCheckOf}
 use Rattle.sheet.specs.declared.reader.Card.{Card}
 use Rattle.filer.specs.Answers.{settlingOf}
-use Rattle.verbs.specs.Told.{told}
+use Rattle.replies.specs.Told.{told}
 use Rattle.verbs.specs.Texts.{rowIn}
-use Rattle.verbs.specs.Query.{verbTold}
+use Rattle.verbs.specs.Calls.{rowTold}
 use Rattle.verbs.proofs.Answered.{row-answered, row-refused}
-use Rattle.verbs.proofs.Numbers.{one-taken, one-other}
-use Rattle.verbs.proofs.Replies.{tells-nothing, told-as}
+use Rattle.replies.proofs.Numbers.{one-taken, one-other}
+use Rattle.replies.proofs.Replies.{tells-nothing, told-as}
 use borrow.Author.Needs.{needs}
 use Rattle.verbs.proofs.settle.settled_row.Statement.{statement}
 use Rattle.verbs.proofs.settle.settled_row.Tie as tie
@@ -19,7 +19,7 @@ no-call-requires : tie.Need-no-call-requires
 no-call-requires c κs = search needs
 
 returns : tie.Need-returns
-unfolding verbTold
+unfolding rowTold
 returns c = told-as _ (tells-nothing (c .before .before .before .before .before .args .out .now) (c .no-call .result) (c .no-call .ensures)) (one-other _ (c .before .before .before .before .before .args .numbers .now) (c .before .if1 .taken))
 
 shared-slice-read-kind : tie.Need-shared-slice-read-kind
@@ -56,7 +56,7 @@ same-length : tie.Need-same-length
 same-length c = search needs
 
 returns-2 : tie.Need-returns-2
-unfolding verbTold
+unfolding rowTold
 returns-2 c =
     let start = c .before .before .before .before .before .before .before .before .before .before .before .before .before .before .before .before .before in
     let kind = getD (start .args .numbers .now) 0 0 in
@@ -71,7 +71,7 @@ same-length-2 : tie.Need-same-length-2
 same-length-2 c = search needs
 
 returns-3 : tie.Need-returns-3
-unfolding verbTold
+unfolding rowTold
 returns-3 c =
     let start = c .before .before .before .before .before .before .before .before .before .before .before .before .before .before .before .before in
     let kind = getD (start .args .numbers .now) 0 0 in

@@ -1,7 +1,7 @@
 -- `outcome_of`: by the answer's case.
 use mathlib.Core.Path.{sym, ap}
 use Rattle.walker.specs.Answers.{answerOf}
-use Rattle.verbs.specs.Told.{endOf}
+use Rattle.replies.specs.Told.{endOf}
 use borrow.Author.Needs.{needs}
 use Rattle.verbs.proofs.walk.outcome_of.Statement.{statement}
 use Rattle.verbs.proofs.walk.outcome_of.Tie as tie

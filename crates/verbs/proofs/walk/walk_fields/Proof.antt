@@ -6,11 +6,11 @@ use lib.ListN.{getD}
 use Rattle.model.specs.Answer.{Walked, walkOf}
 use Rattle.text.proofs.Append.{reads-as}
 use Rattle.walkline.specs.Line.{walkLine}
-use Rattle.verbs.specs.Told.{told, endOf}
-use Rattle.verbs.specs.Query.{verbTold}
-use Rattle.verbs.proofs.Answered.{walk-tells}
-use Rattle.verbs.proofs.Numbers.{four-taken, four-other, allowance-taken, allowance-past}
-use Rattle.verbs.proofs.Replies.{tells-nothing, told-as}
+use Rattle.replies.specs.Told.{told, endOf}
+use Rattle.verbs.specs.Calls.{walkTold}
+use Rattle.verbs.proofs.Answered.{walk-tells, allowance-taken, allowance-past}
+use Rattle.replies.proofs.Numbers.{four-taken, four-other}
+use Rattle.replies.proofs.Replies.{tells-nothing, told-as}
 use borrow.Author.Needs.{needs}
 use Rattle.verbs.proofs.walk.walk_fields.Statement.{statement}
 use Rattle.verbs.proofs.walk.walk_fields.Tie as tie
@@ -19,7 +19,7 @@ no-call-requires : tie.Need-no-call-requires
 no-call-requires c κs = search needs
 
 returns : tie.Need-returns
-unfolding verbTold
+unfolding walkTold
 returns c = told-as _ (tells-nothing (c .before .before .before .before .before .args .out .now) (c .no-call .result) (c .no-call .ensures)) (four-other _ (c .before .before .before .before .before .args .numbers .now) (c .before .if1 .taken))
 
 shared-slice-read-allowance : tie.Need-shared-slice-read-allowance
@@ -29,7 +29,7 @@ no-call-requires-2 : tie.Need-no-call-requires-2
 no-call-requires-2 c κs = search needs
 
 returns-2 : tie.Need-returns-2
-unfolding verbTold
+unfolding walkTold
 returns-2 c =
     told-as _ (tells-nothing (c .before .before .before .before .before .before .before .args .out .now) (c .no-call2 .result) (c .no-call2 .ensures))
     (allowance-past (c .before .before .before .before .before .before .before .args .s .now) _ _ _ _ (c .before .if2 .taken) ∙ four-taken _ (c .before .before .before .before .before .before .before .args .numbers .now) (c .before .before .before .if1 .left))
@@ -62,7 +62,7 @@ same-length : tie.Need-same-length
 same-length c = search needs
 
 returns-3 : tie.Need-returns-3
-unfolding verbTold
+unfolding walkTold
 returns-3 c =
     let start = c .before .before .before .before .before .before .before .before .before .before .before .before .before .before .before .before in
     let s = start .args .s .now in
