@@ -76,8 +76,8 @@ static void test_numbers(void)
     EXPECT(length == LIMBATUE_SHEET_MOST);
     make_sheet(3, 2, 5, 4);
     memset(answer, 7, sizeof answer);
-    EXPECT(REFUSED(limbatue_numbers(sheet, length, answer, LIMBATUE_NUMBERS_ANSWER - 1), LIMBATUE_REFUSED_BUFFER, 0));
-    EXPECT(REFUSED(limbatue_numbers(sheet, 19, answer, 0), LIMBATUE_REFUSED_HEADER, 0));
+    EXPECT(REFUSED(limbatue_numbers(sheet, length, answer, LIMBATUE_NUMBERS_ANSWER - 1), LIMBATUE_REFUSED_TOO_SHORT, 0));
+    EXPECT(REFUSED(limbatue_numbers(sheet, 19, answer, 0), LIMBATUE_REFUSED_NO_HEADER, 0));
     EXPECT(answer[0] == answer[3] && answer[0] % 256 == 7);
 }
 
@@ -85,7 +85,7 @@ static void test_refused_sheets(void)
 {
     make_sheet(3, 2, 5, 4);
     length = 19;
-    EXPECT(REFUSED(numbers(), LIMBATUE_REFUSED_HEADER, 0));
+    EXPECT(REFUSED(numbers(), LIMBATUE_REFUSED_NO_HEADER, 0));
     EXPECT(REFUSED(damaged(0, 2, 33), LIMBATUE_REFUSED_KINDS, 0));
     EXPECT(REFUSED(damaged(2, 2, 0), LIMBATUE_REFUSED_CODES, 0));
     EXPECT(REFUSED(damaged(4, 2, 257), LIMBATUE_REFUSED_LINES, 0));
@@ -102,7 +102,7 @@ static void test_refused_sheets(void)
     EXPECT(REFUSED(settle(), LIMBATUE_REFUSED_NO_NORM, 2));
     make_sheet(4, 1, 4, 0); /* 1 leaves 200 of 0, 2 leaves 200 of 1, 3 leaves 200 of 2 */
     sheet[20 + 1 * 6 + 2] = sheet[20 + 2 * 6 + 3] = sheet[20 + 3 * 6 + 4] = 200;
-    EXPECT(REFUSED(settle(), LIMBATUE_REFUSED_NORM, 3));
+    EXPECT(REFUSED(settle(), LIMBATUE_REFUSED_NORM_OVER_LIMIT, 3));
 }
 
 /* Kinds of one line each, so that each is of norm 1 and prime only where it is kind 0; fields 0 and 1 are alike, field 2 is one token larger. */
@@ -118,19 +118,19 @@ static void test_filer(void)
 {
     make_fields();
     EXPECT(settle() == LIMBATUE_DONE && answer[0] == 1 && table[0] == 1 && table[31 * 32] == 1 && table[31 * 32 + 31] == 0);
-    EXPECT(REFUSED(limbatue_settle(sheet, length, table, LIMBATUE_TABLE_MOST - 1, answer, LIMBATUE_SETTLE_ANSWER), LIMBATUE_REFUSED_BUFFER, 0));
-    EXPECT(REFUSED(limbatue_settle(sheet, length, table, LIMBATUE_TABLE_MOST, answer, LIMBATUE_SETTLE_ANSWER - 1), LIMBATUE_REFUSED_BUFFER, 0));
+    EXPECT(REFUSED(limbatue_settle(sheet, length, table, LIMBATUE_TABLE_MOST - 1, answer, LIMBATUE_SETTLE_ANSWER), LIMBATUE_REFUSED_TOO_SHORT, 0));
+    EXPECT(REFUSED(limbatue_settle(sheet, length, table, LIMBATUE_TABLE_MOST, answer, LIMBATUE_SETTLE_ANSWER - 1), LIMBATUE_REFUSED_TOO_SHORT, 0));
     EXPECT(limbatue_row_check(table, LIMBATUE_TABLE_MOST, 32, 31, answer, LIMBATUE_ROW_CHECK_ANSWER) == LIMBATUE_DONE && answer[0] == 31 * 32 && answer[1] == 32);
-    EXPECT(REFUSED(limbatue_row_check(table, LIMBATUE_TABLE_MOST, 32, 31, answer, LIMBATUE_ROW_CHECK_ANSWER - 1), LIMBATUE_REFUSED_BUFFER, 0));
+    EXPECT(REFUSED(limbatue_row_check(table, LIMBATUE_TABLE_MOST, 32, 31, answer, LIMBATUE_ROW_CHECK_ANSWER - 1), LIMBATUE_REFUSED_TOO_SHORT, 0));
     EXPECT(REFUSED(limbatue_row_check(table, LIMBATUE_TABLE_MOST, 33, 0, answer, LIMBATUE_ROW_CHECK_ANSWER), LIMBATUE_REFUSED_KINDS, 0));
     EXPECT(REFUSED(limbatue_row_check(table, LIMBATUE_TABLE_MOST, 32, 32, answer, LIMBATUE_ROW_CHECK_ANSWER), LIMBATUE_REFUSED_NUMBER, 0));
     EXPECT(compare(0, 1) == LIMBATUE_DONE && answer[0] == LIMBATUE_SAME && answer[1] == 0 && answer[2] == 0);
     EXPECT(compare(0, 2) == LIMBATUE_DONE && answer[0] == LIMBATUE_DIFFERENT && answer[1] == 0 && answer[2] == 2);
     EXPECT(REFUSED(compare(3, 3), LIMBATUE_REFUSED_NUMBER, 0));
     EXPECT(REFUSED(compare(2, 3), LIMBATUE_REFUSED_NUMBER, 1));
-    EXPECT(REFUSED(limbatue_compare(sheet, length, 0, 1, answer, LIMBATUE_COMPARE_ANSWER - 1), LIMBATUE_REFUSED_BUFFER, 0));
+    EXPECT(REFUSED(limbatue_compare(sheet, length, 0, 1, answer, LIMBATUE_COMPARE_ANSWER - 1), LIMBATUE_REFUSED_TOO_SHORT, 0));
     EXPECT(limbatue_prime_form(sheet, length, 2, counts, LIMBATUE_COUNTS_MOST) == LIMBATUE_DONE && counts[0] == 2 && counts[31] == 0);
-    EXPECT(REFUSED(limbatue_prime_form(sheet, length, 2, counts, LIMBATUE_COUNTS_MOST - 1), LIMBATUE_REFUSED_BUFFER, 0));
+    EXPECT(REFUSED(limbatue_prime_form(sheet, length, 2, counts, LIMBATUE_COUNTS_MOST - 1), LIMBATUE_REFUSED_TOO_SHORT, 0));
 }
 
 static void test_walk(void)
@@ -143,16 +143,16 @@ static void test_walk(void)
     allowance = 1;
     EXPECT(limbatue_walk(sheet, length, 0, 2, 8, &allowance, answer, LIMBATUE_WALK_ANSWER) == LIMBATUE_DONE && answer[0] == LIMBATUE_SPENT && answer[2] == 1 && allowance == 0);
     allowance = 100;
-    EXPECT(REFUSED(limbatue_walk(sheet, length, 0, 1, 9, &allowance, answer, 0), LIMBATUE_REFUSED_LIMIT, 0) && allowance == 100);
-    EXPECT(REFUSED(limbatue_walk(sheet, length, 0, 1, 8, &allowance, answer, LIMBATUE_WALK_ANSWER - 1), LIMBATUE_REFUSED_BUFFER, 0) && allowance == 100);
+    EXPECT(REFUSED(limbatue_walk(sheet, length, 0, 1, 9, &allowance, answer, 0), LIMBATUE_REFUSED_ROUND_LIMIT, 0) && allowance == 100);
+    EXPECT(REFUSED(limbatue_walk(sheet, length, 0, 1, 8, &allowance, answer, LIMBATUE_WALK_ANSWER - 1), LIMBATUE_REFUSED_TOO_SHORT, 0) && allowance == 100);
 }
 
 static void test_page(void)
 {
     make_fields();
     EXPECT(limbatue_page(sheet, length, page, LIMBATUE_PAGE_MOST, answer, LIMBATUE_PAGE_ANSWER) == LIMBATUE_DONE && memcmp(page, "kinds 32 stages 1\n", 18) == 0 && page[answer[0] - 1] == '\n');
-    EXPECT(REFUSED(limbatue_page(sheet, length, page, (size_t)answer[0] - 1, answer, LIMBATUE_PAGE_ANSWER), LIMBATUE_REFUSED_BUFFER, 0));
-    EXPECT(REFUSED(limbatue_page(sheet, length, page, LIMBATUE_PAGE_MOST, answer, LIMBATUE_PAGE_ANSWER - 1), LIMBATUE_REFUSED_BUFFER, 0));
+    EXPECT(REFUSED(limbatue_page(sheet, length, page, (size_t)answer[0] - 1, answer, LIMBATUE_PAGE_ANSWER), LIMBATUE_REFUSED_TOO_SHORT, 0));
+    EXPECT(REFUSED(limbatue_page(sheet, length, page, LIMBATUE_PAGE_MOST, answer, LIMBATUE_PAGE_ANSWER - 1), LIMBATUE_REFUSED_TOO_SHORT, 0));
     EXPECT(limbatue_page(sheet, 0, page, LIMBATUE_PAGE_MOST, answer, LIMBATUE_PAGE_ANSWER) == LIMBATUE_DONE && answer[0] == 12 && memcmp(page, "refused 1 0\n", 12) == 0);
 }
 
