@@ -1,10 +1,10 @@
 -- What a text that was appended to the front of a buffer tells.
 use mathlib.Core.List.{List}
-use mathlib.Core.Path.{_≡_, refl, sym, ap, _∙_}
+use mathlib.Core.Path.{_≡_, refl, sym, ap}
 use Prim.Native.Nat.{ℕ, _≤_}
 use native.Mathlib.Omega.{arith}
 use lib.ListN.{length, drop, length-append}
-use Rattle.model.specs.Answer.{Answer, refused, given, written}
+use Rattle.model.specs.Answer.{refused, given, written}
 use Rattle.model.specs.Page.{refusedLine}
 use Rattle.text.specs.Appended.{Appended}
 use Rattle.text.proofs.Append.{from-start}

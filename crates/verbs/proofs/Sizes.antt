@@ -1,14 +1,13 @@
 -- How large is what the calls give.
-use mathlib.Core.Bool.{Bool, true, false}
-use mathlib.Core.List.{List, [], _∷_, _++_}
+use mathlib.Core.List.{List, [], _++_}
 use mathlib.Core.Path.{_≡_, refl, sym, ap, _∙_}
 use Prim.Native.Nat.{ℕ, _+_, _*_, _≤_}
 use native.Mathlib.Omega.{arith}
-use lib.ListN.{length, take, drop, length-take}
+use lib.ListN.{length, drop, length-take}
 use Rattle.model.specs.Limits.{mostKinds}
 use Rattle.model.specs.Sheet.{kindCount}
 use Rattle.model.specs.Refusal.{Check, Finding, clear, refusal, firstOf, acceptChecks, Accepted, settleChecks, formChecks}
-use Rattle.model.specs.Answer.{Answer, refused, given, settleOf, formOf, rowOf, rowCheckOf}
+use Rattle.model.specs.Answer.{given, settleOf, formOf, rowOf, rowCheckOf}
 use Rattle.theory.proofs.Checks.{first-left}
 use Rattle.theory.proofs.Answers.{demand1}
 use Rattle.filer.proofs.Calls.{limits}

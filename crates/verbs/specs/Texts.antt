@@ -1,12 +1,9 @@
 -- The text of each call's answer.
-use mathlib.Core.Bool.{true, false}
-use mathlib.Core.List.{List, [], _∷_, _++_}
+use mathlib.Core.List.{List, _++_}
 use Prim.Native.Nat.{ℕ}
-use lib.Dec.{leb}
 use lib.ListN.{take, replicate}
 use Rattle.model.specs.Finite.{concat, listFrom}
 use Rattle.model.specs.Sheet.{kindCount}
-use Rattle.model.specs.Walk.{WalkAnswer}
 use Rattle.model.specs.Refusal.{Finding, clear, refusal}
 use Rattle.model.specs.Answer.{Answer, refused, given, Verdict, settleOf, rowOf, rowCheckOf, compareOf, formOf, walkOf}
 use Rattle.model.specs.Page.{bytes, number, newline, wordOf}

@@ -3,18 +3,18 @@ use mathlib.Core.Bool.{Bool, true, false, not}
 use mathlib.Core.List.{List, [], _∷_, _++_}
 use mathlib.Core.Path.{_≡_, refl, sym, ap, _∙_}
 use Prim.Native.Nat.{ℕ, zero, suc, _+_, _*_, _/_, _%_, _≤_, _<_}
-use native.Mathlib.Decide.{ℕ-discrete, decLt}
+use native.Mathlib.Decide.{decLt}
 use native.Mathlib.Omega.{arith}
-use lib.Dec.{eqb, leb, ltb}
+use lib.Dec.{eqb}
 use borrow.Author.Tests.{lt-ltb, le-leb, eq-eqb}
-use Rattle.model.specs.Finite.{both, all}
+use Rattle.model.specs.Finite.{all}
 use Rattle.model.specs.Page.{number}
 use Rattle.theory.proofs.Decimals.{decimals}
 use Rattle.words.specs.Word.{digitOf, isDigit, valueFrom, some, numberOf}
 use Rattle.words.specs.Words.{startedBy, wordsOf}
 use Rattle.words.specs.Statements.{ended, Statements}
 use Rattle.words.specs.declared.decimal.Word.{Word}
-use Rattle.words.specs.declared.decimal.Word.the-variants.{Number, Other}
+use Rattle.words.specs.declared.decimal.Word.the-variants.{Number}
 use Rattle.words.proofs.Decimals.{digit-is}
 use Rattle.words.proofs.Texts.{zero-first, byte-first}
 

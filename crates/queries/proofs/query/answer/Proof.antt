@@ -1,10 +1,10 @@
 -- `answer`: the first word is the verb, those after it say the numbers.
-use mathlib.Core.Path.{_≡_, sym, ap, _∙_}
-use Prim.Native.Nat.{_≤_, _<_}
+use mathlib.Core.Path.{sym, ap, _∙_}
+use Prim.Native.Nat.{_≤_}
 use native.Mathlib.Omega.{arith}
-use lib.ListN.{length, take}
+use lib.ListN.{length}
 use lib.Seq.{length-take-le}
-use Rattle.words.specs.Words.{nothing, countOf, CountWithin}
+use Rattle.words.specs.Words.{nothing, countOf}
 use Rattle.words.specs.declared.list.Count.{Count}
 use Rattle.queries.specs.Query.{saidTold}
 use Rattle.queries.proofs.Words.{query-none, query-verb}

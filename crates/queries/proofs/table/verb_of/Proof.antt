@@ -1,5 +1,5 @@
 -- `verb_of`: the verbs of the table, one after another.
-use mathlib.Core.Path.{_≡_, sym, _∙_}
+use mathlib.Core.Path.{sym, _∙_}
 use Rattle.model.specs.Page.{bytes}
 use Rattle.queries.specs.Verb.{verbs, verbOf}
 use Rattle.queries.proofs.Words.{verb-first, verb-later, verb-none}

@@ -1,5 +1,4 @@
 -- `put_form_line`: the first count, the others, the line's end.
-use native.Mathlib.Omega.{arith}
 use Rattle.text.proofs.Sequence.{line-of-none, line-of-some}
 use borrow.Author.Needs.{needs}
 use Rattle.text.proofs.counts.put_form_line.Statement.{statement}

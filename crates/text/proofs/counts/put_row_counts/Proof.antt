@@ -1,5 +1,4 @@
 -- `put_row_counts`: after i turns the first i counts are appended.
-use mathlib.Core.Path.{refl, _∙_}
 use Prim.Native.Nat.{_≤_, _-_, _*_}
 use native.Mathlib.Omega.{arith}
 use lib.ListN.{length}

@@ -1,6 +1,5 @@
 -- `compare_fields`: with two numbers, the verdict on these fields.
-use mathlib.Core.Path.{_≡_, sym, ap, _∙_}
-use lib.ListN.{getD}
+use mathlib.Core.Path.{ap, _∙_}
 use Rattle.replies.specs.Told.{told}
 use Rattle.verbs.specs.Texts.{verdictText, compareText}
 use Rattle.verbs.specs.Calls.{compareTold}

@@ -1,5 +1,5 @@
 -- `put_row_of`: the row that is handed out, or the refusal of the check.
-use mathlib.Core.Path.{_≡_, sym, ap, _∙_}
+use mathlib.Core.Path.{sym, ap, _∙_}
 use native.Mathlib.Omega.{arith}
 use lib.ListN.{length}
 use Rattle.model.specs.Refusal.{Finding}

@@ -1,7 +1,6 @@
 -- `put_settled`: the stage, and then the rows.
 use mathlib.Core.List.{_++_}
-use mathlib.Core.Path.{_≡_, ap}
-use Prim.Native.Nat.{ℕ}
+use mathlib.Core.Path.{ap}
 use native.Mathlib.Omega.{arith}
 use Rattle.model.specs.Answer.{given}
 use Rattle.sheet.specs.declared.reader.Card.{Card}

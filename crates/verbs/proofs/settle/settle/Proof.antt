@@ -1,5 +1,5 @@
 -- `settle`: with no numbers, what Settle reports and writes.
-use mathlib.Core.Path.{_≡_, sym, ap, _∙_}
+use mathlib.Core.Path.{sym, ap, _∙_}
 use native.Mathlib.Omega.{arith}
 use Rattle.filer.specs.Answers.{settlingOf}
 use Rattle.replies.specs.Told.{told}

@@ -1,6 +1,5 @@
 -- `settled_row`: with one number, the row that Row hands out of what Settle wrote.
-use mathlib.Core.Path.{_≡_, sym, ap, _∙_}
-use native.Mathlib.Omega.{arith}
+use mathlib.Core.Path.{sym, ap, _∙_}
 use lib.ListN.{getD}
 use Rattle.model.specs.Answer.{rowCheckOf}
 use Rattle.sheet.specs.declared.reader.Card.{Card}

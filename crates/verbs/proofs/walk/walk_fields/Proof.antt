@@ -1,12 +1,12 @@
 -- `walk_fields`: with four numbers, the last of 32 bits, the walk of these fields.
-use mathlib.Core.Path.{_≡_, sym, ap, _∙_}
+use mathlib.Core.Path.{ap, _∙_}
 use Prim.Native.Nat.{ℕ}
 use native.Mathlib.Omega.{arith}
 use lib.ListN.{getD}
 use Rattle.model.specs.Answer.{Walked, walkOf}
 use Rattle.text.proofs.Append.{reads-as}
 use Rattle.walkline.specs.Line.{walkLine}
-use Rattle.replies.specs.Told.{told, endOf}
+use Rattle.replies.specs.Told.{endOf}
 use Rattle.verbs.specs.Calls.{walkTold}
 use Rattle.verbs.proofs.Answered.{walk-tells, allowance-taken, allowance-past}
 use Rattle.replies.proofs.Numbers.{four-taken, four-other}
