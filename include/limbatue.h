@@ -1,29 +1,39 @@
-/* Race cards, fields and their prime forms: the verified library, for C and for whatever calls C.
+/* limbatue.h: race cards, fields and their prime forms. The verified library, version 0.2.0, for C99, C++11 and whatever calls C.
  *
- * Link target/staticlib/libexports.a, which `rt staticlib exports` proves and writes.
+ * Link liblimbatue.a. Where it is installed, `pkg-config --cflags --libs limbatue` prints the options; in the repository, tools/archive proves it and writes
+ * target/lib/liblimbatue.a. It is for Linux on x86-64, for programs and shared libraries alike. docs/SHEET.md tells what the bytes of a sheet are.
  *
- * Every function may be given any bytes and any numbers. Of a pointer it asks what C cannot test: it is not null, it is aligned for its type, as many elements
- * as its length says may be read (and written, where it is not const), and what is written overlaps no other argument. A length may be 0.
+ * ARGUMENTS. Every function may be given any bytes and any numbers. Of a pointer it asks what C can not test: it is not null, even where its length is 0; it is
+ * aligned for its type; as many elements as its length says may be read (and written, where it is not const); what is written overlaps no other argument.
  *
- * Returned is 0 where the call was done, else the refusal's number plus 256 times its place. A refused call leaves every buffer, the allowance and the answer array
- * as they were. What a call names it writes; elements past those keep their values.
+ * WHAT IS RETURNED. 0 where the call was done, else the number of the refusal plus 256 times its place: LIMBATUE_NUMBER and LIMBATUE_PLACE take them apart.
+ * A refused call leaves every buffer, the allowance and the answer array as they were. A call that was done writes what it names; elements past that keep their
+ * values.
  *
- *   number  condition                                              place
- *   1       under 20 bytes                                         0
- *   2       kinds not from 1 to 32                                 0
- *   3       codes not from 1 to 64                                 0
- *   4       over 256 lines                                         0
- *   5       over 64 fields                                         0
- *   6       differs from the layout                                0 lines offset, 1 fields offset, 2 total, 3 bytes given
- *   7       a line's kind not under the kinds                      line
- *   8       a line's code not under the codes                      line
- *   9       a kind has no norm (not in walk)                       lowest such
- *   10      a norm over 1,000,000 (not in walk)                    lowest such
- *   11      field or kind number too large                         0 first, 1 second
- *   13      round limit over 8                                     0
- *   12      buffer, table or answer array too short                0
+ * THREADS. Any number of threads may call at once, each with buffers of its own; a sheet, which is only read, may be shared. There is no global state, nothing is
+ * allocated, and nothing is called but memcpy and memset: every call is reentrant. Every call ends by itself. Of the stack it takes what is told below.
  *
- * The checks run in this order, and the first that applies is returned.
+ * REFUSALS. The checks run in this order, and the first that applies is returned; 7 and 8 line by line, 9 for all kinds before 10 for any. P is the place.
+ * An answer array counts as a buffer.
+ *
+ *   number  place  sentence
+ *   1       0      the sheet has under 20 bytes
+ *   2       0      the number of kinds is not from 1 to 32
+ *   3       0      the number of codes is not from 1 to 64
+ *   4       0      there are over 256 lines
+ *   5       0      there are over 64 fields
+ *   6       0      the offset of the lines is not 20
+ *   6       1      the offset of the fields is not where the lines end
+ *   6       2      the total is not where the fields end
+ *   6       3      the bytes given are not as many as the total
+ *   7       line   line P: its kind is not under the number of kinds
+ *   8       line   line P: its code is not under the number of codes
+ *   9       kind   kind P: it has no norm, since it can not be cleared
+ *   10      kind   kind P: its norm is over 1,000,000
+ *   11      0      the first field or kind number is too large
+ *   11      1      the second field number is too large
+ *   13      0      the round limit is over 8
+ *   12      0      a buffer or table is too short
  */
 #ifndef LIMBATUE_H
 #define LIMBATUE_H
@@ -35,16 +45,71 @@
 extern "C" {
 #endif
 
+/* The version: 10000 x major + 100 x minor + patch. */
+#define LIMBATUE_VERSION 200
+#define LIMBATUE_VERSION_TEXT "0.2.0"
+
 /* Of what a call returned. */
 #define LIMBATUE_NUMBER(returned) ((returned) & 255u)
 #define LIMBATUE_PLACE(returned) ((returned) >> 8)
 
-/* Elements that any sheet's table and any field's prime form have at most. */
+/* The numbers of the table above. */
+enum {
+    LIMBATUE_DONE = 0,
+    LIMBATUE_REFUSED_NO_HEADER = 1,
+    LIMBATUE_REFUSED_KINDS = 2,
+    LIMBATUE_REFUSED_CODES = 3,
+    LIMBATUE_REFUSED_LINES = 4,
+    LIMBATUE_REFUSED_FIELDS = 5,
+    LIMBATUE_REFUSED_LAYOUT = 6,
+    LIMBATUE_REFUSED_LINE_KIND = 7,
+    LIMBATUE_REFUSED_LINE_CODE = 8,
+    LIMBATUE_REFUSED_NO_NORM = 9,
+    LIMBATUE_REFUSED_NORM_OVER_LIMIT = 10,
+    LIMBATUE_REFUSED_NUMBER = 11,
+    LIMBATUE_REFUSED_TOO_SHORT = 12,
+    LIMBATUE_REFUSED_ROUND_LIMIT = 13
+};
+
+/* answer[0] of Compare; answer[0] of Walk. */
+enum { LIMBATUE_SAME = 0, LIMBATUE_DIFFERENT = 1 };
+enum { LIMBATUE_TOGETHER = 0, LIMBATUE_APART = 1, LIMBATUE_SPENT = 2 };
+
+/* Bytes of the longest sheet. Who reads a sheet from a stream reads one byte more, so that a longer one is refused and not cut. */
+#define LIMBATUE_SHEET_MOST 12820
+
+/* Elements that any sheet's table and any field's prime form have at most; bytes that no page passes. */
 #define LIMBATUE_TABLE_MOST 1024
 #define LIMBATUE_COUNTS_MOST 32
-
-/* Bytes that no page passes. */
 #define LIMBATUE_PAGE_MOST 73319
+
+/* Elements that each call writes to its answer array; a shorter array is refused. */
+#define LIMBATUE_NUMBERS_ANSWER 4
+#define LIMBATUE_SETTLE_ANSWER 1
+#define LIMBATUE_ROW_CHECK_ANSWER 2
+#define LIMBATUE_COMPARE_ANSWER 3
+#define LIMBATUE_WALK_ANSWER 3
+#define LIMBATUE_PAGE_ANSWER 1
+
+/* Bytes of stack that must be left where a call is made. Taken are, as measured: settle 131,064, compare 127,608, prime form 131,400, walk 79,712 at most, page
+ * 215,224, the others under 256. Stated is each with 4,096 more, for memcpy, memset and the loader, which may be asked for them at a first call, and rounded up to
+ * pages of 4,096. In the repository ./stack measures the archive again, and fails where under 4,096 are left. */
+#define LIMBATUE_VERSION_STACK 8192
+#define LIMBATUE_NUMBERS_STACK 8192
+#define LIMBATUE_SETTLE_STACK 135168
+#define LIMBATUE_ROW_CHECK_STACK 8192
+#define LIMBATUE_COMPARE_STACK 135168
+#define LIMBATUE_PRIME_FORM_STACK 139264
+#define LIMBATUE_WALK_STACK 86016
+#define LIMBATUE_PAGE_STACK 221184
+#define LIMBATUE_STACK_MOST LIMBATUE_PAGE_STACK
+
+/* The version of the library that was linked; LIMBATUE_VERSION is that of this header. */
+uint32_t limbatue_version(void);
+
+/* Numbers. Reads the sheet. Writes nothing but the answer.
+ * answer[0]: the kinds, n; answer[1]: the codes; answer[2]: the lines; answer[3]: the fields. Refuses 1 to 8, and 12. */
+uint32_t limbatue_numbers(const uint8_t *sheet, size_t sheet_length, uint64_t *answer, size_t answer_length);
 
 /* Settle. Reads the sheet. Writes the final base to the table: n x n counts, row by row in kind number; a prime kind's row is itself once.
  * answer[0]: the settled stage. Refuses 1 to 10, and 12. */
@@ -54,18 +119,20 @@ uint32_t limbatue_settle(const uint8_t *sheet, size_t sheet_length, uint32_t *ta
  * answer[0]: where the row of the kind starts in the table; answer[1]: its entries. Refuses 2, 11 and 12. */
 uint32_t limbatue_row_check(const uint32_t *table, size_t table_length, size_t kinds, size_t kind, uint64_t *answer, size_t answer_length);
 
-/* Compare. Reads the sheet; the fields are named by number. Writes nothing but the answer.
- * answer[0]: 0 same, 1 different; answer[1]: the stage; answer[2]: the rounds (0 and 0 where they are the same). Refuses 1 to 12. */
+/* Compare. Reads the sheet; the fields are named by number, from 0. Writes nothing but the answer.
+ * answer[0]: LIMBATUE_SAME or LIMBATUE_DIFFERENT; answer[1]: the stage; answer[2]: the rounds (0 and 0 where the fields are the same). Refuses 1 to 12. */
 uint32_t limbatue_compare(const uint8_t *sheet, size_t sheet_length, size_t first, size_t second, uint64_t *answer, size_t answer_length);
 
 /* Prime form. Reads the sheet. Writes n counts. It has no answer array. Refuses 1 to 12. */
 uint32_t limbatue_prime_form(const uint8_t *sheet, size_t sheet_length, size_t field, uint64_t *counts, size_t counts_length);
 
-/* Walk. Reads the sheet and the allowance. Writes what is left of the allowance.
- * answer[0]: 0 together, 1 apart, 2 spent; answer[1]: the rounds that parted the pair (0 unless apart); answer[2]: the pairs drawn. Refuses 1 to 8 and 11 to 13. */
+/* Walk, with a limit of 0 to 8 rounds. Reads the sheet and the allowance. Writes what is left of the allowance.
+ * answer[0]: LIMBATUE_TOGETHER, LIMBATUE_APART or LIMBATUE_SPENT; answer[1]: the rounds that parted the pair (0 unless apart); answer[2]: the pairs drawn.
+ * Refuses 1 to 8 and 11 to 13. */
 uint32_t limbatue_walk(const uint8_t *sheet, size_t sheet_length, size_t first, size_t second, uint64_t limit, uint32_t *allowance, uint64_t *answer, size_t answer_length);
 
-/* The page. Reads the sheet's first 12,821 bytes. Writes the page's bytes. A sheet that is refused has a page too, "refused NUMBER PLACE".
+/* The page. Reads the sheet's first 12,821 bytes. Writes the page's bytes, with no 0 byte after them. A sheet that is refused has a page too,
+ * "refused NUMBER PLACE" and a newline.
  * answer[0]: the length of the page. Refuses 12 alone. */
 uint32_t limbatue_page(const uint8_t *sheet, size_t sheet_length, uint8_t *page, size_t page_length, uint64_t *answer, size_t answer_length);
 

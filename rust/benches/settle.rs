@@ -5,7 +5,7 @@
 use std::hint::black_box;
 use std::time::{Duration, Instant};
 
-use independent::generator::{measured, Family, COSTLY};
+use independent::generator::{COSTLY, Family, measured};
 
 const SEED: u64 = 20_261_115;
 
@@ -29,11 +29,11 @@ fn milliseconds(time: Duration) -> f64 {
 /// Settling a sheet: the stage, the library's time and the independent one's.
 fn settle_times(sheet: &[u8]) -> (u32, Duration, Duration) {
     let (mut table, mut other) = ([0; 1024], [0; 1024]);
-    let stage = limbatue::settle(sheet, &mut table).expect("an accepted sheet");
+    let stage = limbatue::settle_into(sheet, &mut table).expect("an accepted sheet");
     assert_eq!(independent::filer::settle(sheet, &mut other), Ok(stage));
     assert!(table == other, "the tables differ");
     let library = least_time(|| {
-        black_box(limbatue::settle(black_box(sheet), &mut table)).ok();
+        black_box(limbatue::settle_into(black_box(sheet), &mut table)).ok();
     });
     let independent = least_time(|| {
         black_box(independent::filer::settle(black_box(sheet), &mut other)).ok();
@@ -77,11 +77,13 @@ fn walk_times(sheet: &[u8]) -> (u32, Duration, Duration) {
 }
 
 fn main() {
-    println!("settle, 32 kinds, the costliest of 50\n                        lines  stages   library ms  independent ms  ratio");
+    println!(
+        "settle, 32 kinds, the costliest of 50\n                        lines  stages   library ms  independent ms  ratio"
+    );
     for family in COSTLY {
         let sheet = costliest(family);
         let (stage, library, independent) = settle_times(&sheet);
-        let lines = u16::from_le_bytes([sheet[4], sheet[5]]);
+        let lines = limbatue::numbers(&sheet).expect("an accepted sheet").lines;
         println!(
             "{:22} {lines:6} {stage:7} {:12.3} {:15.3} {:6.2}",
             format!("{family:?}"),
@@ -100,7 +102,9 @@ fn main() {
         let sheets = [32, 64, 128, 256].into_iter().map(|lines| measured(family, 16, lines, SEED));
         println!("{:22} {}", format!("{family:?}"), growth(sheets));
     }
-    println!("\nwalk, 32 kinds, limit 8, allowance 1,000,000\n                           drawn   library ms  independent ms  ratio");
+    println!(
+        "\nwalk, 32 kinds, limit 8, allowance 1,000,000\n                           drawn   library ms  independent ms  ratio"
+    );
     for family in COSTLY.into_iter().chain([Family::Free]) {
         let (drawn, library, independent) = walk_times(&measured(family, 32, 256, SEED));
         println!(

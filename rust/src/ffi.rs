@@ -1,8 +1,10 @@
 //! The verified library's functions, as `include/limbatue.h` declares them.
 //!
-//! Nothing checks these declarations against the Rattle source: they are kept beside the header, and `tests/comparison.rs` calls each of them.
+//! Nothing checks these declarations against the Rattle source: they are kept beside the header, and `tests/comparison.rs` takes this file in and calls each of them.
 
-extern "C" {
+unsafe extern "C" {
+    pub safe fn limbatue_version() -> u32;
+    pub fn limbatue_numbers(sheet: *const u8, sheet_length: usize, answer: *mut u64, answer_length: usize) -> u32;
     pub fn limbatue_settle(
         sheet: *const u8,
         sheet_length: usize,

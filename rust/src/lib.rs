@@ -1,170 +1,210 @@
 //! Race cards, fields and their prime forms: safe Rust over the verified library.
 //!
-//! Slices go in and enums come out. Every function may be given any bytes and any numbers; what it cannot do it refuses, with the number and place of document 01.
-//! A refused call leaves everything lent as it was. The functions are proved in crate `exports`; the `unsafe` here, one call in each function, is sound because a
-//! Rust slice is what `include/limbatue.h` asks for: not null, aligned, of its length, and a `&mut` overlaps nothing.
+//! A sheet of bytes (`docs/SHEET.md` has the format) describes kinds of token, lines by which a token gives a read of a code and leaves other tokens, and fields of tokens. The library tells
+//! exactly which fields are the same and which are not.
+//!
+//! | asked | owned | into what is lent |
+//! |---|---|---|
+//! | a sheet's numbers of kinds, codes, lines and fields | [`numbers`] | |
+//! | its settled stage, and each kind as a product of prime kinds | [`settle`], [`Settled`] | [`settle_into`], [`row`] |
+//! | whether two fields are the same | [`compare`] | |
+//! | a field's prime form | [`prime_form`] | [`prime_form_into`] |
+//! | the page, all of this as text | [`page`] | [`page_into`] |
+//! | how a bounded game on two fields ends | [`walk`], [`Session`] | |
+//!
+//! Every function may be given any bytes and any numbers. What it can not do it refuses: a [`Refusal`] says why and where, and whatever was lent is as it was.
+//! The functions keep no state, so any number of threads may call them. A call takes under 256 KB of stack (`include/limbatue.h` has each call's figure).
+//! [`row`], [`compare`], [`walk`], [`numbers`] and the forms that end in `_into` allocate nothing.
+//!
+//! The functions are proved in crate `exports` of the repository. The `unsafe` here, one call in each function, is sound because a Rust slice is what `include/limbatue.h` asks for:
+//! not null, aligned, of its length, and a `&mut` overlaps nothing.
 //!
 //! ```
+//! use limbatue::Verdict;
+//!
 //! let sheet = [
 //!     2, 0, 1, 0, 2, 0, 2, 0, 20, 0, 0, 0, 28, 0, 0, 0, 36, 0, 0, 0, // two kinds, one code, two lines, two fields
 //!     0, 0, 0, 0, 1, 0, 1, 0, // kind 0 leaves nothing, kind 1 leaves one of kind 0
 //!     0, 0, 1, 0, 2, 0, 0, 0, // one of kind 1; two of kind 0
 //! ];
-//! let mut table = [0; limbatue::TABLE_MOST];
-//! assert_eq!(limbatue::settle(&sheet, &mut table), Ok(1));
-//! assert_eq!(limbatue::row(&table, 2, 1), Ok(&[2, 0][..]));
-//! assert_eq!(limbatue::compare(&sheet, 0, 1), Ok(limbatue::Verdict::Same));
+//! let settled = limbatue::settle(&sheet)?;
+//! assert!(settled.is_prime(0)?);
+//! assert_eq!(settled.row(1)?, [2, 0]); // kind 1 is the same as two of kind 0
+//! assert_eq!(limbatue::compare(&sheet, 0, 1)?, Verdict::Same);
+//! assert_eq!(limbatue::prime_form(&sheet, 0)?, [2, 0]);
 //! assert!(limbatue::page(&sheet).ends_with("pair 0 1 same\n"));
+//! # Ok::<(), limbatue::Refusal>(())
 //! ```
 
-pub mod ffi;
+#![deny(missing_docs)]
 
-/// Why a call was refused: the table of document 01, by its numbers.
-#[non_exhaustive]
+/// The examples of README.md are run as tests.
+#[cfg(doctest)]
+#[doc = include_str!("../README.md")]
+mod readme {}
+
+mod ffi;
+mod refusal;
+mod settled;
+mod walk;
+
+pub use refusal::{Reason, Refusal};
+pub use settled::Settled;
+pub use walk::{Session, Walked, walk};
+
+/// The bytes of the longest sheet that can be accepted.
+///
+/// ```
+/// // Whatever is longer is refused, so no more needs to be read than one byte past it.
+/// use std::io::Read;
+///
+/// let mut sheet = Vec::new();
+/// std::fs::File::open("testdata/long_12821.sheet")?.take(limbatue::SHEET_MOST as u64 + 1).read_to_end(&mut sheet)?;
+/// assert_eq!(limbatue::page(&sheet), "refused 6 3\n");
+/// # Ok::<(), std::io::Error>(())
+/// ```
+pub const SHEET_MOST: usize = 12_820;
+
+/// The entries that a table needs for any sheet, 32 × 32.
+///
+/// ```
+/// let mut table = [0; limbatue::TABLE_MOST];
+/// let sheet = std::fs::read("testdata/full_12820.sheet")?;
+/// limbatue::settle_into(&sheet, &mut table)?;
+/// # Ok::<(), Box<dyn std::error::Error>>(())
+/// ```
+pub const TABLE_MOST: usize = 1024;
+
+/// The counts of a prime form for any sheet.
+///
+/// ```
+/// let mut counts = [0; limbatue::COUNTS_MOST];
+/// let sheet = std::fs::read("testdata/full_12820.sheet")?;
+/// limbatue::prime_form_into(&sheet, 63, &mut counts)?;
+/// # Ok::<(), Box<dyn std::error::Error>>(())
+/// ```
+pub const COUNTS_MOST: usize = 32;
+
+/// The bytes that no page passes.
+///
+/// ```
+/// let mut page = vec![0; limbatue::PAGE_MOST];
+/// let length = limbatue::page_into(b"any bytes at all", &mut page)?;
+/// assert_eq!(page[..length], *b"refused 1 0\n");
+/// # Ok::<(), limbatue::Refusal>(())
+/// ```
+pub const PAGE_MOST: usize = 73_319;
+
+/// A sheet's numbers of kinds, codes, lines and fields. [`numbers`] gives them.
+///
+/// ```
+/// use limbatue::Numbers;
+///
+/// let sheet = std::fs::read("testdata/page36.sheet")?;
+/// assert_eq!(limbatue::numbers(&sheet)?, Numbers { kinds: 2, codes: 1, lines: 2, fields: 2 });
+/// # Ok::<(), Box<dyn std::error::Error>>(())
+/// ```
 #[derive(Clone, Copy, Debug, PartialEq, Eq, Hash)]
-pub enum Reason {
-    /// 1: under 20 bytes.
-    NoHeader,
-    /// 2: kinds not from 1 to 32.
-    Kinds,
-    /// 3: codes not from 1 to 64.
-    Codes,
-    /// 4: over 256 lines.
-    Lines,
-    /// 5: over 64 fields.
-    Fields,
-    /// 6: the lines offset (place 0), the fields offset (1), the total (2) or the bytes given (3) differ from the layout.
-    Layout,
-    /// 7: a line's kind is not under n. Place: the line.
-    LineKind,
-    /// 8: a line's code is not under the codes. Place: the line.
-    LineCode,
-    /// 9: a kind has no norm. Place: the lowest such.
-    NoNorm,
-    /// 10: a norm over 1,000,000. Place: the lowest such.
-    NormOverLimit,
-    /// 11: a field or kind number too large. Place 0: the first number, 1: the second.
-    Number,
-    /// 13: a round limit over 8.
-    RoundLimit,
-    /// 12: a buffer or table too short.
-    TooShort,
-    /// A number that document 01 does not have.
-    Other(u32),
+pub struct Numbers {
+    /// The kinds, from 1 to 32.
+    pub kinds: usize,
+    /// The codes, from 1 to 64.
+    pub codes: usize,
+    /// The lines, up to 256.
+    pub lines: usize,
+    /// The fields, up to 64.
+    pub fields: usize,
 }
 
-/// A refusal. Everything lent is as it was.
-#[derive(Clone, Copy, Debug, PartialEq, Eq, Hash)]
-pub struct Refusal {
-    pub reason: Reason,
-    pub place: u32,
-}
-
-impl Refusal {
-    /// The number of document 01.
-    pub fn number(&self) -> u32 {
-        match self.reason {
-            Reason::NoHeader => 1,
-            Reason::Kinds => 2,
-            Reason::Codes => 3,
-            Reason::Lines => 4,
-            Reason::Fields => 5,
-            Reason::Layout => 6,
-            Reason::LineKind => 7,
-            Reason::LineCode => 8,
-            Reason::NoNorm => 9,
-            Reason::NormOverLimit => 10,
-            Reason::Number => 11,
-            Reason::TooShort => 12,
-            Reason::RoundLimit => 13,
-            Reason::Other(number) => number,
-        }
-    }
-
-    /// The refusal that a code other than 0 says: its number, and 256 times its place.
-    fn from_code(code: u32) -> Refusal {
-        let reason = match code % 256 {
-            1 => Reason::NoHeader,
-            2 => Reason::Kinds,
-            3 => Reason::Codes,
-            4 => Reason::Lines,
-            5 => Reason::Fields,
-            6 => Reason::Layout,
-            7 => Reason::LineKind,
-            8 => Reason::LineCode,
-            9 => Reason::NoNorm,
-            10 => Reason::NormOverLimit,
-            11 => Reason::Number,
-            12 => Reason::TooShort,
-            13 => Reason::RoundLimit,
-            number => Reason::Other(number),
-        };
-        Refusal { reason, place: code / 256 }
-    }
-}
-
-impl std::fmt::Display for Refusal {
-    fn fmt(&self, f: &mut std::fmt::Formatter<'_>) -> std::fmt::Result {
-        write!(f, "refused {} {}", self.number(), self.place)
-    }
-}
-
-impl std::error::Error for Refusal {}
-
-/// Compare's verdict.
+/// Compare's verdict on two fields.
+///
+/// ```
+/// use limbatue::Verdict;
+///
+/// let sheet = std::fs::read("testdata/stage3.sheet")?;
+/// match limbatue::compare(&sheet, 0, 1)? {
+///     Verdict::Same => println!("same"),
+///     Verdict::Different { stage, rounds } => println!("different {stage} {rounds}"),
+/// }
+/// # Ok::<(), Box<dyn std::error::Error>>(())
+/// ```
 #[derive(Clone, Copy, Debug, PartialEq, Eq, Hash)]
 pub enum Verdict {
+    /// The fields are the same: whatever is done with one can be done with the other, without end.
     Same,
-    /// The least stage that does not relate the fields, and a number of rounds within which the game parts them.
+    /// The fields are not the same.
     Different {
+        /// The least stage that does not relate them; 0 where their norms differ.
         stage: u32,
+        /// A number of rounds within which the game parts them, whatever the replies.
         rounds: u64,
     },
 }
 
-/// What a walk found, with the pairs drawn from the session.
-#[derive(Clone, Copy, Debug, PartialEq, Eq, Hash)]
-pub enum Walked {
-    Apart { rounds: u32, drawn: u32 },
-    Together { drawn: u32 },
-    Spent { drawn: u32 },
-}
-
-/// What is left of an allowance "for all callers together". It has no `Clone`: a copy would be an allowance that nobody gave.
-#[derive(Debug, PartialEq, Eq)]
-pub struct Session {
-    allowance: u32,
-}
-
-impl Session {
-    /// A session with this allowance.
-    pub fn new(allowance: u32) -> Session {
-        Session { allowance }
-    }
-
-    /// What is left.
-    pub fn allowance(&self) -> u32 {
-        self.allowance
-    }
-}
-
-/// The entries that a table needs for any sheet, 32 × 32.
-pub const TABLE_MOST: usize = 1024;
-
-/// The bytes that no page passes.
-pub const PAGE_MOST: usize = 73_319;
-
 /// The result of a call by the number that it returned.
-fn done(code: u32) -> Result<(), Refusal> {
-    if code == 0 {
-        Ok(())
-    } else {
-        Err(Refusal::from_code(code))
-    }
+fn done(returned: u32) -> Result<(), Refusal> {
+    if returned == 0 { Ok(()) } else { Err(Refusal::from_returned(returned)) }
 }
 
-/// Writes the final base, n × n entries row by row, and answers the settled stage. Entries past those keep their values.
-pub fn settle(sheet: &[u8], table: &mut [u32]) -> Result<u32, Refusal> {
+/// The version of the library that is linked: 10000 × major + 100 × minor + patch.
+///
+/// ```
+/// let version = limbatue::version();
+/// println!("Limbatue {}.{}.{}", version / 10_000, version / 100 % 100, version % 100);
+/// assert!(version >= 200); // 0.2.0
+/// ```
+pub fn version() -> u32 {
+    ffi::limbatue_version()
+}
+
+/// The numbers of kinds, codes, lines and fields of a sheet. Refused are 1 to 8: the sheet's header and lines are checked, not its norms.
+///
+/// ```
+/// let sheet = std::fs::read("testdata/page36.sheet")?;
+/// for field in 0..limbatue::numbers(&sheet)?.fields {
+///     println!("field {field} is {:?}", limbatue::prime_form(&sheet, field)?);
+/// }
+/// # Ok::<(), Box<dyn std::error::Error>>(())
+/// ```
+pub fn numbers(sheet: &[u8]) -> Result<Numbers, Refusal> {
+    let mut answer = [0; 4];
+    // SAFETY: two slices, of which the one that is written overlaps nothing.
+    done(unsafe { ffi::limbatue_numbers(sheet.as_ptr(), sheet.len(), answer.as_mut_ptr(), answer.len()) })?;
+    let [kinds, codes, lines, fields] = answer.map(|number| number as usize);
+    Ok(Numbers { kinds, codes, lines, fields })
+}
+
+/// Settles a sheet: the settled stage, and for each kind its row. Refused are 1 to 10.
+///
+/// ```
+/// let sheet = std::fs::read("testdata/page36.sheet")?;
+/// let settled = limbatue::settle(&sheet)?;
+/// assert_eq!(settled.stage(), 1);
+/// assert_eq!(settled.row(1)?, [2, 0]);
+///
+/// let sheet = std::fs::read("testdata/million_and_one.sheet")?;
+/// let refusal = limbatue::settle(&sheet).unwrap_err();
+/// assert_eq!(refusal.to_string(), "kind 5: its norm is over 1,000,000");
+/// # Ok::<(), Box<dyn std::error::Error>>(())
+/// ```
+pub fn settle(sheet: &[u8]) -> Result<Settled, Refusal> {
+    let kinds = numbers(sheet)?.kinds;
+    let mut table = vec![0; kinds * kinds];
+    let stage = settle_into(sheet, &mut table)?;
+    Ok(Settled::new(stage, kinds, table))
+}
+
+/// Settles a sheet into a lent table: writes the rows one after another, kinds × kinds counts, and answers the settled stage. Entries past those keep their values. Refused are 1 to 10, and 12 where the
+/// table is too short; [`TABLE_MOST`] entries always suffice.
+///
+/// ```
+/// let sheet = std::fs::read("testdata/page36.sheet")?;
+/// let mut table = [7; 5];
+/// assert_eq!(limbatue::settle_into(&sheet, &mut table)?, 1);
+/// assert_eq!(table, [1, 0, 2, 0, 7]);
+/// # Ok::<(), Box<dyn std::error::Error>>(())
+/// ```
+pub fn settle_into(sheet: &[u8], table: &mut [u32]) -> Result<u32, Refusal> {
     let mut answer = [0; 1];
     // SAFETY: three slices, none of which overlaps one that is written.
     done(unsafe {
@@ -180,7 +220,17 @@ pub fn settle(sheet: &[u8], table: &mut [u32]) -> Result<u32, Refusal> {
     Ok(answer[0] as u32)
 }
 
-/// The row of a kind in a table that `settle` wrote, or the refusal (2, 11 or 12) that Row's check gives. It judges no table.
+/// The row of a kind in a table that [`settle_into`] wrote for a sheet of so many kinds. It judges no table: refused are a number of kinds that is not from 1 to 32 (2), a kind that is not under it (11) and a
+/// table that is too short (12).
+///
+/// ```
+/// let sheet = std::fs::read("testdata/page36.sheet")?;
+/// let mut table = [0; limbatue::TABLE_MOST];
+/// limbatue::settle_into(&sheet, &mut table)?;
+/// let kinds = limbatue::numbers(&sheet)?.kinds;
+/// assert_eq!(limbatue::row(&table, kinds, 1)?, [2, 0]);
+/// # Ok::<(), Box<dyn std::error::Error>>(())
+/// ```
 pub fn row(table: &[u32], kinds: usize, kind: usize) -> Result<&[u32], Refusal> {
     let mut answer = [0; 2];
     // SAFETY: two slices, of which the one that is written overlaps nothing.
@@ -190,7 +240,18 @@ pub fn row(table: &[u32], kinds: usize, kind: usize) -> Result<&[u32], Refusal> 
     Ok(&table[answer[0] as usize..][..answer[1] as usize])
 }
 
-/// Whether two fields of a sheet are the same, or from which stage and within how many rounds they part.
+/// Whether two fields of a sheet are the same, or from which stage and within how many rounds they part. Refused are 1 to 11.
+///
+/// ```
+/// use limbatue::Verdict;
+///
+/// let sheet = std::fs::read("testdata/page36.sheet")?;
+/// assert_eq!(limbatue::compare(&sheet, 0, 1)?, Verdict::Same);
+///
+/// let sheet = std::fs::read("testdata/stage3.sheet")?;
+/// assert_eq!(limbatue::compare(&sheet, 0, 1)?, Verdict::Different { stage: 3, rounds: 4 });
+/// # Ok::<(), Box<dyn std::error::Error>>(())
+/// ```
 pub fn compare(sheet: &[u8], first: usize, second: usize) -> Result<Verdict, Refusal> {
     let mut answer = [0; 3];
     // SAFETY: two slices, of which the one that is written overlaps nothing.
@@ -203,50 +264,72 @@ pub fn compare(sheet: &[u8], first: usize, second: usize) -> Result<Verdict, Ref
     })
 }
 
-/// Writes the prime form of a field, n counts. Entries past those keep their values.
-pub fn prime_form(sheet: &[u8], field: usize, counts: &mut [u64]) -> Result<(), Refusal> {
+/// The prime form of a field: a count for each kind, of which only prime kinds have one over 0. Two fields of a sheet are the same just when their prime forms are equal. Refused are 1 to 11.
+///
+/// ```
+/// let sheet = std::fs::read("testdata/page36.sheet")?;
+/// assert_eq!(limbatue::prime_form(&sheet, 0)?, [2, 0]);
+/// assert_eq!(limbatue::prime_form(&sheet, 1)?, [2, 0]);
+/// # Ok::<(), Box<dyn std::error::Error>>(())
+/// ```
+pub fn prime_form(sheet: &[u8], field: usize) -> Result<Vec<u64>, Refusal> {
+    let mut counts = vec![0; numbers(sheet)?.kinds];
+    prime_form_into(sheet, field, &mut counts)?;
+    Ok(counts)
+}
+
+/// Writes the prime form of a field to a lent buffer, a count for each kind. Entries past those keep their values. Refused are 1 to 11, and 12 where the buffer is too short; [`COUNTS_MOST`] entries always suffice.
+///
+/// ```
+/// let sheet = std::fs::read("testdata/page36.sheet")?;
+/// let mut counts = [7; 3];
+/// limbatue::prime_form_into(&sheet, 0, &mut counts)?;
+/// assert_eq!(counts, [2, 0, 7]);
+/// # Ok::<(), Box<dyn std::error::Error>>(())
+/// ```
+pub fn prime_form_into(sheet: &[u8], field: usize, counts: &mut [u64]) -> Result<(), Refusal> {
     // SAFETY: two slices, of which the one that is written overlaps nothing.
     done(unsafe { ffi::limbatue_prime_form(sheet.as_ptr(), sheet.len(), field, counts.as_mut_ptr(), counts.len()) })
 }
 
-/// Plays two fields against each other up to a number of rounds and draws the pairs examined from the session.
-pub fn walk(sheet: &[u8], first: usize, second: usize, limit: u64, session: &mut Session) -> Result<Walked, Refusal> {
-    let mut answer = [0; 3];
-    // SAFETY: two slices and a number; those that are written overlap nothing.
+/// The page of a sheet. A sheet that is refused has a page too, `refused NUMBER PLACE`.
+///
+/// ```
+/// let sheet = std::fs::read("testdata/page36.sheet")?;
+/// let page = "kinds 2 stages 1\nkind 0 norm 1 prime\nkind 1 norm 2 = 2 0\nfield 0 = 2 0\nfield 1 = 2 0\npair 0 1 same\n";
+/// assert_eq!(limbatue::page(&sheet), page);
+/// assert_eq!(limbatue::page(b"no sheet"), "refused 1 0\n");
+/// # Ok::<(), std::io::Error>(())
+/// ```
+pub fn page(sheet: &[u8]) -> String {
+    let mut page = vec![0; PAGE_MOST];
+    let length = page_into(sheet, &mut page).expect("no page is longer");
+    let text =
+        std::str::from_utf8(&page[..length]).expect("a page has letters, digits, spaces, \"=\" and ends of lines");
+    text.to_owned()
+}
+
+/// Writes the page of a sheet to a lent buffer and answers its length. Bytes past that keep their values. Refused is only a buffer that is too short (12); [`PAGE_MOST`] bytes always suffice.
+///
+/// ```
+/// let sheet = std::fs::read("testdata/page36.sheet")?;
+/// let mut page = [0; limbatue::PAGE_MOST];
+/// let length = limbatue::page_into(&sheet, &mut page)?;
+/// assert!(page[..length].ends_with(b"pair 0 1 same\n"));
+/// # Ok::<(), Box<dyn std::error::Error>>(())
+/// ```
+pub fn page_into(sheet: &[u8], page: &mut [u8]) -> Result<usize, Refusal> {
+    let mut answer = [0; 1];
+    // SAFETY: three slices, none of which overlaps one that is written.
     done(unsafe {
-        ffi::limbatue_walk(
+        ffi::limbatue_page(
             sheet.as_ptr(),
             sheet.len(),
-            first,
-            second,
-            limit,
-            &mut session.allowance,
+            page.as_mut_ptr(),
+            page.len(),
             answer.as_mut_ptr(),
             answer.len(),
         )
     })?;
-    let drawn = answer[2] as u32;
-    Ok(match answer[0] {
-        0 => Walked::Together { drawn },
-        1 => Walked::Apart { rounds: answer[1] as u32, drawn },
-        _ => Walked::Spent { drawn },
-    })
-}
-
-/// Writes the page of a sheet and answers its length. A refused sheet has a page too (`refused NUMBER PLACE`): only a buffer that is too short is refused, with 12.
-pub fn write_page(sheet: &[u8], page: &mut [u8]) -> Result<usize, Refusal> {
-    let mut answer = [0; 1];
-    // SAFETY: three slices, none of which overlaps one that is written.
-    done(unsafe {
-        ffi::limbatue_page(sheet.as_ptr(), sheet.len(), page.as_mut_ptr(), page.len(), answer.as_mut_ptr(), answer.len())
-    })?;
     Ok(answer[0] as usize)
-}
-
-/// The page of a sheet.
-pub fn page(sheet: &[u8]) -> String {
-    let mut page = vec![0; PAGE_MOST];
-    let length = write_page(sheet, &mut page).expect("no page is longer");
-    page.truncate(length);
-    String::from_utf8(page).expect("a page has letters, digits, spaces, \"=\" and ends of lines")
 }

@@ -1,11 +1,16 @@
 //! The library against the independent implementation: every answer, every buffer, what stands before and past it, and every session. The comparison itself is tried
 //! too: it finds each kind of difference.
 
-use independent::calls::{compare_implementations, independent, row_place, Answer, Call, Comparison, Lent, Margined};
+use independent::calls::{Answer, Call, Comparison, Lent, Margined, compare_implementations, independent, row_place};
 use independent::filer::Verdict;
-use independent::sheet::Refusal;
+use independent::generator::sample;
+use independent::page::page;
+use independent::sheet::{Numbers, Refusal};
 use independent::walker::{Answer as Found, Walked};
-use limbatue::ffi;
+
+/// The crate's own declarations of the C functions.
+#[path = "../src/ffi.rs"]
+mod ffi;
 
 const SEED: u64 = 20_261_115;
 
@@ -17,6 +22,11 @@ fn answer_array(entries: usize) -> Margined<u64> {
 /// The refusal that a returned number says.
 fn refusal(code: u32) -> Answer {
     Answer::Refused(Refusal { number: code % 256, place: code / 256 })
+}
+
+/// A sheet's numbers as an answer.
+fn numbers(kinds: usize, codes: usize, lines: usize, fields: usize) -> Answer {
+    Answer::Numbers(Numbers { kinds, codes, lines, fields })
 }
 
 /// Makes a call on the library's C functions, with an answer array of so many entries: the returned number, and the array.
@@ -48,6 +58,7 @@ fn call_library(call: &Call, lent: &mut Lent, entries: usize) -> (u32, Margined<
                 let page = lent.page.lent_mut();
                 ffi::limbatue_page(sheet, bytes, page.as_mut_ptr(), page.len(), values, room)
             }
+            Call::Numbers => ffi::limbatue_numbers(sheet, bytes, values, room),
         }
     };
     (code, array)
@@ -59,6 +70,7 @@ fn values_of(call: &Call) -> usize {
         Call::Settle { .. } | Call::Page { .. } => 1,
         Call::RowCheck { .. } | Call::Row { .. } => 2,
         Call::Compare { .. } | Call::Walk { .. } => 3,
+        Call::Numbers => 4,
         Call::PrimeForm { .. } => 0,
     }
 }
@@ -94,6 +106,7 @@ fn library(call: &Call, lent: &mut Lent) -> Answer {
             Answer::Walked(Walked { answer, drawn: values[2] as _ })
         }
         Call::Page { .. } => Answer::PageWritten { bytes: values[0] as usize },
+        Call::Numbers => numbers(values[0] as _, values[1] as _, values[2] as _, values[3] as _),
     }
 }
 
@@ -123,14 +136,17 @@ fn independent_short(call: &Call, lent: &mut Lent) -> Answer {
     }
 }
 
-/// The library's side through the safe wrappers.
+/// A refusal of the safe wrappers.
+fn refused(refusal: limbatue::Refusal) -> Answer {
+    Answer::Refused(Refusal { number: refusal.number(), place: refusal.place })
+}
+
+/// The library's side through the safe wrappers, those that write into what is lent.
 fn wrappers(call: &Call, lent: &mut Lent) -> Answer {
-    let refused =
-        |refusal: limbatue::Refusal| Answer::Refused(Refusal { number: refusal.number(), place: refusal.place });
     let sheet = lent.sheet.lent();
     match *call {
         Call::Settle { .. } => {
-            limbatue::settle(sheet, lent.table.lent_mut()).map_or_else(refused, |stage| Answer::Settled { stage })
+            limbatue::settle_into(sheet, lent.table.lent_mut()).map_or_else(refused, |stage| Answer::Settled { stage })
         }
         Call::RowCheck { kinds, kind, .. } => {
             limbatue::row(lent.table.lent(), kinds, kind).map_or_else(refused, |_| Answer::RowThere)
@@ -144,9 +160,8 @@ fn wrappers(call: &Call, lent: &mut Lent) -> Answer {
                 limbatue::Verdict::Different { stage, rounds } => Verdict::Different { stage: stage as _, rounds },
             })
         }),
-        Call::PrimeForm { field, .. } => {
-            limbatue::prime_form(sheet, field, lent.counts.lent_mut()).map_or_else(refused, |()| Answer::FormWritten)
-        }
+        Call::PrimeForm { field, .. } => limbatue::prime_form_into(sheet, field, lent.counts.lent_mut())
+            .map_or_else(refused, |()| Answer::FormWritten),
         Call::Walk { first, second, limit, allowance } => {
             let mut session = limbatue::Session::new(allowance);
             let walked = limbatue::walk(sheet, first, second, limit, &mut session);
@@ -161,8 +176,38 @@ fn wrappers(call: &Call, lent: &mut Lent) -> Answer {
             })
         }
         Call::Page { .. } => {
-            limbatue::write_page(sheet, lent.page.lent_mut()).map_or_else(refused, |bytes| Answer::PageWritten { bytes })
+            limbatue::page_into(sheet, lent.page.lent_mut()).map_or_else(refused, |bytes| Answer::PageWritten { bytes })
         }
+        Call::Numbers => limbatue::numbers(sheet)
+            .map_or_else(refused, |said| numbers(said.kinds, said.codes, said.lines, said.fields)),
+    }
+}
+
+/// Writes what an owned form gave to what was lent, and answers; a part that is too short is refused, as where it is lent to the library.
+fn written<T: Copy>(given: &[T], lent: &mut [T], answer: Answer) -> Answer {
+    match lent.get_mut(..given.len()) {
+        Some(part) => {
+            part.copy_from_slice(given);
+            answer
+        }
+        None => Answer::Refused(Refusal { number: 12, place: 0 }),
+    }
+}
+
+/// The library's side through the owned forms, where there is one.
+fn owned_forms(call: &Call, lent: &mut Lent) -> Answer {
+    let sheet = lent.sheet.lent();
+    match *call {
+        Call::Settle { .. } => limbatue::settle(sheet).map_or_else(refused, |settled| {
+            written(settled.table(), lent.table.lent_mut(), Answer::Settled { stage: settled.stage() })
+        }),
+        Call::PrimeForm { field, .. } => limbatue::prime_form(sheet, field)
+            .map_or_else(refused, |counts| written(&counts, lent.counts.lent_mut(), Answer::FormWritten)),
+        Call::Page { .. } => {
+            let page = limbatue::page(sheet);
+            written(page.as_bytes(), lent.page.lent_mut(), Answer::PageWritten { bytes: page.len() })
+        }
+        _ => wrappers(call, lent),
     }
 }
 
@@ -193,6 +238,51 @@ fn a_short_answer_array_is_refused() {
 #[test]
 fn the_wrappers_do_not_differ() {
     assert_equal("wrappers", compare_implementations(SEED + 1, 0..5_000, independent, wrappers));
+}
+
+#[test]
+fn the_owned_forms_do_not_differ() {
+    assert_equal("owned forms", compare_implementations(SEED + 2, 0..5_000, independent, owned_forms));
+}
+
+/// The end of the line of a kind, as a page has it.
+fn end_of_line(settled: &limbatue::Settled, kind: usize) -> String {
+    if settled.is_prime(kind).expect("a kind") {
+        return "prime".to_string();
+    }
+    let counts: Vec<String> = settled.row(kind).expect("a kind").iter().map(u32::to_string).collect();
+    format!("= {}", counts.join(" "))
+}
+
+#[test]
+fn a_settled_sheet_says_what_its_page_says() {
+    let (mut primes, mut products) = (0, 0);
+    for number in 0..2_000 {
+        let sheet = sample(SEED + 3, number).bytes;
+        let Ok(settled) = limbatue::settle(&sheet) else { continue };
+        let text = page(&sheet);
+        let mut lines = text.lines();
+        let first = format!("kinds {} stages {}", settled.kinds(), settled.stage());
+        assert_eq!(lines.next(), Some(first.as_str()), "sheet {number}");
+        for (kind, row) in settled.rows().enumerate() {
+            let line = lines.next().expect("a line for each kind");
+            let said = line.splitn(5, ' ').nth(4).expect("kind, its number, norm, that number, and what it is");
+            assert_eq!(said, end_of_line(&settled, kind), "sheet {number} kind {kind}");
+            assert_eq!(settled.row(kind), Ok(row), "sheet {number} kind {kind}");
+            if said == "prime" { primes += 1 } else { products += 1 }
+        }
+        assert!(lines.all(|line| !line.starts_with("kind ")), "sheet {number}");
+        assert!(settled.row(settled.kinds()).is_err() && settled.is_prime(settled.kinds()).is_err());
+    }
+    assert!(primes > 1_000 && products > 1_000, "{primes} {products}");
+}
+
+#[test]
+fn the_version_is_that_of_the_crate() {
+    let part = |text: &str| text.parse::<u32>().expect("a number");
+    let (major, minor) = (part(env!("CARGO_PKG_VERSION_MAJOR")), part(env!("CARGO_PKG_VERSION_MINOR")));
+    let version = 10_000 * major + 100 * minor + part(env!("CARGO_PKG_VERSION_PATCH"));
+    assert_eq!([ffi::limbatue_version(), limbatue::version()], [version; 2]);
 }
 
 /// Compares an implementation with the independent one on some sheets.
@@ -257,9 +347,11 @@ fn an_altered_session_is_found() {
         }
         answer
     });
-    assert!(comparison
-        .differences
-        .iter()
-        .all(|difference| difference.lent_differs && matches!(difference.call, Call::Walk { .. })));
+    assert!(
+        comparison
+            .differences
+            .iter()
+            .all(|difference| difference.lent_differs && matches!(difference.call, Call::Walk { .. }))
+    );
     assert!(!comparison.differences.is_empty());
 }

@@ -1,13 +1,13 @@
 //! The fast implementation held against the definitions on small random cards.
 
 use independent::base::Refinement;
-use independent::definitions::{fewest_reads, one_token, walk as walk_by_definition, Definitions, Field, TooLarge};
-use independent::filer::{compare, Verdict};
-use independent::generator::{draft, Size, FAMILIES};
-use independent::norm::{accept, kind_norms, NormedCard};
+use independent::definitions::{Definitions, Field, TooLarge, fewest_reads, one_token, walk as walk_by_definition};
+use independent::filer::{Verdict, compare};
+use independent::generator::{FAMILIES, Size, draft};
+use independent::norm::{NormedCard, accept, kind_norms};
 use independent::random::Random;
-use independent::sheet::{read, Refusal};
-use independent::walker::{walk, Session};
+use independent::sheet::{Refusal, read};
+use independent::walker::{Session, walk};
 
 /// The greatest norm of a kind that is searched.
 const MOST_NORM: u64 = 6;

@@ -4,11 +4,11 @@ use std::collections::BTreeMap;
 
 use independent::base::{Base, Refinement};
 use independent::calls::{compare_implementations, independent};
-use independent::generator::{apply, draft, measured, sample, Damage, Family, Size, COSTLY, FAMILIES};
-use independent::norm::{accept, NormedCard};
+use independent::generator::{COSTLY, Damage, FAMILIES, Family, Size, apply, draft, measured, sample};
+use independent::norm::{NormedCard, accept};
 use independent::page::page;
 use independent::random::Random;
-use independent::sheet::{Refusal, MOST_BYTES};
+use independent::sheet::{MOST_BYTES, Refusal};
 
 const SEED: u64 = 20_261_115;
 
@@ -46,6 +46,10 @@ fn every_refusal_and_every_answer_is_met() {
     ] {
         met(name);
     }
+    for number in 1..=8 {
+        met(&format!("numbers: refused {number}"));
+    }
+    met("numbers: done");
     for stage in 0..=8 {
         met(&format!("compare: different {stage}"));
     }

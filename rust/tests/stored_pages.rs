@@ -3,9 +3,9 @@
 use std::fs;
 use std::path::{Path, PathBuf};
 
-use independent::filer::{compare, row, settle, Verdict};
+use independent::filer::{Verdict, compare, row, settle};
 use independent::page::page;
-use independent::walker::{walk, Answer, Session};
+use independent::walker::{Answer, Session, walk};
 
 /// The folder of the stored sheets, pages and walks.
 fn stored() -> PathBuf {

@@ -9,11 +9,13 @@ use lib.ListN.{length}
 use Rattle.model.specs.Sheet.{kindCount, cardOf}
 use Rattle.model.specs.Base.{settledStage}
 use Rattle.model.specs.Walk.{WalkAnswer}
-use Rattle.model.specs.Refusal.{Finding, clear, refusal, check, firstOf, acceptChecks, settleChecks, formChecks}
+use Rattle.model.specs.Refusal.{Finding, clear, refusal, check, firstOf, sheetChecks, acceptChecks, settleChecks, formChecks}
 use Rattle.model.specs.Answer.{Answer, refused, given, Lent, written, Verdict, Walked, tableOf, primeForm, rowCheckOf, settleOf, compareOf, formOf, walkOf}
 use Rattle.theory.proofs.Checks.{first-left, first-right}
+use Rattle.sheet.specs.declared.reader.Card.{Card}
+use Rattle.sheet.specs.Reader.{Reads}
 use Rattle.exports.specs.Reply.{Reply, codeOf, refusing, replyOf, laidOut, valuesReply}
-use Rattle.exports.specs.Calls.{rowValues, foundOr, rowCall, walkValues, walkCall, stageValues, settleCall, shortCodeBy, shortCode, verdictValues, compareCall, noValues, formCall}
+use Rattle.exports.specs.Calls.{rowValues, foundOr, rowCall, numberValues, numbersCall, walkValues, walkCall, stageValues, settleCall, shortCodeBy, shortCode, verdictValues, compareCall, noValues, formCall}
 use Rattle.exports.proofs.Replies.{reply-refuses, reply-short, reply-gives}
 
 -- The parts of a call that comes to y.
@@ -27,15 +29,33 @@ module _ {B : Type 0} {x y : Reply B} (e : x ≡ y) where
   pub values-are : y .values ≡ x .values
   values-are = ap (λ (z : Reply B). z .values) (sym e)
 
+-- A call that gives the same values wherever its checks find nothing.
+module _ (values : List ℕ) (f : Finding) (array : List ℕ) where
+  found-refuses : (q p : ℕ) → f ≡ refusal q p → replyOf {B = Unit {0}} (foundOr values f) tt tt array ≡ refusing q p tt array
+  found-refuses q p e = reply-refuses tt tt array (foundOr values f) q p (ap (foundOr values) e)
+
+  found-gives : f ≡ clear → replyOf {B = Unit {0}} (foundOr values f) tt tt array ≡ valuesReply values array
+  found-gives e = ap (λ (g : Finding). replyOf (foundOr values g) tt tt array) e
+
 -- Row's check.
 module _ (n k : ℕ) (table array : List ℕ) where
   pub row-refuses : (q p : ℕ) → rowCheckOf n k table ≡ refusal q p → rowCall n k table array ≡ refusing q p tt array
   unfolding rowCall
-  row-refuses q p e = reply-refuses tt tt array (foundOr (rowValues n k) (rowCheckOf n k table)) q p (ap (foundOr (rowValues n k)) e)
+  row-refuses q p e = found-refuses (rowValues n k) (rowCheckOf n k table) array q p e
 
   pub row-gives : rowCheckOf n k table ≡ clear → rowCall n k table array ≡ valuesReply (rowValues n k) array
   unfolding rowCall
-  row-gives e = ap (λ (f : Finding). replyOf (foundOr (rowValues n k) f) tt tt array) e
+  row-gives e = found-gives (rowValues n k) (rowCheckOf n k table) array e
+
+-- Numbers: those of the card that was read.
+module _ (s array : List ℕ) where
+  pub numbers-refuses : (q p : ℕ) → firstOf (sheetChecks s) ≡ refusal q p → numbersCall s array ≡ refusing q p tt array
+  unfolding numbersCall
+  numbers-refuses q p e = found-refuses (numberValues s) (firstOf (sheetChecks s)) array q p e
+
+  pub numbers-gives : (c : Card) → Reads s c → numbersCall s array ≡ valuesReply (c .kinds ∷ c .codes ∷ c .lines ∷ c .fields ∷ []) array
+  unfolding numbersCall
+  numbers-gives c h = rw (h .header) (found-gives (numberValues s) (firstOf (sheetChecks s)) array (h .passed))
 
 -- Walk.
 module _ (s : List ℕ) (i j limit v : ℕ) (array : List ℕ) (w : Walked) (e : w ≡ walkOf s i j limit (record { left = v })) where

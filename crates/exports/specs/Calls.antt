@@ -1,7 +1,8 @@
 -- The calls from C, each from the model's own answer; the layout of each answer array.
 use mathlib.Core.List.{List, [], _∷_}
 use Prim.Native.Nat.{ℕ, _*_}
-use Rattle.model.specs.Refusal.{Finding, clear, refusal, firstOf, acceptChecks}
+use Rattle.model.specs.Sheet.{kindCount, codeCount, lineCount, fieldCount}
+use Rattle.model.specs.Refusal.{Finding, clear, refusal, firstOf, sheetChecks, acceptChecks}
 use Rattle.model.specs.Walk.{WalkAnswer, apart, together, spent}
 use Rattle.model.specs.Answer.{Answer, refused, given, Verdict, same, different, rowCheckOf, walkOf, settleOf, compareOf, formOf}
 use Rattle.page.specs.Writing.{writePageOf}
@@ -18,6 +19,13 @@ foundOr values (refusal number place) = refused number place
 
 unfoldable pub rowCall : ℕ → ℕ → List ℕ → List ℕ → Reply (Unit {0})
 rowCall n k table array = replyOf (foundOr (rowValues n k) (rowCheckOf n k table)) tt tt array
+
+-- Numbers: the sheet's numbers of kinds, codes, lines and fields, unless one of the checks 1 to 8 applies.
+abbrev pub numberValues : List ℕ → List ℕ
+numberValues s = kindCount s ∷ codeCount s ∷ lineCount s ∷ fieldCount s ∷ []
+
+unfoldable pub numbersCall : List ℕ → List ℕ → Reply (Unit {0})
+numbersCall s array = replyOf (foundOr (numberValues s) (firstOf (sheetChecks s))) tt tt array
 
 -- Walk: 0 together, 1 apart, 2 spent; the rounds that part the pair, 0 where none did; the pairs drawn from the allowance.
 abbrev pub walkValues : ℕ → WalkAnswer → List ℕ

@@ -4,6 +4,12 @@
 // The number returned, and the answer array.
 pub mod reply;
 
+// The version of the library.
+pub mod version;
+
+// The numbers of a sheet.
+pub mod numbers;
+
 // Settle.
 pub mod settle;
 

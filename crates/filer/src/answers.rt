@@ -1,4 +1,4 @@
-// What the calls answer. specs/Answers.antt gives the cases the numbers and values of document 01.
+// What the calls answer. specs/Answers.antt gives the cases their numbers and values.
 
 // Settle: it "reports the settled stage".
 pub enum Settling {

@@ -1,37 +1,40 @@
-// filing: prints the page of the sheet on standard input.
-use libc::STDERR_FILENO;
-use libc::STDIN_FILENO;
-use libc::STDOUT_FILENO;
+// filing: prints the page of the sheet on standard input, and says to standard error why a sheet is refused.
+use acceptance::accept::accept;
+use console::Reading;
 use page::Writing;
+use validation::checks::Checked;
 
-// Prints the page of a sheet. Every page fits the buffer, so that none is refused.
-fn print_page(s: &[u8]) {
+// Prints the page of a sheet, and answers whether it was printed. Every page fits the buffer, so that none is refused.
+fn print_page(s: &[u8]) -> bool {
     let mut text = [0u8; page::PAGE];
     match page::write_page(s, &mut text) {
-        Writing::Written { length } => {
-            io::write_all(STDOUT_FILENO, &text[..length]);
-        }
+        Writing::Written { length } => console::print(b"filing", &text[..length]),
         Writing::Refused {
             number: _,
             place: _,
-        } => {}
+        } => false,
     }
 }
 
-// Whether the input ended where reading stopped; otherwise a read failed.
-fn ended() -> bool {
-    let mut next = [0u8; 1];
-    libc::read(STDIN_FILENO, &mut next) == 0
+// Says why a sheet is refused.
+fn explain_refusal(s: &[u8]) {
+    let acceptance = accept(s);
+    let checked = acceptance.checked;
+    if let Checked::Refused { number, place } = checked {
+        console::explain(number, place);
+    }
+}
+
+fn file(s: &[u8]) {
+    if print_page(s) {
+        explain_refusal(s);
+    }
 }
 
 fn main() {
-    let mut sheet = [0u8; page::INPUT];
-    let bytes = io::read_full(STDIN_FILENO, &mut sheet);
-    if bytes < page::INPUT {
-        if !ended() {
-            io::write_all(STDERR_FILENO, b"filing: can not read standard input\n");
-            return;
-        }
+    let mut sheet = [0u8; console::INPUT];
+    match console::read_sheet(&mut sheet) {
+        Reading::Read { bytes } => file(&sheet[..bytes]),
+        Reading::Failed => console::unread(b"filing"),
     }
-    print_page(&sheet[..bytes]);
 }

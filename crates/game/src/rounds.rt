@@ -2,9 +2,8 @@
 // with fewer rounds left or fewer lines left. The field a is the first side's and b the second's; t is the table of the lines that follow.
 // The stack: after a line, challenge and reply go on with one half of what is left and then with the other, so that with 256 lines, which are 512
 // challenges, at most 10 calls of challenge and 9 of reply stand at once in a round that goes on, and 11 in the last, whether or not the back end
-// removes a call: at most 7 × (10 + 9) + 11 = 144 calls in 8 rounds. The two fields of the next pair live in the frame of reply. Measured on the
-// deepest sheet (`deep` of crates/walks: 256 lines of one code, and the last line of 256 goes on in each round): 96 KB in the program walking,
-// of which it needs 52 KB for a walk of no rounds, 33 KB of them for the table.
+// removes a call: at most 7 × (10 + 9) + 11 = 144 calls in 8 rounds. The two fields of the next pair live in the frame of reply. `./stack` measures it on
+// the deepest sheet (measurements/deep.sheet: 256 lines of one code, and the last line of 256 goes on in each round): 80 KB, 33 KB of them for the table.
 use crate::challenges::first_line;
 use crate::challenges::next_answer;
 use crate::challenges::next_challenge;

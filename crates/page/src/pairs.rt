@@ -3,8 +3,9 @@ use filer::Verdict;
 use filer::compare::compare_settled;
 use filer::settlement::Settlement;
 use verdicts::put_different;
-use verdicts::put_not_called;
+use verdicts::put_refused;
 use verdicts::put_same;
+use verdicts::put_start;
 ghost use mathlib.Core.Path.{_≡_};
 ghost use Prim.Native.Nat.{_+_, _*_, _-_, _≤_};
 ghost use lib.ListN.{length};
@@ -13,15 +14,16 @@ ghost use Rattle.filer.specs.Settlement.{IsSettlement};
 ghost use Rattle.text.specs.Appended.{Appended};
 ghost use Rattle.verdicts.specs.Pair.{pairText, pairsText};
 
-// The line of one pair, by its verdict.
+// The line of one pair, by its verdict. (No page has a refusal here, since Compare refuses no two fields of an accepted sheet.)
 fn put_pair(out: &mut [u8], at: usize, later: usize, verdict: Verdict) -> usize
     requires { ⌜ at + 80 ≤ length (now out) ⌝ }
     ensures { λ r. ⌜ Appended 80 (now (out .entry)) at (pairText later (verdictOf verdict)) (now (out .exit)) r ⌝ }
 {
+    let word = put_start(out, at, later);
     match verdict {
-        Verdict::Same => put_same(out, at, later),
-        Verdict::Different { stage, rounds } => put_different(out, at, later, stage, rounds),
-        Verdict::Refused { number, place } => put_not_called(out, at, later, number, place),
+        Verdict::Same => put_same(out, word),
+        Verdict::Different { stage, rounds } => put_different(out, word, stage, rounds),
+        Verdict::Refused { number, place } => put_refused(out, word, number, place),
     }
 }
 

@@ -30,7 +30,7 @@ pub const INPUT: usize = 12821;
 // No page is longer.
 pub const PAGE: usize = 73319;
 
-// What the page function answers. specs/Writing.antt gives the cases the numbers and values of document 01.
+// What the page function answers. specs/Writing.antt gives the cases their numbers and values.
 pub enum Writing {
     Written { length: usize },
     Refused { number: usize, place: usize },

@@ -1,4 +1,4 @@
-// Random small cards, written as sheets in document 01's format: 1 to 4 kinds, 1 to 3 codes, at most 8 lines, 2 to 4 fields. Most cards have a
+// Random small cards, written as sheets (docs/SHEET.md): 1 to 4 kinds, 1 to 3 codes, at most 8 lines, 2 to 4 fields. Most cards have a
 // norm for each kind: line k clears kind k, leaving tokens of lower kinds only. Most fields differ from field 0 in one token, for which stands
 // another token, or what clearing it leaves and one token of kind 0, so that many pairs have equal norms.
 use crate::random::pick;

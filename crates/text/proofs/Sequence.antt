@@ -5,11 +5,12 @@ use Prim.Native.Nat.{ℕ, zero, suc, _+_, _*_, _-_, _≤_}
 use native.Mathlib.Nat.{mul-suc}
 use native.Mathlib.Numerals.{add-one}
 use native.Mathlib.Omega.{arith}
-use lib.ListN.{length, getD}
+use lib.ListN.{length, getD, take, drop}
+use lib.Seq.{take-all}
 use Rattle.model.specs.Finite.{concat, listFrom}
-use Rattle.model.specs.Page.{bytes, countsOf}
+use Rattle.model.specs.Page.{bytes, number, newline, countsOf}
 use Rattle.text.specs.Appended.{Appended}
-use Rattle.text.specs.Count.{countText}
+use Rattle.text.specs.Count.{countText, countTexts, countsLine}
 use Rattle.text.proofs.Append.{nothing, then, reads-as}
 
 module _ (f : ℕ → List ℕ) where
@@ -55,10 +56,46 @@ unfolding listFrom
 by-number [] = refl
 by-number (x ∷ xs) = ap (λ (l : List (List ℕ)). countText x ∷ l) (shifted (countAt (x ∷ xs)) 0 (length xs) ∙ by-number xs)
 
--- "=" and then all counts of a list.
-pub counts-all : {i j k start : ℕ} {b c d : List ℕ} (xs : List ℕ) → i ≡ length xs → Appended 1 b start (bytes "=") c j
-    → Appended (21 * i) c j (concat (listFrom (countAt xs) 0 i)) d k → Appended (1 + 21 * length xs) b start (countsOf xs) d k
-unfolding countText countsOf
-counts-all {i} xs e p q =
-    reads-as (1 + 21 * length xs) (countsOf xs) (then p q) (omega arith)
-    (ap (λ (n : ℕ). bytes "=" ++ concat (listFrom (countAt xs) 0 n)) e ∙ ap (λ (l : List (List ℕ)). bytes "=" ++ concat l) (by-number xs))
+-- All counts of a list.
+pub counts-all : {i k start : ℕ} {b d : List ℕ} (xs : List ℕ) → i ≡ length xs → Appended (21 * i) b start (concat (listFrom (countAt xs) 0 i)) d k
+    → Appended (21 * length xs) b start (countTexts xs) d k
+unfolding countTexts
+counts-all {i} xs e p =
+    reads-as (21 * length xs) (countTexts xs) p (omega arith)
+    (ap (λ (n : ℕ). concat (listFrom (countAt xs) 0 n)) e ∙ ap concat (by-number xs))
+
+-- The page has "=" before them.
+pub marked : {i j k : ℕ} {b c d : List ℕ} (xs : List ℕ) → Appended 1 b i (61 ∷ []) c j → Appended (21 * length xs) c j (countTexts xs) d k
+    → Appended (1 + 21 * length xs) b i (countsOf xs) d k
+unfolding bytes countText countTexts countsOf
+marked xs sign counts = reads-as (1 + 21 * length xs) (countsOf xs) (then sign counts) (omega arith) refl
+
+-- On a line of their own the first stands alone; a line of none is its end.
+pub line-of-none : {i j : ℕ} {b c : List ℕ} (xs : List ℕ) → length xs ≡ 0 → Appended 1 b i (10 ∷ []) c j → Appended (1 + 21 * length xs) b i (countsLine xs) c j
+unfolding countsLine newline bytes
+line-of-none xs none end = reads-as (1 + 21 * length xs) (countsLine xs) end (omega arith) (line xs none)
+  where
+    line : (xs : List ℕ) → length xs ≡ 0 → 10 ∷ [] ≡ countsLine xs
+    line [] none = refl
+    line (x ∷ xs) none = absurd (omega arith)
+
+-- Those past the first, as a part of the list.
+abbrev pub others : List ℕ → List ℕ
+others xs = take (length xs - 1) (drop 1 xs)
+
+pub line-of-some : {i j k l : ℕ} {b c d e : List ℕ} (xs : List ℕ) → ¬ (length xs ≡ 0) → Appended 20 b i (number (getD xs 0 0)) c j
+    → Appended (21 * length (others xs)) c j (countTexts (others xs)) d k → Appended 1 d k (10 ∷ []) e l → Appended (1 + 21 * length xs) b i (countsLine xs) e l
+unfolding countsLine newline bytes
+line-of-some xs some first rest end =
+    reads-as (1 + 21 * length xs) (countsLine xs) (then (then first rest) end) (room xs some) (line xs some)
+  where
+    all-others : (x : ℕ) (xs : List ℕ) → others (x ∷ xs) ≡ xs
+    all-others x xs = take-all (length (x ∷ xs) - 1) xs (omega arith)
+
+    room : (xs : List ℕ) → ¬ (length xs ≡ 0) → 20 + 21 * length (others xs) + 1 ≤ 1 + 21 * length xs
+    room [] some = absurd (some refl)
+    room (x ∷ xs) some = omega (arith, ap length (all-others x xs))
+
+    line : (xs : List ℕ) → ¬ (length xs ≡ 0) → number (getD xs 0 0) ++ countTexts (others xs) ++ (10 ∷ []) ≡ countsLine xs
+    line [] some = absurd (some refl)
+    line (x ∷ xs) some = ap (λ (ys : List ℕ). number x ++ countTexts ys ++ (10 ∷ [])) (all-others x xs)

@@ -1,8 +1,18 @@
--- The text of a count.
-use mathlib.Core.List.{List, _++_}
+-- The texts of counts.
+use mathlib.Core.List.{List, [], _∷_, _++_, map}
 use Prim.Native.Nat.{ℕ}
-use Rattle.model.specs.Page.{bytes, number}
+use Rattle.model.specs.Finite.{concat}
+use Rattle.model.specs.Page.{bytes, number, newline}
 
 -- A count of a row or a form, with the space before it.
 unfoldable pub countText : ℕ → List ℕ
 countText x = bytes " " ++ number x
+
+-- The counts one after another.
+unfoldable pub countTexts : List ℕ → List ℕ
+countTexts xs = concat (map countText xs)
+
+-- Counts as a line of their own: a space between two, nothing before the first.
+unfoldable pub countsLine : List ℕ → List ℕ
+countsLine [] = newline
+countsLine (x ∷ xs) = number x ++ countTexts xs ++ newline

@@ -1,5 +1,5 @@
 -- What the contracts of the writers cite, beside the model's `Page`.
 -- A text that is appended to what a lent buffer holds so far.
 pub mod Appended
--- The text of a count.
+-- The texts of counts.
 pub mod Count

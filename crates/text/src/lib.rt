@@ -13,4 +13,6 @@ pub use number::put_two_labelled;
 mod counts;
 
 pub use counts::put_form;
+pub use counts::put_form_line;
 pub use counts::put_row;
+pub use counts::put_row_line;

@@ -5,9 +5,13 @@ use Rattle.model.specs.Finite.{concat, listFrom}
 use Rattle.model.specs.Answer.{Answer, Verdict, compareOf}
 use Rattle.model.specs.Page.{bytes, number, wordOf}
 
--- `pair 0 J same` or `pair 0 J different S R`: "Field 0 is paired with each later field."
+-- `pair 0 J `: "Field 0 is paired with each later field."
+unfoldable pub startText : ℕ → List ℕ
+startText later = bytes "pair 0 " ++ number later ++ bytes " "
+
+-- `pair 0 J same` or `pair 0 J different S R`.
 unfoldable pub pairText : ℕ → Answer Verdict → List ℕ
-pairText later answer = bytes "pair 0 " ++ number later ++ bytes " " ++ wordOf answer
+pairText later answer = startText later ++ wordOf answer
 
 -- The line of field 0 and field j.
 abbrev pub pairAt : List ℕ → ℕ → List ℕ

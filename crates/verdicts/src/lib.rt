@@ -1,9 +1,9 @@
-// The lines of verdicts and refusals, over plain values.
+// The words of verdicts and refusals, over plain values.
 
-// A pair that is same or different, a refusal.
+// A verdict that is same or different, a refusal, the start of a pair's line.
 mod line;
 
 pub use line::put_different;
-pub use line::put_not_called;
 pub use line::put_refused;
 pub use line::put_same;
+pub use line::put_start;

@@ -113,7 +113,7 @@ impl Classes {
     /// The classes of the lines that a field may use.
     fn usable(&self, counts: &[i64]) -> ClassSet {
         let mut usable = ClassSet::EMPTY;
-        for (classes, _) in self.of_kind.iter().zip(counts).filter(|(_, &count)| count > 0) {
+        for (classes, _) in self.of_kind.iter().zip(counts).filter(|&(_, &count)| count > 0) {
             usable.join(classes);
         }
         usable

@@ -6,12 +6,12 @@
 
 use std::collections::BTreeMap;
 
-use crate::filer::{compare, prime_form, row, row_check, settle, Verdict};
+use crate::filer::{Verdict, compare, prime_form, row, row_check, settle};
 use crate::generator::sample;
 use crate::page::{page, write_page};
 use crate::random::Random;
-use crate::sheet::Refusal;
-use crate::walker::{walk, Session, Walked};
+use crate::sheet::{Numbers, Refusal, numbers};
+use crate::walker::{Session, Walked, walk};
 
 /// A call, with the numbers that it gives and the lengths of the buffers that it lends.
 #[derive(Clone, Copy, Debug, PartialEq, Eq)]
@@ -23,6 +23,7 @@ pub enum Call {
     PrimeForm { field: usize, entries: usize },
     Walk { first: usize, second: usize, limit: u64, allowance: u32 },
     Page { bytes: usize },
+    Numbers,
 }
 
 /// What a call answers.
@@ -50,6 +51,8 @@ pub enum Answer {
     PageWritten {
         bytes: usize,
     },
+    /// A sheet's numbers.
+    Numbers(Numbers),
 }
 
 /// Entries before and past each buffer that must stay as they are.
@@ -128,6 +131,7 @@ pub fn independent(call: &Call, lent: &mut Lent) -> Answer {
             walk(sheet, first, second, limit, &mut lent.session).map(Answer::Walked)
         }
         Call::Page { .. } => write_page(sheet, lent.page.lent_mut()).map(|bytes| Answer::PageWritten { bytes }),
+        Call::Numbers => numbers(sheet).map(Answer::Numbers),
     };
     answer.unwrap_or_else(Answer::Refused)
 }
@@ -167,6 +171,7 @@ pub fn calls(sheet: &[u8], random: &mut Random) -> Vec<Call> {
         calls.push(Call::Walk { first, second, limit: number_near(9, random) as u64, allowance: allowance as u32 });
     }
     calls.push(Call::Page { bytes: around(page(sheet).len(), random) });
+    calls.push(Call::Numbers);
     calls
 }
 
@@ -257,6 +262,7 @@ fn name(call: &Call, answer: &Answer) -> String {
         Call::PrimeForm { .. } => "prime form",
         Call::Walk { .. } => "walk",
         Call::Page { .. } => "page",
+        Call::Numbers => "numbers",
     };
     let answer = match answer {
         Answer::Refused(refusal) => format!("refused {}", refusal.number),
@@ -269,7 +275,11 @@ fn name(call: &Call, answer: &Answer) -> String {
             crate::walker::Answer::Together => "together".to_string(),
             crate::walker::Answer::Spent => "spent".to_string(),
         },
-        Answer::RowThere | Answer::Row { .. } | Answer::FormWritten | Answer::PageWritten { .. } => "done".to_string(),
+        Answer::RowThere
+        | Answer::Row { .. }
+        | Answer::FormWritten
+        | Answer::PageWritten { .. }
+        | Answer::Numbers(_) => "done".to_string(),
     };
     format!("{entry}: {answer}")
 }

@@ -1,8 +1,8 @@
 //! "What the filer offers": Settle, Row, Compare, Prime form.
 
 use crate::base::{Base, Refinement};
-use crate::norm::{accept, NormedCard};
-use crate::sheet::{refused, Refusal, MOST_KINDS};
+use crate::norm::{NormedCard, accept};
+use crate::sheet::{MOST_KINDS, Refusal, refused};
 
 /// "A verdict is same, or different with its stage and its rounds."
 #[derive(Clone, Copy, Debug, PartialEq, Eq)]

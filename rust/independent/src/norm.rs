@@ -1,6 +1,6 @@
 //! "The norm of a field is the fewest reads to the empty field."
 
-use crate::sheet::{read, refused, Card, Refusal};
+use crate::sheet::{Card, Refusal, read, refused};
 
 /// "The greatest norm taken is 1,000,000."
 pub const NORM_LIMIT: u64 = 1_000_000;

@@ -3,9 +3,9 @@
 use std::fmt::Write;
 
 use crate::base::{Base, Refinement};
-use crate::filer::{different, related, Verdict};
-use crate::norm::{accept, NormedCard};
-use crate::sheet::{refused, Refusal, MOST_BYTES};
+use crate::filer::{Verdict, different, related};
+use crate::norm::{NormedCard, accept};
+use crate::sheet::{MOST_BYTES, Refusal, refused};
 
 /// "The filing program reads standard input, at most 12,821 bytes": one past the largest sheet.
 pub const MOST_READ: usize = MOST_BYTES + 1;

@@ -110,6 +110,21 @@ pub fn read(bytes: &[u8]) -> Result<Card<'_>, Refusal> {
     Ok(Card { kinds, codes, lines, fields, field_bytes: &bytes[fields_offset..] })
 }
 
+/// The numbers of a sheet, as its header has them.
+#[derive(Clone, Copy, Debug, PartialEq, Eq)]
+pub struct Numbers {
+    pub kinds: usize,
+    pub codes: usize,
+    pub lines: usize,
+    pub fields: usize,
+}
+
+/// The numbers of kinds, codes, lines and fields. It checks 1 to 8.
+pub fn numbers(bytes: &[u8]) -> Result<Numbers, Refusal> {
+    let card = read(bytes)?;
+    Ok(Numbers { kinds: card.kinds, codes: card.codes, lines: card.lines.len(), fields: card.fields })
+}
+
 /// The lines, or refusal 7 or 8 at the first line that has one.
 fn read_lines(bytes: &[u8], kinds: usize, codes: usize) -> Result<Vec<Line<'_>>, Refusal> {
     let mut lines = Vec::with_capacity(bytes.len() / (2 + kinds));

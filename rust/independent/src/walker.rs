@@ -1,6 +1,6 @@
 //! Walk: "two fields, a round limit 0 to 8, a session".
 
-use crate::sheet::{read, refused, Card, Refusal, MOST_CODES, MOST_KINDS};
+use crate::sheet::{Card, MOST_CODES, MOST_KINDS, Refusal, read, refused};
 
 /// The greatest round limit.
 pub const MOST_ROUNDS: u64 = 8;
@@ -84,7 +84,7 @@ impl Game {
                 .left
                 .iter()
                 .enumerate()
-                .filter(|(_, &count)| count > 0)
+                .filter(|&(_, &count)| count > 0)
                 .map(|(kind, &count)| (kind, u32::from(count)))
                 .collect();
             moves.push(Move { kind: line.kind, code: line.code, left });

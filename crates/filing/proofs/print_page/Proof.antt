@@ -10,9 +10,9 @@ use borrow.Author.Needs.{needs}
 use Rattle.filing.proofs.print_page.Statement.{statement}
 use Rattle.filing.proofs.print_page.Tie as tie
 
-fits : (c : tie.After-known-told) → c .before .length .given .0 .0 ≤ length (c .before .before .before .before .write-page .last .1 .0)
+fits : (c : tie.After-print-arg) → c .before .before .length .given .0 .0 ≤ length (c .before .before .before .before .before .write-page .last .1 .0)
 fits c =
-    omega (arith, written-within (c .before .before .before .before .before .before .before .args .s .now) (replicate 73319 0) (c .before .length .given .0 .0) (ap writingOf (sym (c .before .length .given .1)) ∙ c .before .before .before .before .write-page .ensures .0))
+    omega (arith, written-within (c .before .before .before .before .before .before .before .before .args .s .now) (replicate 73319 0) (c .before .before .length .given .0 .0) (ap writingOf (sym (c .before .before .length .given .1)) ∙ c .before .before .before .before .before .write-page .ensures .0))
 
 slice-aggregate-write-page : tie.Need-slice-aggregate-write-page
 slice-aggregate-write-page c = search needs
@@ -23,14 +23,17 @@ write-page-requires c κs = search needs
 enum-known-length : tie.Need-enum-known-length
 enum-known-length c = search needs
 
+slice-aggregate-print : tie.Need-slice-aggregate-print
+slice-aggregate-print c = search needs
+
 array-share-prefix-text : tie.Need-array-share-prefix-text
 array-share-prefix-text c = fits c
 
-slice-aggregate-write-all : tie.Need-slice-aggregate-write-all
-slice-aggregate-write-all c = sym (length-take-le _ _ (fits (c .before)))
+slice-aggregate-print-2 : tie.Need-slice-aggregate-print-2
+slice-aggregate-print-2 c = sym (length-take-le _ _ (fits (c .before)))
 
-write-all-requires : tie.Need-write-all-requires
-write-all-requires c κs = search needs
+print-requires : tie.Need-print-requires
+print-requires c κs = search needs
 
 enum-told : tie.Need-enum-told
 enum-told c = search needs
@@ -48,9 +51,10 @@ print-page-spec =
     slice-aggregate-write-page
     write-page-requires
     enum-known-length
+    slice-aggregate-print
     array-share-prefix-text
-    slice-aggregate-write-all
-    write-all-requires
+    slice-aggregate-print-2
+    print-requires
     enum-told
     returns
     returns-2)

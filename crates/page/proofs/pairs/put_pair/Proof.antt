@@ -1,12 +1,25 @@
--- `put_pair`: each case of the verdict has its line.
-use mathlib.Core.Path.{sym, ap}
+-- `put_pair`: the start of the line, and then the word of each case of the verdict.
+use mathlib.Core.List.{List, _++_}
+use mathlib.Core.Path.{_≡_, sym, ap}
+use Prim.Native.Nat.{ℕ, _≤_}
 use native.Mathlib.Omega.{arith}
-use Rattle.verdicts.specs.Pair.{pairText}
+use Rattle.model.specs.Answer.{Answer, Verdict as Called}
+use Rattle.model.specs.Page.{wordOf}
 use Rattle.filer.specs.Answers.{verdictOf}
-use Rattle.text.proofs.Append.{reads-as}
+use Rattle.text.specs.Appended.{Appended}
+use Rattle.text.proofs.Append.{then, reads-as}
+use Rattle.verdicts.specs.Pair.{startText, pairText}
 use borrow.Author.Needs.{needs}
 use Rattle.page.proofs.pairs.put_pair.Statement.{statement}
 use Rattle.page.proofs.pairs.put_pair.Tie as tie
+
+pair-text : {m i j k : ℕ} {b c d text : List ℕ} (later : ℕ) (answer : Answer Called) → Appended 28 b i (startText later) c j → Appended m c j text d k → m ≤ 52 → text ≡ wordOf answer
+    → Appended 80 b i (pairText later answer) d k
+unfolding pairText
+pair-text later answer start word short e = reads-as 80 (pairText later answer) (then start word) (omega arith) (ap (λ (t : List ℕ). startText later ++ t) e)
+
+put-start-requires : tie.Need-put-start-requires
+put-start-requires c κs = search needs
 
 enum-told : tie.Need-enum-told
 enum-told c = search needs
@@ -23,46 +36,48 @@ put-different-requires c κs = search needs
 enum-known-verdict-2 : tie.Need-enum-known-verdict-2
 enum-known-verdict-2 c = search needs
 
-put-not-called-requires : tie.Need-put-not-called-requires
-put-not-called-requires c κs = search needs
+put-refused-requires : tie.Need-put-refused-requires
+put-refused-requires c κs = search needs
 
 same-length : tie.Need-same-length
 same-length c = search needs
 
 returns : tie.Need-returns
 returns c =
-    let start = c .before .before .before .before .before .before .before in
-    reads-as 80 (pairText (start .args .later) (verdictOf (start .args .verdict))) (c .before .before .put-same .ensures) (omega arith)
-    (ap (λ v. pairText (start .args .later) (verdictOf v)) (sym (c .before .before .before .before .enum-told .given .1)))
+    let start = c .before .before .before .before .before .before .before .before .before .before .before in
+    pair-text (start .args .later) (verdictOf (start .args .verdict)) (c .before .before .before .before .before .before .before .before .put-start .ensures) (c .before .before .put-same .ensures) (omega arith)
+    (ap (λ v. wordOf (verdictOf v)) (sym (c .before .before .before .before .enum-told .given .1)))
 
 same-length-2 : tie.Need-same-length-2
 same-length-2 c = search needs
 
 returns-2 : tie.Need-returns-2
 returns-2 c =
-    let start = c .before .before .before .before .before .before .before .before in
-    reads-as 80 (pairText (start .args .later) (verdictOf (start .args .verdict))) (c .before .before .put-different .ensures) (omega arith)
-    (ap (λ v. pairText (start .args .later) (verdictOf v)) (sym (c .before .before .before .before .before .verdict .given .1)))
+    let start = c .before .before .before .before .before .before .before .before .before .before .before .before in
+    pair-text (start .args .later) (verdictOf (start .args .verdict)) (c .before .before .before .before .before .before .before .before .before .put-start .ensures) (c .before .before .put-different .ensures) (omega arith)
+    (ap (λ v. wordOf (verdictOf v)) (sym (c .before .before .before .before .before .verdict .given .1)))
 
 same-length-3 : tie.Need-same-length-3
 same-length-3 c = search needs
 
 returns-3 : tie.Need-returns-3
+unfolding wordOf
 returns-3 c =
-    let start = c .before .before .before .before .before .before .before .before in
-    reads-as 80 (pairText (start .args .later) (verdictOf (start .args .verdict))) (c .before .before .put-not-called .ensures) (omega arith)
-    (ap (λ v. pairText (start .args .later) (verdictOf v)) (sym (c .before .before .before .before .before .verdict2 .given .1)))
+    let start = c .before .before .before .before .before .before .before .before .before .before .before .before in
+    pair-text (start .args .later) (verdictOf (start .args .verdict)) (c .before .before .before .before .before .before .before .before .before .put-start .ensures) (c .before .before .put-refused .ensures) (omega arith)
+    (ap (λ v. wordOf (verdictOf v)) (sym (c .before .before .before .before .before .verdict2 .given .1)))
 
 pub put-pair-spec : {M : Type 1} → statement M
 put-pair-spec =
     tie.close
     (tie.spec
+    put-start-requires
     enum-told
     put-same-requires
     enum-known-verdict
     put-different-requires
     enum-known-verdict-2
-    put-not-called-requires
+    put-refused-requires
     same-length
     returns
     same-length-2

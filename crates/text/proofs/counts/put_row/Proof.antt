@@ -1,78 +1,20 @@
--- `put_row`: after i turns the first i counts are appended to "=".
-use mathlib.Core.Path.{refl, _∙_}
-use Prim.Native.Nat.{_≤_, _-_, _*_}
-use native.Mathlib.Omega.{arith}
-use lib.ListN.{length}
-use Rattle.model.specs.Finite.{concat, listFrom}
-use Rattle.model.specs.Page.{bytes}
-use Rattle.text.specs.Appended.{Appended}
-use Rattle.text.proofs.Sequence.{no-text, next-text, countAt, counts-all}
+-- `put_row`: "=" and then the counts.
+use Rattle.text.proofs.Sequence.{marked}
+use borrow.Author.Needs.{needs}
 use Rattle.text.proofs.counts.put_row.Statement.{statement}
 use Rattle.text.proofs.counts.put_row.Tie as tie
 
-abbrev Inv-loop : tie.InvT-loop
-Inv-loop out₀ at row next₀ i₀ out next i = (i ≤ length row) × Appended (21 * i) out₀ next₀ (concat (listFrom (countAt row) 0 i)) out next
+put-byte-requires : tie.Need-put-byte-requires
+put-byte-requires c κs = search needs
 
-abbrev μ-loop : tie.MeasureT-loop
-μ-loop out₀ at row next₀ i₀ out next i = length row - i
+put-row-counts-requires : tie.Need-put-row-counts-requires
+put-row-counts-requires c κs = search needs
 
-slice-aggregate-put-bytes : tie.Need-slice-aggregate-put-bytes Inv-loop μ-loop
-slice-aggregate-put-bytes c = refl
+same-length : tie.Need-same-length
+same-length c = search needs
 
-put-bytes-requires : tie.Need-put-bytes-requires Inv-loop μ-loop
-put-bytes-requires c κs = omega arith
-
-loop-holds : tie.Need-loop-holds Inv-loop μ-loop
-loop-holds c = (omega arith, no-text (countAt (c .before .before .before .before .before .before .before .args .row .now)) 21 0 (c .before .before .put-bytes .last .0) (c .before .before .put-bytes .result))
-
-mul-put-count : tie.Need-mul-put-count Inv-loop μ-loop
-mul-put-count c = omega arith
-
-shared-slice-read-put-count : tie.Need-shared-slice-read-put-count Inv-loop μ-loop
-shared-slice-read-put-count c = omega arith
-
-cast-put-count : tie.Need-cast-put-count Inv-loop μ-loop
-cast-put-count c = omega (arith, c .shared-slice-known2 .given (c .before .before .before .loop .i))
-
-put-count-requires : tie.Need-put-count-requires Inv-loop μ-loop
-put-count-requires c κs =
-    let so-far = c .before .before .before .loop .inv .1 in
-    let sign = c .before .before .before .before .before .before .put-bytes .ensures in
-    omega (arith, so-far .ends, so-far .size, so-far .within, sign .ends, sign .size, c .before .before .before .before .before .before .before .before .before .before .before .pre)
-
-add-i : tie.Need-add-i Inv-loop μ-loop
-add-i c = omega arith
-
-loop-less : tie.Need-loop-less Inv-loop μ-loop
-loop-less c = omega arith
-
-loop-again : tie.Need-loop-again Inv-loop μ-loop
-loop-again c =
-    let loop = c .before .before .before .before .before .before in
-    (omega arith, next-text (countAt (c .before .before .before .before .before .before .before .before .before .before .before .before .before .before .args .row .now)) 0 (loop .loop .i) (loop .loop .inv .1) (c .before .before .put-count .ensures) (omega arith))
-
-same-length : tie.Need-same-length Inv-loop μ-loop
-same-length c = c .before .loop .inv .1 .size ∙ c .before .before .before .before .put-bytes .kept .0
-
-returns : tie.Need-returns Inv-loop μ-loop
-unfolding bytes
-returns c = counts-all (c .before .before .before .before .before .before .before .before .before .args .row .now) (omega arith) (c .before .before .before .before .put-bytes .ensures) (c .before .loop .inv .1)
+returns : tie.Need-returns
+returns c = marked (c .before .before .before .before .before .before .before .before .before .before .args .row .now) (c .before .before .before .before .before .before .put-byte .ensures) (c .before .before .put-row-counts .ensures)
 
 pub put-row-spec : {M : Type 1} → statement M
-put-row-spec =
-    tie.close
-    (tie.spec
-    Inv-loop
-    μ-loop
-    slice-aggregate-put-bytes
-    put-bytes-requires
-    loop-holds
-    mul-put-count
-    shared-slice-read-put-count
-    cast-put-count
-    put-count-requires
-    add-i
-    loop-less
-    loop-again
-    same-length
-    returns)
+put-row-spec = tie.close (tie.spec put-byte-requires put-row-counts-requires same-length returns)

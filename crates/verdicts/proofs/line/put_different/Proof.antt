@@ -1,19 +1,12 @@
--- `put_different`: its parts, one after the other, are the line.
+-- `put_different`: its parts, one after the other, are the word.
 use native.Mathlib.Omega.{arith}
 use Rattle.model.specs.Answer.{given, different}
-use Rattle.model.specs.Page.{bytes}
-use Rattle.verdicts.specs.Pair.{pairText}
+use Rattle.model.specs.Page.{bytes, wordOf}
 use Rattle.text.proofs.Append.{then, reads-as}
 use Rattle.verdicts.proofs.Pairs.{different-is}
 use borrow.Author.Needs.{needs}
 use Rattle.verdicts.proofs.line.put_different.Statement.{statement}
 use Rattle.verdicts.proofs.line.put_different.Tie as tie
-
-slice-aggregate-put-labelled : tie.Need-slice-aggregate-put-labelled
-slice-aggregate-put-labelled c = search needs
-
-put-labelled-requires : tie.Need-put-labelled-requires
-put-labelled-requires c κs = search needs
 
 slice-aggregate-put-two-labelled : tie.Need-slice-aggregate-put-two-labelled
 slice-aggregate-put-two-labelled c = search needs
@@ -33,16 +26,13 @@ same-length c = search needs
 returns : tie.Need-returns
 unfolding bytes
 returns c =
-    let start = c .before .before .before .before .before .before .before .before .before .before .before .before .before .before .before .before in
-    reads-as 80 (pairText (start .args .later) (given (different (start .args .stage) (start .args .rounds)))) (then (c .before .before .before .before .before .before .before .before .before .before .before .before .put-labelled .ensures) (then (c .before .before .before .before .before .before .put-two-labelled .ensures) (c .before .before .put-byte .ensures)))
-    (omega arith) (different-is (start .args .later) (start .args .stage) (start .args .rounds))
+    reads-as 52 (wordOf (given (different (c .before .before .before .before .before .before .before .before .before .before .before .args .stage) (c .before .before .before .before .before .before .before .before .before .before .before .args .rounds)))) (then (c .before .before .before .before .before .before .put-two-labelled .ensures) (c .before .before .put-byte .ensures)) (omega arith)
+    (different-is (c .before .before .before .before .before .before .before .before .before .before .before .args .stage) (c .before .before .before .before .before .before .before .before .before .before .before .args .rounds))
 
 pub put-different-spec : {M : Type 1} → statement M
 put-different-spec =
     tie.close
     (tie.spec
-    slice-aggregate-put-labelled
-    put-labelled-requires
     slice-aggregate-put-two-labelled
     slice-aggregate-put-two-labelled-2
     put-two-labelled-requires

@@ -1,0 +1,3 @@
+-- What the contracts of `console` cite, beside `Counts` of crate `io`.
+-- The count that an answer holds.
+pub mod Counted

@@ -1,0 +1,6 @@
+-- Version 0.2.0 as one number.
+use mathlib.Core.Path.{_≡_, refl}
+use Rattle.exports.specs.Version.{version}
+
+pub version-number : version ≡ 200
+version-number = refl

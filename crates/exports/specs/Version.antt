@@ -1,0 +1,14 @@
+-- The version of the library, 0.2.0, as one number.
+use Prim.Native.Nat.{ℕ, _+_, _*_}
+
+abbrev pub major : ℕ
+major = 0
+
+abbrev pub minor : ℕ
+minor = 2
+
+abbrev pub patch : ℕ
+patch = 0
+
+abbrev pub version : ℕ
+version = 10000 * major + 100 * minor + patch

@@ -1,0 +1,27 @@
+// A sheet's numbers of kinds, codes, lines and fields.
+ghost use mathlib.Core.Path.{_≡_};
+ghost use Rattle.exports.specs.Calls.{numbersCall};
+use crate::reply::refusal_code;
+use crate::reply::reply;
+use validation::checks::Checked;
+use validation::checks::check_sheet;
+
+// Any bytes.
+#[no_mangle]
+pub extern "C" fn limbatue_numbers(sheet: &[u8], answer: &mut [u64]) -> u32
+    ensures { λ r. ⌜ r ≡ numbersCall (now (sheet .entry)) (now (answer .entry)) .code ⌝ }
+    ensures { λ _. ⌜ now (answer .exit) ≡ numbersCall (now (sheet .entry)) (now (answer .entry)) .values ⌝ }
+{
+    match check_sheet(sheet) {
+        Checked::Passed(card) => {
+            let values = [
+                card.kinds as u64,
+                card.codes as u64,
+                card.lines as u64,
+                card.fields as u64,
+            ];
+            reply(&values, answer)
+        }
+        Checked::Refused { number, place } => refusal_code(number, place),
+    }
+}

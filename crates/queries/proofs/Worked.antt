@@ -1,0 +1,67 @@
+-- Examples, closed by computation: each verb answered and refused, and words that are no call.
+use mathlib.Core.List.{List, [], _∷_, map}
+use mathlib.Core.Path.{_≡_, refl}
+use Prim.Native.Nat.{ℕ}
+use Prim.Native.String.{String}
+use native.Mathlib.Decide.{ℕ-discrete}
+use Rattle.model.specs.Finite.{any, all, keep, pick, concat, listFrom, below, leastFrom}
+use Rattle.model.specs.Field.{bit, unit, weigh}
+use Rattle.model.specs.Norm.{ready, best, sweeps, kindNorm, gainOf}
+use Rattle.model.specs.Expansion.{simulates, expands}
+use Rattle.model.specs.Stage.{lowering, equalNorm, falling, refined, stageFrom, stage}
+use Rattle.model.specs.Base.{fieldsOfNorm, earlier, atom, row, passes, firstSettled, formAt, partingStage, roundsFor, roundsAt}
+use Rattle.model.specs.Walk.{tryReplies, tryChallenges, examine, walk}
+use Rattle.model.specs.Sheet.{fieldsOffset, totalOf, counts, lineOf, cardOf, fieldOf}
+use Rattle.model.specs.Refusal.{firstOf, headerChecks, lineChecks, normChecks, sheetChecks, settleChecks, compareChecks, formChecks, walkChecks, rowChecks}
+use Rattle.model.specs.Page.{bytes, digits, number, newline, wordOf, refusedLine}
+use Rattle.model.specs.Answer.{written, tableOf, settleOf, verdict, compareOf, primeForm, formOf, within, fullWalk, walkOf, rowOf, rowCheckOf}
+use Rattle.model.proofs.Worked.{page, chain}
+use Rattle.text.specs.Count.{countText, countTexts, countsLine}
+use Rattle.walkline.specs.Line.{drawnText, foundText}
+use Rattle.words.specs.Word.{digitOf, valueFrom, some, numberOf}
+use Rattle.words.specs.Words.{firstWord, startedBy, wordsOf, sameWord, saidAfter, numbersOf}
+use Rattle.words.specs.Statements.{ended}
+use Rattle.replies.specs.Told.{Told, told, noCall}
+use Rattle.replies.specs.Numbers.{withNone, withOne, withTwo, withFour}
+use Rattle.replies.specs.declared.reply.Outcome.{Outcome}
+use Rattle.replies.specs.declared.reply.Outcome.the-variants.{Answered, Refused, NoCall}
+use Rattle.verbs.specs.Texts.{worded, tableRoom, formRoom, stagesLine, rowLines, settleText, rowIn, rowAfter, rowText, verdictText, compareText, formText, walkText}
+use Rattle.verbs.specs.Calls.{settleTold, rowTold, compareTold, formTold, allowanceTold, walkTold}
+use Rattle.queries.specs.Verb.{verbs, verbIn, verbOf}
+use Rattle.queries.specs.Query.{verbTold, saidTold, wordsTold, queryOf}
+
+pub record Example : Type 0 where
+  pub sheet : List ℕ
+  pub words : List String
+  pub told : Told
+
+abbrev pub asks : List ℕ → List String → Outcome → String → Example
+asks s words outcome text = record { sheet = s; words = words; told = record { outcome = outcome; text = bytes text } }
+
+abbrev pub examples : List Example
+examples =
+    asks page ("settle" ∷ []) Answered "stages 1\n1 0\n2 0\n"
+    ∷ asks page ("row" ∷ "1" ∷ []) Answered "2 0\n"
+    ∷ asks page ("row" ∷ "2" ∷ []) (Refused 11 0) "refused 11 0\n"
+    ∷ asks page ("compare" ∷ "0" ∷ "1" ∷ []) Answered "same\n"
+    ∷ asks chain ("compare" ∷ "0" ∷ "01" ∷ []) Answered "different 3 4\n"
+    ∷ asks chain ("compare" ∷ "0" ∷ "12" ∷ []) (Refused 11 1) "refused 11 1\n"
+    ∷ asks page ("form" ∷ "0" ∷ []) Answered "2 0\n"
+    ∷ asks chain ("walk" ∷ "0" ∷ "1" ∷ "2" ∷ "10" ∷ []) Answered "apart 2 drawn 10\n"
+    ∷ asks chain ("walk" ∷ "0" ∷ "1" ∷ "2" ∷ "9" ∷ []) Answered "spent drawn 9\n"
+    ∷ asks chain ("walk" ∷ "0" ∷ "0" ∷ "0" ∷ "4294967295" ∷ []) Answered "together drawn 0\n"
+    ∷ asks [] ("settle" ∷ []) (Refused 1 0) "refused 1 0\n"
+    ∷ asks [] ("walk" ∷ "0" ∷ "0" ∷ "0" ∷ "4294967296" ∷ []) NoCall ""
+    ∷ asks [] ("settle" ∷ "0" ∷ []) NoCall ""
+    ∷ asks [] ("row" ∷ []) NoCall ""
+    ∷ asks [] ("compare" ∷ "0" ∷ "" ∷ []) NoCall ""
+    ∷ asks [] ("compare" ∷ "0" ∷ "18446744073709551616" ∷ []) NoCall ""
+    ∷ asks [] ("compare" ∷ "0" ∷ "1" ∷ "2" ∷ "3" ∷ "4" ∷ []) NoCall ""
+    ∷ asks [] ("Settle" ∷ []) NoCall ""
+    ∷ asks [] ("" ∷ []) NoCall ""
+    ∷ asks [] [] NoCall ""
+    ∷ []
+
+pub worked : map (λ (x : Example). queryOf (x .sheet) (ended (map bytes (x .words)))) examples ≡ map (λ (x : Example). x .told) examples
+unfolding any all keep pick concat listFrom below leastFrom bit unit ℕ-discrete weigh ready best sweeps kindNorm gainOf simulates expands lowering equalNorm falling refined stageFrom stage fieldsOfNorm earlier atom row passes firstSettled formAt partingStage roundsFor roundsAt tryReplies tryChallenges examine walk fieldsOffset totalOf counts lineOf cardOf fieldOf firstOf headerChecks lineChecks normChecks sheetChecks settleChecks compareChecks formChecks walkChecks rowChecks bytes digits number newline wordOf refusedLine written tableOf settleOf verdict compareOf primeForm formOf within fullWalk walkOf rowOf rowCheckOf countText countTexts countsLine drawnText foundText digitOf valueFrom some numberOf firstWord startedBy wordsOf sameWord saidAfter numbersOf ended told noCall withNone withOne withTwo withFour worded tableRoom formRoom stagesLine rowLines settleText rowIn rowAfter rowText verdictText compareText formText walkText settleTold rowTold compareTold formTold allowanceTold walkTold verbs verbIn verbOf verbTold saidTold wordsTold queryOf
+worked = refl

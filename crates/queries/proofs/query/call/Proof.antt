@@ -1,0 +1,110 @@
+-- `call`: by the verb.
+use mathlib.Core.Path.{sym, ap}
+use Rattle.queries.specs.Query.{verbTold}
+use Rattle.replies.proofs.Replies.{tells-nothing, told-as}
+use borrow.Author.Needs.{needs}
+use Rattle.queries.proofs.query.call.Statement.{statement}
+use Rattle.queries.proofs.query.call.Tie as tie
+
+enum-told : tie.Need-enum-told
+enum-told c = search needs
+
+settle-requires : tie.Need-settle-requires
+settle-requires c κs = search needs
+
+enum-told-2 : tie.Need-enum-told-2
+enum-told-2 c = search needs
+
+settled-row-requires : tie.Need-settled-row-requires
+settled-row-requires c κs = search needs
+
+enum-told-3 : tie.Need-enum-told-3
+enum-told-3 c = search needs
+
+compare-fields-requires : tie.Need-compare-fields-requires
+compare-fields-requires c κs = search needs
+
+enum-told-4 : tie.Need-enum-told-4
+enum-told-4 c = search needs
+
+field-form-requires : tie.Need-field-form-requires
+field-form-requires c κs = search needs
+
+enum-told-5 : tie.Need-enum-told-5
+enum-told-5 c = search needs
+
+walk-fields-requires : tie.Need-walk-fields-requires
+walk-fields-requires c κs = search needs
+
+enum-told-6 : tie.Need-enum-told-6
+enum-told-6 c = search needs
+
+no-call-requires : tie.Need-no-call-requires
+no-call-requires c κs = search needs
+
+same-length : tie.Need-same-length
+same-length c = search needs
+
+returns : tie.Need-returns
+unfolding verbTold
+returns c = told-as _ (c .before .before .settle .ensures) (ap (λ v. verbTold (c .before .before .before .before .before .before .before .before .before .args .s .now) v (c .before .before .before .before .before .before .before .before .before .args .numbers .now)) (sym (c .before .before .before .before .enum-told .given .1)))
+
+same-length-2 : tie.Need-same-length-2
+same-length-2 c = search needs
+
+returns-2 : tie.Need-returns-2
+unfolding verbTold
+returns-2 c = told-as _ (c .before .before .settled-row .ensures) (ap (λ v. verbTold (c .before .before .before .before .before .before .before .before .before .args .s .now) v (c .before .before .before .before .before .before .before .before .before .args .numbers .now)) (sym (c .before .before .before .before .enum-told2 .given .1)))
+
+same-length-3 : tie.Need-same-length-3
+same-length-3 c = search needs
+
+returns-3 : tie.Need-returns-3
+unfolding verbTold
+returns-3 c = told-as _ (c .before .before .compare-fields .ensures) (ap (λ v. verbTold (c .before .before .before .before .before .before .before .before .before .args .s .now) v (c .before .before .before .before .before .before .before .before .before .args .numbers .now)) (sym (c .before .before .before .before .enum-told3 .given .1)))
+
+same-length-4 : tie.Need-same-length-4
+same-length-4 c = search needs
+
+returns-4 : tie.Need-returns-4
+unfolding verbTold
+returns-4 c = told-as _ (c .before .before .field-form .ensures) (ap (λ v. verbTold (c .before .before .before .before .before .before .before .before .before .args .s .now) v (c .before .before .before .before .before .before .before .before .before .args .numbers .now)) (sym (c .before .before .before .before .enum-told4 .given .1)))
+
+same-length-5 : tie.Need-same-length-5
+same-length-5 c = search needs
+
+returns-5 : tie.Need-returns-5
+unfolding verbTold
+returns-5 c = told-as _ (c .before .before .walk-fields .ensures) (ap (λ v. verbTold (c .before .before .before .before .before .before .before .before .before .args .s .now) v (c .before .before .before .before .before .before .before .before .before .args .numbers .now)) (sym (c .before .before .before .before .enum-told5 .given .1)))
+
+returns-6 : tie.Need-returns-6
+unfolding verbTold
+returns-6 c = told-as _ (tells-nothing (c .before .before .before .before .before .before .args .out .now) (c .no-call .result) (c .no-call .ensures)) (ap (λ v. verbTold (c .before .before .before .before .before .before .args .s .now) v (c .before .before .before .before .before .before .args .numbers .now)) (sym (c .before .enum-told6 .given .1)))
+
+pub call-spec : {M : Type 1} → statement M
+call-spec =
+    tie.close
+    (tie.spec
+    enum-told
+    settle-requires
+    enum-told-2
+    settled-row-requires
+    enum-told-3
+    compare-fields-requires
+    enum-told-4
+    field-form-requires
+    enum-told-5
+    walk-fields-requires
+    enum-told-6
+    no-call-requires
+    same-length
+    returns
+    same-length-2
+    returns-2
+    same-length-3
+    returns-3
+    same-length-4
+    returns-4
+    same-length-5
+    returns-5
+    returns-6)

@@ -1,0 +1,35 @@
+-- From the words to the text: a verb and the numbers that it takes.
+use mathlib.Core.List.{List, [], _∷_}
+use Prim.Native.Nat.{ℕ}
+use Rattle.words.specs.Words.{Said, numbers, nothing, numbersOf, wordsOf}
+use Rattle.replies.specs.Told.{Told, noCall}
+use Rattle.verbs.specs.Calls.{settleTold, rowTold, compareTold, formTold, walkTold}
+use Rattle.queries.specs.Verb.{verbOf}
+use Rattle.queries.specs.declared.table.Verb.{Verb}
+use Rattle.queries.specs.declared.table.Verb.the-variants.{Settle, Row, Compare, Form, Walk, Other}
+
+-- Each verb, with its numbers.
+unfoldable pub verbTold : List ℕ → Verb → List ℕ → Told
+verbTold s Settle = settleTold s
+verbTold s Row = rowTold s
+verbTold s Compare = compareTold s
+verbTold s Form = formTold s
+verbTold s Walk = walkTold s
+verbTold s Other = λ _. noCall
+
+unfoldable pub saidTold : List ℕ → Verb → Said → Told
+saidTold s verb (numbers xs) = verbTold s verb xs
+saidTold s verb nothing = noCall
+
+-- The numbers that a call takes at most.
+abbrev pub mostNumbers : ℕ
+mostNumbers = 4
+
+-- The words: a verb, and then numbers of 64 bits.
+unfoldable pub wordsTold : List ℕ → List (List ℕ) → Told
+wordsTold s [] = noCall
+wordsTold s (verb ∷ more) = saidTold s (verbOf verb) (numbersOf mostNumbers more)
+
+-- The call that a text of words asks for, of a sheet's bytes.
+unfoldable pub queryOf : List ℕ → List ℕ → Told
+queryOf s text = wordsTold s (wordsOf text)

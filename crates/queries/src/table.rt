@@ -1,0 +1,36 @@
+// The table of verbs.
+use words::same_word;
+ghost use mathlib.Core.Path.{_≡_};
+ghost use Rattle.queries.specs.Verb.{verbOf};
+
+// What a word asks for: one of the calls, or nothing that is known.
+pub enum Verb {
+    Settle,
+    Row,
+    Compare,
+    Form,
+    Walk,
+    Other,
+}
+
+// The verb that a word is.
+pub fn verb_of(word: &[u8]) -> Verb
+    ensures { λ r. ⌜ r ≡ verbOf (now (word .entry)) ⌝ }
+{
+    if same_word(word, b"settle") {
+        return Verb::Settle;
+    }
+    if same_word(word, b"row") {
+        return Verb::Row;
+    }
+    if same_word(word, b"compare") {
+        return Verb::Compare;
+    }
+    if same_word(word, b"form") {
+        return Verb::Form;
+    }
+    if same_word(word, b"walk") {
+        return Verb::Walk;
+    }
+    Verb::Other
+}

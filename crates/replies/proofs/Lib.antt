@@ -1,0 +1,3 @@
+-- Laws that the proofs cite.
+pub mod Replies  -- what a text that was appended tells
+pub mod Numbers  -- calls with as many numbers as they take

@@ -1,0 +1,3 @@
+-- What the contracts cite.
+pub mod Told  -- what a call in words comes to
+pub mod Numbers  -- calls with the numbers that they take

@@ -1,0 +1,39 @@
+-- Examples, closed by computation: a sentence of each kind, with the first and the last place, and numbers and places that have none.
+use mathlib.Core.List.{List, [], _∷_, map}
+use mathlib.Core.Path.{_≡_, refl}
+use Prim.Native.Nat.{ℕ}
+use Prim.Native.String.{String}
+use Rattle.model.specs.Finite.{pick}
+use Rattle.model.specs.Page.{bytes, digits, number, newline}
+use Rattle.sentences.specs.Sentence.{sentences, among, has, named, sentenceOf}
+
+pub record Example : Type 0 where
+  pub number : ℕ
+  pub place : ℕ
+  pub text : String
+
+abbrev pub at : ℕ → ℕ → String → Example
+at k p t = record { number = k; place = p; text = t }
+
+abbrev pub examples : List Example
+examples =
+    at 1 0 "the sheet has under 20 bytes\n"
+    ∷ at 6 1 "the offset of the fields is not where the lines end\n"
+    ∷ at 6 3 "the bytes given are not as many as the total\n"
+    ∷ at 7 3 "line 3: its kind is not under the number of kinds\n"
+    ∷ at 8 255 "line 255: its code is not under the number of codes\n"
+    ∷ at 9 0 "kind 0: it has no norm, since it can not be cleared\n"
+    ∷ at 10 5 "kind 5: its norm is over 1,000,000\n"
+    ∷ at 11 0 "the first field or kind number is too large\n"
+    ∷ at 11 1 "the second field number is too large\n"
+    ∷ at 12 0 "a buffer or table is too short\n"
+    ∷ at 13 0 "the round limit is over 8\n"
+    ∷ at 0 0 ""
+    ∷ at 1 1 ""
+    ∷ at 6 4 ""
+    ∷ at 14 0 ""
+    ∷ []
+
+pub worked : map (λ (e : Example). sentenceOf (e .number) (e .place)) examples ≡ map (λ (e : Example). bytes (e .text)) examples
+unfolding sentenceOf sentences pick has among named bytes digits number newline
+worked = refl

@@ -1,0 +1,9 @@
+// Refusals in words: the sentence of a number and place.
+
+// The table of sentences.
+mod table;
+
+// Its sentences, written.
+mod sentence;
+
+pub use sentence::put_sentence;

@@ -1,0 +1,118 @@
+-- `field_form`: with one number, the prime form of this field.
+use mathlib.Core.Path.{sym, ap, _∙_}
+use Prim.Native.Nat.{_≤_}
+use native.Mathlib.Omega.{arith}
+use lib.ListN.{length, getD, take}
+use lib.Seq.{length-take-le}
+use Rattle.model.specs.Answer.{given}
+use Rattle.sheet.specs.declared.reader.Card.{Card}
+use Rattle.filer.specs.Answers.{formingOf}
+use Rattle.text.specs.Count.{countsLine}
+use Rattle.replies.specs.Told.{told}
+use Rattle.verbs.specs.Calls.{formTold}
+use Rattle.verbs.proofs.Answered.{form-answered, form-refused}
+use Rattle.verbs.proofs.Sizes.{formed-few}
+use Rattle.replies.proofs.Numbers.{one-taken, one-other}
+use Rattle.replies.proofs.Replies.{tells-answer, tells-nothing, told-as}
+use borrow.Author.Needs.{needs}
+use Rattle.verbs.proofs.form.field_form.Statement.{statement}
+use Rattle.verbs.proofs.form.field_form.Tie as tie
+
+-- The sheet was accepted, so that the room suffices.
+few : (c : tie.After-put-form-line-arg) → c .before .of-header .result .kinds ≤ length (c .before .before .before .before .before .prime-form .last .1 .1 .0)
+few c =
+    omega (
+      arith,
+      ap (λ (x : Card). x .kinds) (c .before .of-header .ensures),
+      formed-few (c .before .before .before .before .before .before .before .before .before .before .before .before .before .args .s .now) (getD (c .before .before .before .before .before .before .before .before .before .before .before .before .before .args .numbers .now) 0 0) (c .before .before .before .before .before .before .before .before .form-room .result) (ap formingOf (sym (c .before .before .enum-told .given .1)) ∙ c .before .before .before .before .before .prime-form .ensures .0),
+    )
+
+no-call-requires : tie.Need-no-call-requires
+no-call-requires c κs = search needs
+
+returns : tie.Need-returns
+unfolding formTold
+returns c = told-as _ (tells-nothing (c .before .before .before .before .before .args .out .now) (c .no-call .result) (c .no-call .ensures)) (one-other _ (c .before .before .before .before .before .args .numbers .now) (c .before .if1 .taken))
+
+form-room-requires : tie.Need-form-room-requires
+form-room-requires c κs = search needs
+
+shared-slice-read-prime-form : tie.Need-shared-slice-read-prime-form
+shared-slice-read-prime-form c = search needs
+
+slice-aggregate-prime-form : tie.Need-slice-aggregate-prime-form
+slice-aggregate-prime-form c = search needs
+
+prime-form-requires : tie.Need-prime-form-requires
+prime-form-requires c κs = search needs
+
+enum-told : tie.Need-enum-told
+enum-told c = search needs
+
+of-header-requires : tie.Need-of-header-requires
+of-header-requires c κs = search needs
+
+array-share-prefix-form : tie.Need-array-share-prefix-form
+array-share-prefix-form c = few c
+
+slice-aggregate-put-form-line : tie.Need-slice-aggregate-put-form-line
+slice-aggregate-put-form-line c = sym (length-take-le _ _ (few (c .before)))
+
+put-form-line-requires : tie.Need-put-form-line-requires
+put-form-line-requires c κs = omega (arith, c .before .before .before .before .before .before .before .before .before .before .before .before .before .before .pre, few (c .before), length-take-le (c .before .before .of-header .result .kinds) (c .before .before .before .before .before .before .prime-form .last .1 .1 .0) (few (c .before)))
+
+enum-known-number : tie.Need-enum-known-number
+enum-known-number c = search needs
+
+refuse-requires : tie.Need-refuse-requires
+refuse-requires c κs = search needs
+
+same-length : tie.Need-same-length
+same-length c = search needs
+
+returns-2 : tie.Need-returns-2
+unfolding formTold
+returns-2 c =
+    let start = c .before .before .before .before .before .before .before .before .before .before .before .before .before .before .before .before .before in
+    let field = getD (start .args .numbers .now) 0 0 in
+    let form = c .before .before .before .before .before .before .before .before .before .prime-form .last .1 .1 .0 in
+    let answers = ap formingOf (sym (c .before .before .before .before .before .before .enum-told .given .1)) ∙ c .before .before .before .before .before .before .before .before .before .prime-form .ensures .0 in
+    told-as _ (tells-answer (c .before .before .put-form-line .ensures))
+    (ap (λ (x : Card). told (given (countsLine (take (x .kinds) form)))) (c .before .before .before .before .before .of-header .ensures)
+    ∙ ap told (form-answered (start .args .s .now) (c .before .before .before .before .before .before .before .before .before .before .before .before .form-room .result) form field (c .before .before .before .before .before .before .before .before .before .before .before .before .form-room .ensures) (c .before .before .before .before .before .before .before .before .before .prime-form .ensures .1) answers)
+    ∙ one-taken _ (start .args .numbers .now) (c .before .before .before .before .before .before .before .before .before .before .before .before .before .if1 .left))
+
+same-length-2 : tie.Need-same-length-2
+same-length-2 c = search needs
+
+returns-3 : tie.Need-returns-3
+unfolding formTold
+returns-3 c =
+    let start = c .before .before .before .before .before .before .before .before .before .before .before .before .before .before .before .before in
+    let field = getD (start .args .numbers .now) 0 0 in
+    let answers = ap formingOf (sym (c .before .before .before .before .before .number .given .1)) ∙ c .before .before .before .before .before .before .before .before .prime-form .ensures .0 in
+    told-as _ (c .before .before .refuse .ensures)
+    (ap told (form-refused (start .args .s .now) (c .before .before .before .before .before .before .before .before .before .before .before .form-room .result) (c .before .before .before .before .before .before .before .before .prime-form .last .1 .1 .0) field (c .before .before .before .before .before .before .before .before .before .before .before .form-room .ensures) (c .before .before .before .before .before .before .before .before .prime-form .ensures .1) _ _ answers)
+    ∙ one-taken _ (start .args .numbers .now) (c .before .before .before .before .before .before .before .before .before .before .before .before .if1 .left))
+
+pub field-form-spec : {M : Type 1} → statement M
+field-form-spec =
+    tie.close
+    (tie.spec
+    no-call-requires
+    returns
+    form-room-requires
+    shared-slice-read-prime-form
+    slice-aggregate-prime-form
+    prime-form-requires
+    enum-told
+    of-header-requires
+    array-share-prefix-form
+    slice-aggregate-put-form-line
+    put-form-line-requires
+    enum-known-number
+    refuse-requires
+    same-length
+    returns-2
+    same-length-2
+    returns-3)

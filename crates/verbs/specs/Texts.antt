@@ -1,0 +1,62 @@
+-- The text of each call's answer.
+use mathlib.Core.List.{List, _++_}
+use Prim.Native.Nat.{ℕ}
+use lib.ListN.{take, replicate}
+use Rattle.model.specs.Finite.{concat, listFrom}
+use Rattle.model.specs.Sheet.{kindCount}
+use Rattle.model.specs.Refusal.{Finding, clear, refusal}
+use Rattle.model.specs.Answer.{Answer, refused, given, Verdict, settleOf, rowOf, rowCheckOf, compareOf, formOf, walkOf}
+use Rattle.model.specs.Page.{bytes, number, newline, wordOf}
+use Rattle.text.specs.Count.{countsLine}
+use Rattle.walkline.specs.Line.{drawnText, foundText}
+
+-- An answer by the text that its value gets.
+unfoldable pub worded : {A : Type 0} → (A → List ℕ) → Answer A → Answer (List ℕ)
+worded text (given a) = given (text a)
+worded text (refused number place) = refused number place
+
+-- The room that is lent: a table and a form of any card.
+unfoldable pub tableRoom : List ℕ
+tableRoom = replicate 1024 0
+
+unfoldable pub formRoom : List ℕ
+formRoom = replicate 32 0
+
+-- `stages S`, and then the rows, each on a line of its own.
+unfoldable pub stagesLine : ℕ → List ℕ
+stagesLine stage = bytes "stages " ++ number stage ++ newline
+
+unfoldable pub rowLines : ℕ → List ℕ → List ℕ
+rowLines n table = concat (listFrom (λ k. countsLine (rowOf n k table)) 0 n)
+
+-- settle: what Settle reports and writes.
+unfoldable pub settleText : List ℕ → Answer (List ℕ)
+settleText s = worded (λ stage. stagesLine stage ++ rowLines (kindCount s) (settleOf s tableRoom .lent)) (settleOf s tableRoom .answer)
+
+-- row K: the row that Row hands out of what Settle wrote, or its refusal.
+unfoldable pub rowIn : ℕ → ℕ → List ℕ → Finding → Answer (List ℕ)
+rowIn n k table clear = given (countsLine (rowOf n k table))
+rowIn n k table (refusal number place) = refused number place
+
+unfoldable pub rowAfter : List ℕ → ℕ → Answer ℕ → Answer (List ℕ)
+rowAfter s k (given stage) = let table = settleOf s tableRoom .lent in rowIn (kindCount s) k table (rowCheckOf (kindCount s) k table)
+rowAfter s k (refused number place) = refused number place
+
+unfoldable pub rowText : List ℕ → ℕ → Answer (List ℕ)
+rowText s k = rowAfter s k (settleOf s tableRoom .answer)
+
+-- compare I J: `same` or `different S R`.
+unfoldable pub verdictText : Answer Verdict → Answer (List ℕ)
+verdictText answer = worded (λ verdict. wordOf (given verdict)) answer
+
+unfoldable pub compareText : List ℕ → ℕ → ℕ → Answer (List ℕ)
+compareText s i j = verdictText (compareOf s i j)
+
+-- form I: the counts of the prime form.
+unfoldable pub formText : List ℕ → ℕ → Answer (List ℕ)
+formText s i = worded (λ _. countsLine (take (kindCount s) (formOf s i formRoom .lent))) (formOf s i formRoom .answer)
+
+-- walk I J LIMIT ALLOWANCE: `apart R drawn D`, `together drawn D` or `spent drawn D`.
+unfoldable pub walkText : List ℕ → ℕ → ℕ → ℕ → ℕ → Answer (List ℕ)
+walkText s i j limit allowance =
+    let w = walkOf s i j limit (record { left = allowance }) in worded (λ found. foundText found ++ drawnText (w .drawn)) (w .answer)

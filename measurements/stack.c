@@ -1,0 +1,115 @@
+/* stack SHEET..: prints for each call of limbatue.h the most bytes of stack that it took on any of the sheets, and the bytes that the header states for it.
+ * A call is made on a stack that was filled with a pattern; the lowest byte that has changed afterwards tells how deep the call went.
+ * It exits 1 where a call leaves under 4,096 of the stated bytes or was done on none of the sheets, 2 on usage, 3 where a sheet can not be read or no context be made. */
+#define _XOPEN_SOURCE 600
+#include <stdio.h>
+#include <stdlib.h>
+#include <string.h>
+#include <ucontext.h>
+
+#include "limbatue.h"
+
+enum { PATTERN = 0xA5, STACK = 1 << 20, MARGIN = 4096 };
+
+static unsigned char stack[STACK];
+static ucontext_t here, there;
+
+/* What a call is made with, and what it returned. */
+static uint8_t sheet[LIMBATUE_SHEET_MOST + 1], page[LIMBATUE_PAGE_MOST];
+static uint32_t table[LIMBATUE_TABLE_MOST], allowance, returned;
+static uint64_t counts[LIMBATUE_COUNTS_MOST], answer[4];
+static size_t length, last;
+
+static void version(void) { returned = limbatue_version() == LIMBATUE_VERSION ? 0 : 1; }
+static void numbers(void) { returned = limbatue_numbers(sheet, length, answer, LIMBATUE_NUMBERS_ANSWER); }
+static void settle(void) { returned = limbatue_settle(sheet, length, table, LIMBATUE_TABLE_MOST, answer, LIMBATUE_SETTLE_ANSWER); }
+static void row_check(void) { returned = limbatue_row_check(table, LIMBATUE_TABLE_MOST, 32, 31, answer, LIMBATUE_ROW_CHECK_ANSWER); }
+static void compare(void) { returned = limbatue_compare(sheet, length, 0, last, answer, LIMBATUE_COMPARE_ANSWER); }
+static void prime_form(void) { returned = limbatue_prime_form(sheet, length, last, counts, LIMBATUE_COUNTS_MOST); }
+static void walk(void) { returned = limbatue_walk(sheet, length, 0, last, 8, &allowance, answer, LIMBATUE_WALK_ANSWER); }
+static void write_page(void) { returned = limbatue_page(sheet, length, page, LIMBATUE_PAGE_MOST, answer, LIMBATUE_PAGE_ANSWER); }
+
+static struct {
+    const char *name;
+    void (*call)(void);
+    size_t stated, most;
+    int done;
+} calls[] = {
+    { "version", version, LIMBATUE_VERSION_STACK, 0, 0 },
+    { "numbers", numbers, LIMBATUE_NUMBERS_STACK, 0, 0 },
+    { "settle", settle, LIMBATUE_SETTLE_STACK, 0, 0 },
+    { "row_check", row_check, LIMBATUE_ROW_CHECK_STACK, 0, 0 },
+    { "compare", compare, LIMBATUE_COMPARE_STACK, 0, 0 },
+    { "prime_form", prime_form, LIMBATUE_PRIME_FORM_STACK, 0, 0 },
+    { "walk", walk, LIMBATUE_WALK_STACK, 0, 0 },
+    { "page", write_page, LIMBATUE_PAGE_STACK, 0, 0 },
+};
+enum { CALLS = sizeof calls / sizeof calls[0] };
+
+static void fail(const char *message, const char *what)
+{
+    fprintf(stderr, "stack: %s%s\n", message, what);
+    exit(3);
+}
+
+/* The bytes of stack that a call took, with those of the few lines that make it. */
+static size_t taken_by(void (*call)(void))
+{
+    size_t untouched = 0;
+    memset(stack, PATTERN, STACK);
+    if (getcontext(&there) != 0)
+        fail("no context", "");
+    there.uc_stack.ss_sp = stack;
+    there.uc_stack.ss_size = STACK;
+    there.uc_link = &here;
+    makecontext(&there, call, 0);
+    if (swapcontext(&here, &there) != 0)
+        fail("no context", "");
+    while (untouched < STACK && stack[untouched] == PATTERN)
+        untouched++;
+    return STACK - untouched;
+}
+
+static void read_sheet(const char *name)
+{
+    FILE *file = fopen(name, "rb");
+    if (file == NULL)
+        fail("can not read ", name);
+    length = fread(sheet, 1, sizeof sheet, file);
+    if (ferror(file))
+        fail("can not read ", name);
+    fclose(file);
+    last = limbatue_numbers(sheet, length, answer, LIMBATUE_NUMBERS_ANSWER) == 0 && answer[3] > 0 ? (size_t)answer[3] - 1 : 0;
+}
+
+static void measure(void)
+{
+    size_t i, taken;
+    for (i = 0; i < CALLS; i++) {
+        allowance = 4000000;
+        taken = taken_by(calls[i].call);
+        calls[i].done |= returned == 0;
+        if (taken > calls[i].most)
+            calls[i].most = taken;
+    }
+}
+
+int main(int argc, char **argv)
+{
+    int i, failed = 0;
+    if (argc < 2) {
+        fprintf(stderr, "usage: stack SHEET..\n");
+        return 2;
+    }
+    for (i = 1; i < argc; i++) {
+        read_sheet(argv[i]);
+        measure();
+    }
+    for (i = 0; i < CALLS; i++) {
+        int passed = calls[i].done && calls[i].most + MARGIN <= calls[i].stated && calls[i].stated <= LIMBATUE_STACK_MOST;
+        printf("%-10s %6lu bytes, stated %6lu%s\n", calls[i].name, (unsigned long)calls[i].most, (unsigned long)calls[i].stated,
+               passed ? "" : calls[i].done ? ": too few" : ": done on no sheet");
+        failed |= !passed;
+    }
+    return failed;
+}

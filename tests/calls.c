@@ -1,0 +1,168 @@
+/* calls: the header against the library. Every name and constant of limbatue.h is used in calls whose outcomes are known; prints nothing and exits 0 where all agree, else says the line that does not. C99 and C++11. */
+#include <stdio.h>
+#include <string.h>
+
+#include "limbatue.h"
+
+static int failures = 0;
+#define EXPECT(condition) ((condition) ? (void)0 : (void)(failures++, fprintf(stderr, "tests/calls.c:%d: not so: %s\n", __LINE__, #condition)))
+#define REFUSED(returned, number, place) (LIMBATUE_NUMBER(returned) == (number) && LIMBATUE_PLACE(returned) == (place))
+
+static uint8_t sheet[LIMBATUE_SHEET_MOST + 1], page[LIMBATUE_PAGE_MOST];
+static uint32_t table[LIMBATUE_TABLE_MOST];
+static uint64_t counts[LIMBATUE_COUNTS_MOST], answer[4];
+static size_t length;
+
+static void put(size_t at, size_t bytes, size_t value)
+{
+    for (; bytes > 0; bytes--, at++, value /= 256)
+        sheet[at] = (uint8_t)(value % 256);
+}
+
+/* A sheet with these numbers. Each line is of a kind in turn, reads code 0 and leaves nothing; each field is empty. */
+static void make_sheet(size_t kinds, size_t codes, size_t lines, size_t fields)
+{
+    size_t i, start = 20 + lines * (2 + kinds);
+    length = start + fields * 2 * kinds;
+    memset(sheet, 0, sizeof sheet);
+    put(0, 2, kinds);
+    put(2, 2, codes);
+    put(4, 2, lines);
+    put(6, 2, fields);
+    put(8, 4, 20);
+    put(12, 4, start);
+    put(16, 4, length);
+    for (i = 0; i < lines; i++)
+        sheet[20 + i * (2 + kinds)] = (uint8_t)(i % kinds);
+}
+
+static void put_count(size_t field, size_t kind, size_t count)
+{
+    size_t kinds = sheet[0], lines = sheet[4] + 256u * sheet[5];
+    put(20 + lines * (2 + kinds) + 2 * (field * kinds + kind), 2, count);
+}
+
+static uint32_t numbers(void) { return limbatue_numbers(sheet, length, answer, LIMBATUE_NUMBERS_ANSWER); }
+static uint32_t settle(void) { return limbatue_settle(sheet, length, table, LIMBATUE_TABLE_MOST, answer, LIMBATUE_SETTLE_ANSWER); }
+static uint32_t compare(size_t first, size_t second) { return limbatue_compare(sheet, length, first, second, answer, LIMBATUE_COMPARE_ANSWER); }
+
+/* The numbers of a sheet, or the refusal of a small one of which one part was changed. */
+static int has_numbers(size_t kinds, size_t codes, size_t lines, size_t fields)
+{
+    make_sheet(kinds, codes, lines, fields);
+    return numbers() == LIMBATUE_DONE && answer[0] == kinds && answer[1] == codes && answer[2] == lines && answer[3] == fields;
+}
+
+static uint32_t damaged(size_t at, size_t bytes, size_t value)
+{
+    make_sheet(3, 2, 5, 4);
+    put(at, bytes, value);
+    return numbers();
+}
+
+static void test_version(void)
+{
+    char text[32];
+    EXPECT(limbatue_version() == LIMBATUE_VERSION);
+    sprintf(text, "%d.%d.%d", LIMBATUE_VERSION / 10000, LIMBATUE_VERSION / 100 % 100, LIMBATUE_VERSION % 100);
+    EXPECT(strcmp(text, LIMBATUE_VERSION_TEXT) == 0);
+}
+
+static void test_numbers(void)
+{
+    EXPECT(has_numbers(3, 2, 5, 4));
+    EXPECT(has_numbers(1, 1, 0, 0));
+    EXPECT(has_numbers(32, 64, 256, 64));
+    EXPECT(length == LIMBATUE_SHEET_MOST);
+    make_sheet(3, 2, 5, 4);
+    memset(answer, 7, sizeof answer);
+    EXPECT(REFUSED(limbatue_numbers(sheet, length, answer, LIMBATUE_NUMBERS_ANSWER - 1), LIMBATUE_REFUSED_TOO_SHORT, 0));
+    EXPECT(REFUSED(limbatue_numbers(sheet, 19, answer, 0), LIMBATUE_REFUSED_NO_HEADER, 0));
+    EXPECT(answer[0] == answer[3] && answer[0] % 256 == 7);
+}
+
+static void test_refused_sheets(void)
+{
+    make_sheet(3, 2, 5, 4);
+    length = 19;
+    EXPECT(REFUSED(numbers(), LIMBATUE_REFUSED_NO_HEADER, 0));
+    EXPECT(REFUSED(damaged(0, 2, 33), LIMBATUE_REFUSED_KINDS, 0));
+    EXPECT(REFUSED(damaged(2, 2, 0), LIMBATUE_REFUSED_CODES, 0));
+    EXPECT(REFUSED(damaged(4, 2, 257), LIMBATUE_REFUSED_LINES, 0));
+    EXPECT(REFUSED(damaged(6, 2, 65), LIMBATUE_REFUSED_FIELDS, 0));
+    EXPECT(REFUSED(damaged(8, 4, 21), LIMBATUE_REFUSED_LAYOUT, 0));
+    EXPECT(REFUSED(damaged(12, 4, 0), LIMBATUE_REFUSED_LAYOUT, 1));
+    EXPECT(REFUSED(damaged(16, 4, 0), LIMBATUE_REFUSED_LAYOUT, 2));
+    EXPECT(REFUSED(damaged(20 + 4 * 5, 1, 3), LIMBATUE_REFUSED_LINE_KIND, 4));
+    EXPECT(REFUSED(damaged(20 + 1 * 5 + 1, 1, 2), LIMBATUE_REFUSED_LINE_CODE, 1));
+    make_sheet(3, 2, 5, 4);
+    length++;
+    EXPECT(REFUSED(numbers(), LIMBATUE_REFUSED_LAYOUT, 3));
+    make_sheet(3, 2, 2, 0); /* kind 2 has no line */
+    EXPECT(REFUSED(settle(), LIMBATUE_REFUSED_NO_NORM, 2));
+    make_sheet(4, 1, 4, 0); /* 1 leaves 200 of 0, 2 leaves 200 of 1, 3 leaves 200 of 2 */
+    sheet[20 + 1 * 6 + 2] = sheet[20 + 2 * 6 + 3] = sheet[20 + 3 * 6 + 4] = 200;
+    EXPECT(REFUSED(settle(), LIMBATUE_REFUSED_NORM_OVER_LIMIT, 3));
+}
+
+/* Kinds of one line each, so that each is of norm 1 and prime only where it is kind 0; fields 0 and 1 are alike, field 2 is one token larger. */
+static void make_fields(void)
+{
+    make_sheet(32, 1, 32, 3);
+    put_count(0, 0, 1);
+    put_count(1, 1, 1);
+    put_count(2, 0, 2);
+}
+
+static void test_filer(void)
+{
+    make_fields();
+    EXPECT(settle() == LIMBATUE_DONE && answer[0] == 1 && table[0] == 1 && table[31 * 32] == 1 && table[31 * 32 + 31] == 0);
+    EXPECT(REFUSED(limbatue_settle(sheet, length, table, LIMBATUE_TABLE_MOST - 1, answer, LIMBATUE_SETTLE_ANSWER), LIMBATUE_REFUSED_TOO_SHORT, 0));
+    EXPECT(REFUSED(limbatue_settle(sheet, length, table, LIMBATUE_TABLE_MOST, answer, LIMBATUE_SETTLE_ANSWER - 1), LIMBATUE_REFUSED_TOO_SHORT, 0));
+    EXPECT(limbatue_row_check(table, LIMBATUE_TABLE_MOST, 32, 31, answer, LIMBATUE_ROW_CHECK_ANSWER) == LIMBATUE_DONE && answer[0] == 31 * 32 && answer[1] == 32);
+    EXPECT(REFUSED(limbatue_row_check(table, LIMBATUE_TABLE_MOST, 32, 31, answer, LIMBATUE_ROW_CHECK_ANSWER - 1), LIMBATUE_REFUSED_TOO_SHORT, 0));
+    EXPECT(REFUSED(limbatue_row_check(table, LIMBATUE_TABLE_MOST, 33, 0, answer, LIMBATUE_ROW_CHECK_ANSWER), LIMBATUE_REFUSED_KINDS, 0));
+    EXPECT(REFUSED(limbatue_row_check(table, LIMBATUE_TABLE_MOST, 32, 32, answer, LIMBATUE_ROW_CHECK_ANSWER), LIMBATUE_REFUSED_NUMBER, 0));
+    EXPECT(compare(0, 1) == LIMBATUE_DONE && answer[0] == LIMBATUE_SAME && answer[1] == 0 && answer[2] == 0);
+    EXPECT(compare(0, 2) == LIMBATUE_DONE && answer[0] == LIMBATUE_DIFFERENT && answer[1] == 0 && answer[2] == 2);
+    EXPECT(REFUSED(compare(3, 3), LIMBATUE_REFUSED_NUMBER, 0));
+    EXPECT(REFUSED(compare(2, 3), LIMBATUE_REFUSED_NUMBER, 1));
+    EXPECT(REFUSED(limbatue_compare(sheet, length, 0, 1, answer, LIMBATUE_COMPARE_ANSWER - 1), LIMBATUE_REFUSED_TOO_SHORT, 0));
+    EXPECT(limbatue_prime_form(sheet, length, 2, counts, LIMBATUE_COUNTS_MOST) == LIMBATUE_DONE && counts[0] == 2 && counts[31] == 0);
+    EXPECT(REFUSED(limbatue_prime_form(sheet, length, 2, counts, LIMBATUE_COUNTS_MOST - 1), LIMBATUE_REFUSED_TOO_SHORT, 0));
+}
+
+static void test_walk(void)
+{
+    uint32_t allowance = 100;
+    make_fields();
+    EXPECT(limbatue_walk(sheet, length, 0, 1, 8, &allowance, answer, LIMBATUE_WALK_ANSWER) == LIMBATUE_DONE && answer[0] == LIMBATUE_TOGETHER && answer[1] == 0 && allowance == 100 - answer[2]);
+    allowance = 100;
+    EXPECT(limbatue_walk(sheet, length, 0, 2, 8, &allowance, answer, LIMBATUE_WALK_ANSWER) == LIMBATUE_DONE && answer[0] == LIMBATUE_APART && answer[1] == 2 && allowance == 100 - answer[2]);
+    allowance = 1;
+    EXPECT(limbatue_walk(sheet, length, 0, 2, 8, &allowance, answer, LIMBATUE_WALK_ANSWER) == LIMBATUE_DONE && answer[0] == LIMBATUE_SPENT && answer[2] == 1 && allowance == 0);
+    allowance = 100;
+    EXPECT(REFUSED(limbatue_walk(sheet, length, 0, 1, 9, &allowance, answer, 0), LIMBATUE_REFUSED_ROUND_LIMIT, 0) && allowance == 100);
+    EXPECT(REFUSED(limbatue_walk(sheet, length, 0, 1, 8, &allowance, answer, LIMBATUE_WALK_ANSWER - 1), LIMBATUE_REFUSED_TOO_SHORT, 0) && allowance == 100);
+}
+
+static void test_page(void)
+{
+    make_fields();
+    EXPECT(limbatue_page(sheet, length, page, LIMBATUE_PAGE_MOST, answer, LIMBATUE_PAGE_ANSWER) == LIMBATUE_DONE && memcmp(page, "kinds 32 stages 1\n", 18) == 0 && page[answer[0] - 1] == '\n');
+    EXPECT(REFUSED(limbatue_page(sheet, length, page, (size_t)answer[0] - 1, answer, LIMBATUE_PAGE_ANSWER), LIMBATUE_REFUSED_TOO_SHORT, 0));
+    EXPECT(REFUSED(limbatue_page(sheet, length, page, LIMBATUE_PAGE_MOST, answer, LIMBATUE_PAGE_ANSWER - 1), LIMBATUE_REFUSED_TOO_SHORT, 0));
+    EXPECT(limbatue_page(sheet, 0, page, LIMBATUE_PAGE_MOST, answer, LIMBATUE_PAGE_ANSWER) == LIMBATUE_DONE && answer[0] == 12 && memcmp(page, "refused 1 0\n", 12) == 0);
+}
+
+int main(void)
+{
+    test_version();
+    test_numbers();
+    test_refused_sheets();
+    test_filer();
+    test_walk();
+    test_page();
+    return failures != 0;
+}

@@ -1,0 +1,72 @@
+/* threads SHEET..: every call, made on every sheet by two threads at once, many times, answers what it answers where one thread calls alone. Exits 0 where it does, else 1; 3 where a sheet can not be read. */
+#include <pthread.h>
+#include <stdio.h>
+#include <stdlib.h>
+#include <string.h>
+
+#include "limbatue.h"
+
+enum { SHEETS = 16, TIMES = 50 };
+
+/* Everything that the calls answer and write, on one sheet. */
+struct outcome {
+    uint32_t returned[6], table[LIMBATUE_TABLE_MOST], allowance;
+    uint64_t numbers[LIMBATUE_NUMBERS_ANSWER], stage[LIMBATUE_SETTLE_ANSWER], verdict[LIMBATUE_COMPARE_ANSWER], counts[LIMBATUE_COUNTS_MOST], walked[LIMBATUE_WALK_ANSWER], length[LIMBATUE_PAGE_ANSWER];
+    uint8_t page[LIMBATUE_PAGE_MOST];
+};
+
+static struct {
+    uint8_t bytes[LIMBATUE_SHEET_MOST + 1];
+    size_t length;
+    struct outcome alone;
+} sheets[SHEETS];
+static int count;
+
+static void call_all(const uint8_t *sheet, size_t length, struct outcome *o)
+{
+    memset(o, 0, sizeof *o);
+    o->allowance = 20000;
+    o->returned[0] = limbatue_numbers(sheet, length, o->numbers, LIMBATUE_NUMBERS_ANSWER);
+    o->returned[1] = limbatue_settle(sheet, length, o->table, LIMBATUE_TABLE_MOST, o->stage, LIMBATUE_SETTLE_ANSWER);
+    o->returned[2] = limbatue_compare(sheet, length, 0, 1, o->verdict, LIMBATUE_COMPARE_ANSWER);
+    o->returned[3] = limbatue_prime_form(sheet, length, 1, o->counts, LIMBATUE_COUNTS_MOST);
+    o->returned[4] = limbatue_walk(sheet, length, 0, 1, 8, &o->allowance, o->walked, LIMBATUE_WALK_ANSWER);
+    o->returned[5] = limbatue_page(sheet, length, o->page, LIMBATUE_PAGE_MOST, o->length, LIMBATUE_PAGE_ANSWER);
+}
+
+/* Answers NULL where every outcome was that of the calls alone. The two threads go through the sheets in opposite directions. */
+static void *call_often(void *backwards)
+{
+    struct outcome *o = (struct outcome *)malloc(sizeof *o);
+    int i, differ = o == NULL;
+    for (i = 0; i < TIMES * count && !differ; i++) {
+        int at = backwards != NULL ? count - 1 - i % count : i % count;
+        call_all(sheets[at].bytes, sheets[at].length, o);
+        differ = memcmp(o, &sheets[at].alone, sizeof *o) != 0;
+    }
+    free(o);
+    return differ ? &count : NULL;
+}
+
+int main(int argc, char **argv)
+{
+    pthread_t first, second;
+    void *one, *other;
+    for (count = 0; count + 1 < argc && count < SHEETS; count++) {
+        FILE *file = fopen(argv[count + 1], "rb");
+        if (file == NULL) {
+            fprintf(stderr, "threads: can not read %s\n", argv[count + 1]);
+            return 3;
+        }
+        sheets[count].length = fread(sheets[count].bytes, 1, sizeof sheets[count].bytes, file);
+        fclose(file);
+        call_all(sheets[count].bytes, sheets[count].length, &sheets[count].alone);
+    }
+    if (pthread_create(&first, NULL, call_often, NULL) != 0 || pthread_create(&second, NULL, call_often, &count) != 0)
+        return 3;
+    pthread_join(first, &one);
+    pthread_join(second, &other);
+    if (one != NULL || other != NULL)
+        fprintf(stderr, "threads: two threads do not get what one does\n");
+    return one != NULL || other != NULL;
+}
