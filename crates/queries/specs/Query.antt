@@ -17,6 +17,7 @@ verbTold s Form = formTold s
 verbTold s Walk = walkTold s
 verbTold s Other = λ _. noCall
 
+-- The same, where the words after the verb say numbers; otherwise it is no call.
 unfoldable pub saidTold : List ℕ → Verb → Said → Told
 saidTold s verb (numbers xs) = verbTold s verb xs
 saidTold s verb nothing = noCall

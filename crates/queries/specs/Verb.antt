@@ -16,10 +16,11 @@ pub record Named : Type 0 where
 abbrev pub named : String → Verb → Named
 named name verb = record { name = name; verb = verb }
 
+-- The table.
 unfoldable pub verbs : List Named
 verbs = named "settle" Settle ∷ named "row" Row ∷ named "compare" Compare ∷ named "form" Form ∷ named "walk" Walk ∷ []
 
--- The verb that a word is.
+-- The verb that a word is: the first of a list with that name.
 unfoldable pub verbIn : List Named → List ℕ → Verb
 verbIn [] word = Other
 verbIn (x ∷ xs) word = elim (sameWord word (bytes (x .name))) [ true ↦ x .verb | false ↦ verbIn xs word ]

@@ -11,15 +11,19 @@ use Rattle.verbs.specs.Texts.{settleText, rowText, compareText, formText
 abbrev pub mostText : ℕ
 mostText = 21564
 
+-- settle, with no number.
 unfoldable pub settleTold : List ℕ → List ℕ → Told
 settleTold s = withNone (told (settleText s))
 
+-- row K.
 unfoldable pub rowTold : List ℕ → List ℕ → Told
 rowTold s = withOne (λ k. told (rowText s k))
 
+-- compare I J.
 unfoldable pub compareTold : List ℕ → List ℕ → Told
 compareTold s = withTwo (λ i j. told (compareText s i j))
 
+-- form I.
 unfoldable pub formTold : List ℕ → List ℕ → Told
 formTold s = withOne (λ i. told (formText s i))
 
@@ -27,6 +31,7 @@ formTold s = withOne (λ i. told (formText s i))
 abbrev pub mostNarrow : ℕ
 mostNarrow = 4294967295
 
+-- walk I J LIMIT ALLOWANCE, with an allowance of 32 bits; with a larger one it is no call.
 unfoldable pub allowanceTold : List ℕ → ℕ → ℕ → ℕ → ℕ → Told
 allowanceTold s i j limit allowance = elim (leb allowance mostNarrow) [ true ↦ told (walkText s i j limit allowance) | false ↦ noCall ]
 

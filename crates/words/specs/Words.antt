@@ -16,15 +16,17 @@ unfoldable pub firstWord : List ℕ → List ℕ
 firstWord [] = []
 firstWord (c ∷ cs) = elim (eqb c 0) [ true ↦ [] | false ↦ c ∷ firstWord cs ]
 
--- The words of a text, each ended by a byte 0; bytes after the last 0 are no word.
+-- A byte before the first of some words; where there are none, bytes that no 0 ends are no word.
 unfoldable pub startedBy : ℕ → List (List ℕ) → List (List ℕ)
 startedBy c [] = []
 startedBy c (w ∷ ws) = (c ∷ w) ∷ ws
 
+-- The words of a text, each ended by a byte 0.
 unfoldable pub wordsOf : List ℕ → List (List ℕ)
 wordsOf [] = []
 wordsOf (c ∷ cs) = elim (eqb c 0) [ true ↦ [] ∷ wordsOf cs | false ↦ startedBy c (wordsOf cs) ]
 
+-- Whether two words are equal.
 unfoldable pub sameWord : List ℕ → List ℕ → Bool
 sameWord [] [] = true
 sameWord [] (y ∷ ys) = false
@@ -40,6 +42,7 @@ pub data Said : Type 0 where
   numbers : List ℕ → Said
   nothing : Said
 
+-- A word before others.
 unfoldable pub saidAfter : Word → Said → Said
 saidAfter (Number x) (numbers xs) = numbers (x ∷ xs)
 saidAfter (Number x) nothing = nothing
@@ -56,6 +59,7 @@ abbrev pub countOf : Count → List ℕ → Said
 countOf (Numbers n) values = numbers (take n values)
 countOf NoNumbers values = nothing
 
+-- A count is at most the length of the array.
 abbrev pub CountWithin : Count → ℕ → Type 0
 CountWithin (Numbers n) most = n ≤ most
 CountWithin NoNumbers most = Unit {0}
