@@ -1,4 +1,4 @@
--- The version of the library, 0.2.0, as one number.
+-- The version of the library: its three parts, and one number of them.
 use Prim.Native.Nat.{ℕ, _+_, _*_}
 
 abbrev pub major : ℕ

@@ -25,14 +25,16 @@ fn explain_refusal(s: &[u8]) {
     }
 }
 
+// Prints the page of a sheet and, where that was done and the sheet is refused, says why.
 fn file(s: &[u8]) {
     if print_page(s) {
         explain_refusal(s);
     }
 }
 
+// What is read is as long as what the page goes by: the types of the two agree only where their lengths do.
 fn main() {
-    let mut sheet = [0u8; console::INPUT];
+    let mut sheet = [0u8; page::INPUT];
     match console::read_sheet(&mut sheet) {
         Reading::Read { bytes } => file(&sheet[..bytes]),
         Reading::Failed => console::unread(b"filing"),
