@@ -1,4 +1,4 @@
-/* limbatue.h: race cards, fields and their prime forms. The verified library, version 0.2.0, for C99, C++11 and whatever calls C.
+/* limbatue.h: race cards, fields and their prime forms. The verified library, version 0.3.0, for C99, C++11 and whatever calls C.
  *
  * Link liblimbatue.a. Where it is installed, `pkg-config --cflags --libs limbatue` prints the options; in the repository, tools/archive proves it and writes
  * target/lib/liblimbatue.a. It is for Linux on x86-64, for programs and shared libraries alike. docs/SHEET.md tells what the bytes of a sheet are.
@@ -29,7 +29,7 @@
  *   7       line   line P: its kind is not under the number of kinds
  *   8       line   line P: its code is not under the number of codes
  *   9       kind   kind P: it has no norm, since it can not be cleared
- *   10      kind   kind P: its norm is over 1,000,000
+ *   10      kind   kind P: its norm is over 1,000,000,000
  *   11      0      the first field or kind number is too large
  *   11      1      the second field number is too large
  *   13      0      the round limit is over 8
@@ -46,8 +46,8 @@ extern "C" {
 #endif
 
 /* The version: 10000 x major + 100 x minor + patch. */
-#define LIMBATUE_VERSION 200
-#define LIMBATUE_VERSION_TEXT "0.2.0"
+#define LIMBATUE_VERSION 300
+#define LIMBATUE_VERSION_TEXT "0.3.0"
 
 /* Of what a call returned. */
 #define LIMBATUE_NUMBER(returned) ((returned) & 255u)

@@ -100,9 +100,9 @@ static void test_refused_sheets(void)
     EXPECT(REFUSED(numbers(), LIMBATUE_REFUSED_LAYOUT, 3));
     make_sheet(3, 2, 2, 0); /* kind 2 has no line */
     EXPECT(REFUSED(settle(), LIMBATUE_REFUSED_NO_NORM, 2));
-    make_sheet(4, 1, 4, 0); /* 1 leaves 200 of 0, 2 leaves 200 of 1, 3 leaves 200 of 2 */
-    sheet[20 + 1 * 6 + 2] = sheet[20 + 2 * 6 + 3] = sheet[20 + 3 * 6 + 4] = 200;
-    EXPECT(REFUSED(settle(), LIMBATUE_REFUSED_NORM_OVER_LIMIT, 3));
+    make_sheet(5, 1, 5, 0); /* 1 leaves 200 of 0, 2 leaves 200 of 1, 3 leaves 200 of 2, 4 leaves 200 of 3 */
+    sheet[20 + 1 * 7 + 2] = sheet[20 + 2 * 7 + 3] = sheet[20 + 3 * 7 + 4] = sheet[20 + 4 * 7 + 5] = 200;
+    EXPECT(REFUSED(settle(), LIMBATUE_REFUSED_NORM_OVER_LIMIT, 4));
 }
 
 /* Kinds of one line each, so that each is of norm 1 and prime only where it is kind 0; fields 0 and 1 are alike, field 2 is one token larger. */

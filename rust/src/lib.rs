@@ -182,9 +182,9 @@ pub fn numbers(sheet: &[u8]) -> Result<Numbers, Refusal> {
 /// assert_eq!(settled.stage(), 1);
 /// assert_eq!(settled.row(1)?, [2, 0]);
 ///
-/// let sheet = std::fs::read("testdata/million_and_one.sheet")?;
+/// let sheet = std::fs::read("testdata/billion_and_one.sheet")?;
 /// let refusal = limbatue::settle(&sheet).unwrap_err();
-/// assert_eq!(refusal.to_string(), "kind 5: its norm is over 1,000,000");
+/// assert_eq!(refusal.to_string(), "kind 5: its norm is over 1,000,000,000");
 /// # Ok::<(), Box<dyn std::error::Error>>(())
 /// ```
 pub fn settle(sheet: &[u8]) -> Result<Settled, Refusal> {

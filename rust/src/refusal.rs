@@ -38,7 +38,7 @@ pub enum Reason {
     LineCode,
     /// 9: a kind has no norm, since it can not be cleared. The place is the lowest such kind.
     NoNorm,
-    /// 10: a kind's norm is over 1,000,000. The place is the lowest such kind.
+    /// 10: a kind's norm is over 1,000,000,000. The place is the lowest such kind.
     NormOverLimit,
     /// 11: a field or kind number is too large. The place is 0 for the first number, 1 for the second.
     Number,
@@ -145,7 +145,7 @@ impl fmt::Display for Refusal {
             (Reason::LineKind, _) => write!(f, "line {place}: its kind is not under the number of kinds"),
             (Reason::LineCode, _) => write!(f, "line {place}: its code is not under the number of codes"),
             (Reason::NoNorm, _) => write!(f, "kind {place}: it has no norm, since it can not be cleared"),
-            (Reason::NormOverLimit, _) => write!(f, "kind {place}: its norm is over 1,000,000"),
+            (Reason::NormOverLimit, _) => write!(f, "kind {place}: its norm is over 1,000,000,000"),
             (Reason::Number, 0) => f.write_str("the first field or kind number is too large"),
             (Reason::Number, 1) => f.write_str("the second field number is too large"),
             (Reason::RoundLimit, _) => f.write_str("the round limit is over 8"),

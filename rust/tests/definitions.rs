@@ -177,14 +177,15 @@ fn walks_and_their_counts() {
 
 #[test]
 fn a_missing_norm_comes_before_one_over_the_limit() {
-    // Kind 0 leaves 255 of kind 1, which leaves 255 of kind 2, which leaves 255 of kind 3; kind 4 has no line.
-    let mut sheet = vec![5, 0, 1, 0, 4, 0, 0, 0, 20, 0, 0, 0, 48, 0, 0, 0, 48, 0, 0, 0];
-    sheet.extend([0, 0, 0, 255, 0, 0, 0, 1, 0, 0, 0, 255, 0, 0, 2, 0, 0, 0, 0, 255, 0, 3, 0, 0, 0, 0, 0, 0]);
-    assert_eq!(accept(&sheet).err(), Some(Refusal { number: 9, place: 4 }));
-    // With one more line, kind 4 leaves kind 0 and is over the limit as well; kind 0 is the lowest.
-    sheet[4] = 5;
-    sheet.extend([4, 0, 1, 0, 0, 0, 0]);
-    sheet[12] = 55;
-    sheet[16] = 55;
+    // Kind 0 leaves 255 of kind 1, which leaves 255 of kind 2, and so on up to kind 4; kind 5 has no line.
+    let mut sheet = vec![6, 0, 1, 0, 5, 0, 0, 0, 20, 0, 0, 0, 60, 0, 0, 0, 60, 0, 0, 0];
+    sheet.extend([0, 0, 0, 255, 0, 0, 0, 0, 1, 0, 0, 0, 255, 0, 0, 0, 2, 0, 0, 0, 0, 255, 0, 0]);
+    sheet.extend([3, 0, 0, 0, 0, 0, 255, 0, 4, 0, 0, 0, 0, 0, 0, 0]);
+    assert_eq!(accept(&sheet).err(), Some(Refusal { number: 9, place: 5 }));
+    // With one more line, kind 5 leaves kind 0 and is over the limit as well; kind 0 is the lowest.
+    sheet[4] = 6;
+    sheet.extend([5, 0, 1, 0, 0, 0, 0, 0]);
+    sheet[12] = 68;
+    sheet[16] = 68;
     assert_eq!(accept(&sheet).err(), Some(Refusal { number: 10, place: 0 }));
 }

@@ -5,7 +5,7 @@ use std::collections::BTreeMap;
 use independent::base::{Base, Refinement};
 use independent::calls::{compare_implementations, independent};
 use independent::generator::{COSTLY, Damage, FAMILIES, Family, Size, apply, draft, measured, sample};
-use independent::norm::{NormedCard, accept};
+use independent::norm::{NORM_LIMIT, NormedCard, accept};
 use independent::page::page;
 use independent::random::Random;
 use independent::sheet::{MOST_BYTES, Refusal};
@@ -84,6 +84,24 @@ fn sheets_of_every_family_size_and_damage() {
     assert!(damaged[&(Damage::Flipped, false)] > 100);
     assert!(!damaged.contains_key(&(Damage::Truncated, true)));
     assert!(!damaged.contains_key(&(Damage::Extended, true)));
+}
+
+/// What the comparison with the library meets near the greatest norm taken.
+#[test]
+fn norms_at_the_limit_and_past_it() {
+    let (mut close, mut one_less, mut equal, mut over) = (0, 0, 0, 0);
+    for number in 0..20_000 {
+        match accept(&sample(SEED, number).bytes) {
+            Err(refusal) => over += u64::from(refusal.number == 10),
+            Ok(normed) => match NORM_LIMIT - normed.norms.into_iter().max().expect("a kind") {
+                0 => equal += 1,
+                1 => one_less += 1,
+                less => close += u64::from(less < NORM_LIMIT / 2),
+            },
+        }
+    }
+    println!("over half the limit {close}, one less {one_less}, at the limit {equal}, over it {over}");
+    assert!(close > 20 && one_less > 20 && equal > 20 && over > 20, "{close} {one_less} {equal} {over}");
 }
 
 #[test]

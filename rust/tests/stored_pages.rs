@@ -28,7 +28,7 @@ fn pages_agree() {
             compared += 1;
         }
     }
-    assert_eq!(compared, 46);
+    assert_eq!(compared, 50);
 }
 
 #[test]
@@ -67,12 +67,17 @@ fn refused_calls_alter_nothing() {
 }
 
 #[test]
-fn rows_of_the_million() {
-    let mut table = [7; 40];
-    assert_eq!(settle(&sheet("million"), &mut table), Ok(1));
-    assert_eq!(row(&table, 6, 5), [1_000_000, 0, 0, 0, 0, 0]);
-    assert_eq!(table[36..], [7; 4]);
-    assert!(row(&table, 7, 0).is_empty());
+fn rows_of_great_norms() {
+    for (name, norm) in [("million", 1_000_000), ("million_and_one", 1_000_001), ("billion", 1_000_000_000)] {
+        let mut table = [7; 40];
+        assert_eq!(settle(&sheet(name), &mut table), Ok(1));
+        assert_eq!(row(&table, 6, 5), [norm, 0, 0, 0, 0, 0]);
+        assert_eq!(table[36..], [7; 4]);
+        assert!(row(&table, 7, 0).is_empty());
+    }
+    let mut table = [7; 36];
+    let refusal = settle(&sheet("billion_and_one"), &mut table).expect_err("one over the limit");
+    assert_eq!((refusal.number, refusal.place, table), (10, 5, [7; 36]));
 }
 
 #[test]

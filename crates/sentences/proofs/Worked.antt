@@ -1,10 +1,15 @@
--- Examples, closed by computation: a sentence of each kind, with the first and the last place, and numbers and places that have none.
-use mathlib.Core.List.{List, [], _∷_, map}
+-- Closed by computation: examples, a sentence of each kind, with the first and the last place, and numbers and places that have none; and the limits in the sentences.
+use mathlib.Core.Bool.{true, false}
+use mathlib.Core.List.{List, [], _∷_, _++_, map}
 use mathlib.Core.Path.{_≡_, refl}
-use Prim.Native.Nat.{ℕ}
+use Prim.Native.Nat.{ℕ, _%_}
 use Prim.Native.String.{String}
-use Rattle.model.specs.Finite.{pick}
+use lib.Dec.{eqb, ltb}
+use lib.ListN.{length}
+use Rattle.model.specs.Finite.{both, pick}
+use Rattle.model.specs.Limits.{mostKinds, mostCodes, mostLines, mostFields, normLimit, mostRounds}
 use Rattle.model.specs.Page.{bytes, digits, number, newline}
+use Rattle.model.specs.Sheet.{linesOffset}
 use Rattle.sentences.specs.Sentence.{sentences, among, has, named, sentenceOf}
 
 pub record Example : Type 0 where
@@ -23,7 +28,7 @@ examples =
     ∷ at 7 3 "line 3: its kind is not under the number of kinds\n"
     ∷ at 8 255 "line 255: its code is not under the number of codes\n"
     ∷ at 9 0 "kind 0: it has no norm, since it can not be cleared\n"
-    ∷ at 10 5 "kind 5: its norm is over 1,000,000\n"
+    ∷ at 10 5 "kind 5: its norm is over 1,000,000,000\n"
     ∷ at 11 0 "the first field or kind number is too large\n"
     ∷ at 11 1 "the second field number is too large\n"
     ∷ at 12 0 "a buffer or table is too short\n"
@@ -37,3 +42,25 @@ examples =
 pub worked : map (λ (e : Example). sentenceOf (e .number) (e .place)) examples ≡ map (λ (e : Example). bytes (e .text)) examples
 unfolding sentenceOf sentences pick has among named bytes digits number newline
 worked = refl
+
+-- Digits, with a comma before every three.
+unfoldable pub grouped : List ℕ → List ℕ
+grouped [] = []
+grouped (d ∷ ds) = d ∷ elim (both (ltb 0 (length ds)) (eqb (length ds % 3) 0)) [ true ↦ bytes "," ++ grouped ds | false ↦ grouped ds ]
+
+-- Every number in a sentence is the model's limit.
+pub limits-said
+    : map (λ (k : ℕ). sentenceOf k 0) (1 ∷ 2 ∷ 3 ∷ 4 ∷ 5 ∷ 6 ∷ 10 ∷ 13 ∷ [])
+    ≡ map (λ (t : List ℕ). t ++ newline) (
+    (bytes "the sheet has under " ++ number linesOffset ++ bytes " bytes")
+    ∷ (bytes "the number of kinds is not from 1 to " ++ number mostKinds)
+    ∷ (bytes "the number of codes is not from 1 to " ++ number mostCodes)
+    ∷ (bytes "there are over " ++ number mostLines ++ bytes " lines")
+    ∷ (bytes "there are over " ++ number mostFields ++ bytes " fields")
+    ∷ (bytes "the offset of the lines is not " ++ number linesOffset)
+    ∷ (bytes "kind 0: its norm is over " ++ grouped (number normLimit))
+    ∷ (bytes "the round limit is over " ++ number mostRounds)
+    ∷ []
+    )
+unfolding sentenceOf sentences pick has among named grouped bytes digits number newline
+limits-said = refl

@@ -18,7 +18,7 @@ pub record Sentence : Type 0 where
 abbrev pub row : ℕ → Place → String → Sentence
 row k q words = record { number = k; places = q; words = bytes words ++ newline }
 
--- The table. 1,000,000 is the model's `normLimit`.
+-- The table. Its numbers are the model's limits (`proofs/Worked`, `limits-said`).
 unfoldable pub sentences : List Sentence
 sentences =
     row 1 (Only 0) "the sheet has under 20 bytes"
@@ -33,7 +33,7 @@ sentences =
     ∷ row 7 Line "its kind is not under the number of kinds"
     ∷ row 8 Line "its code is not under the number of codes"
     ∷ row 9 Kind "it has no norm, since it can not be cleared"
-    ∷ row 10 Kind "its norm is over 1,000,000"
+    ∷ row 10 Kind "its norm is over 1,000,000,000"
     ∷ row 11 (Only 0) "the first field or kind number is too large"
     ∷ row 11 (Only 1) "the second field number is too large"
     ∷ row 13 (Only 0) "the round limit is over 8"

@@ -100,8 +100,8 @@ const TABLE: [Row; ROWS] = [
     Row {
         number: 10,
         places: Place::Kind,
-        count: 27,
-        words: *b"its norm is over 1,000,000\n                         ",
+        count: 31,
+        words: *b"its norm is over 1,000,000,000\n                     ",
     },
     Row {
         number: 11,

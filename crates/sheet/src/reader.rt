@@ -25,7 +25,7 @@ impl Card {
 
     pub const FIELDS: usize = 64;
 
-    pub const NORM: u32 = 1_000_000;
+    pub const NORM: u32 = 1_000_000_000;
 
     // The bytes of the header: "offset of the lines: 20".
     pub const HEADER: usize = 20;

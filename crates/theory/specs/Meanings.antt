@@ -41,7 +41,7 @@ pub record Places (s : List ℕ) : Type 0 where
   -- "a kind has no norm", at the "lowest such".
   pub missing-place : firstOf (sheetChecks s) ≡ clear → (k : ℕ) → (firstOf (acceptChecks s) ≡ refusal 9 k)
       ↔ ((k < kindCount s) × ((r : ℕ) → ¬ Clears (On (cardOf s)) r (unit k)) × ((j : ℕ) → j < k → (v : ℕ) × IsNorm (cardOf s) (unit j) v))
-  -- "a norm over 1,000,000", at the "lowest such": every kind has a norm, and those of lower kinds are within the limit.
+  -- "a norm over" the greatest taken, at the "lowest such": every kind has a norm, and those of lower kinds are within the limit.
   pub over-place : firstOf (sheetChecks s) ≡ clear → (k : ℕ) → (firstOf (acceptChecks s) ≡ refusal 10 k)
       ↔ ((k < kindCount s) × ((v : ℕ) × (normLimit < v) × IsNorm (cardOf s) (unit k) v) × ((j : ℕ) → j < kindCount s → (v : ℕ) × IsNorm (cardOf s) (unit j) v)
       × ((j : ℕ) → j < k → (v : ℕ) × (v ≤ normLimit) × IsNorm (cardOf s) (unit j) v))

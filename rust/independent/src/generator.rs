@@ -1,8 +1,9 @@
 //! Sheets from a seed: valid and damaged, small and at the limits, and families that make settling
 //! costly.
 
+use crate::norm::{NORM_LIMIT, kind_norms};
 use crate::random::Random;
-use crate::sheet::{HEADER_BYTES, MOST_CODES, MOST_FIELDS, MOST_KINDS, MOST_LINES};
+use crate::sheet::{HEADER_BYTES, MOST_CODES, MOST_FIELDS, MOST_KINDS, MOST_LINES, read};
 
 /// A sheet as its parts, before it becomes bytes.
 #[derive(Clone, Debug)]
@@ -350,11 +351,11 @@ fn shuffle_lines(draft: &mut Draft, random: &mut Random) {
     draft.lines = order.into_iter().map(|number| draft.lines[number].clone()).collect();
 }
 
-/// Each kind leaves a number of the one before it. The norms stay below the limit, come close to it,
-/// meet it or pass it.
+/// Each kind leaves a number of the one before it. The norms stay below a limit, come close to it, meet
+/// it or pass it: the greatest norm taken or a tenth more; or 1,000,000, which few kinds can get to.
 fn ladder(kinds: usize, random: &mut Random) -> Draft {
     let mut draft = Draft::new(kinds, random.between(1, 2));
-    let limit: u64 = if random.once_in(3) { 1_100_000 } else { 1_000_000 };
+    let limit = random.choose(&[1_000_000, NORM_LIMIT, NORM_LIMIT, NORM_LIMIT + NORM_LIMIT / 10]);
     let mut norm = 1;
     draft.add_line(0, 0, &[]);
     for kind in 1..kinds {
@@ -381,7 +382,30 @@ fn ladder(kinds: usize, random: &mut Random) -> Draft {
             }
         }
     }
+    if random.once_in(3) {
+        clear_last_in(&mut draft, NORM_LIMIT - 1 + random.below(3) as u64);
+    }
     draft
+}
+
+/// Gives the last kind a single line, so that it is cleared in that many reads where the norms of the
+/// others make up that number, and in fewer where they do not. No line leaves the last kind.
+fn clear_last_in(draft: &mut Draft, reads: u64) {
+    let last = draft.kinds - 1;
+    draft.lines.retain(|line| line.kind != last);
+    let bytes = draft.bytes();
+    let norms = kind_norms(&read(&bytes).expect("a ladder is well formed"));
+    let mut by_norm: Vec<(u64, usize)> =
+        norms.into_iter().zip(0..).filter_map(|(norm, kind)| Some((norm?, kind))).collect();
+    by_norm.sort();
+    let mut rest = reads - 1;
+    let mut left = Vec::new();
+    for (norm, kind) in by_norm.into_iter().rev() {
+        let count = (rest / norm).min(255);
+        rest -= count * norm;
+        left.push((kind, count as u8));
+    }
+    draft.add_line(last, 0, &left);
 }
 
 /// Lines of random bytes; in most cases their kinds and codes are in range.

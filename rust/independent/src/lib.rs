@@ -1,6 +1,6 @@
-//! Document 01 ("Race cards, fields and their prime forms", the paper that asks for Limbatue)
-//! implemented a second time, from that document's definitions and document 000 (Hirshfeld, Jerrum,
-//! Moller, 1996, the algorithm). It shares no code with the verified library. The tests hold the two against each other, and the measurements compare
+//! Document 01 ("Race cards, fields and their prime forms", the paper that asks for Limbatue), as
+//! request 1 of document 02 changes it, implemented a second time, from that document's definitions
+//! and document 000 (Hirshfeld, Jerrum, Moller, 1996, the algorithm). It shares no code with the verified library. The tests hold the two against each other, and the measurements compare
 //! their times. Sentences in quotes are document 01's own.
 
 /// The decomposition base from stage to stage: document 000's algorithm.

@@ -2,8 +2,8 @@
 
 use crate::sheet::{Card, Refusal, read, refused};
 
-/// "The greatest norm taken is 1,000,000."
-pub const NORM_LIMIT: u64 = 1_000_000;
+/// "The greatest norm taken", which document 02 raises to 1,000,000,000.
+pub const NORM_LIMIT: u64 = 1_000_000_000;
 
 /// A card whose kinds all have a norm within the limit.
 #[derive(Clone, Debug)]
