@@ -48,7 +48,7 @@ unfoldable pub grouped : List ℕ → List ℕ
 grouped [] = []
 grouped (d ∷ ds) = d ∷ elim (both (ltb 0 (length ds)) (eqb (length ds % 3) 0)) [ true ↦ bytes "," ++ grouped ds | false ↦ grouped ds ]
 
--- Every number in a sentence is the model's limit.
+-- Each limit in a sentence is the model's.
 pub limits-said
     : map (λ (k : ℕ). sentenceOf k 0) (1 ∷ 2 ∷ 3 ∷ 4 ∷ 5 ∷ 6 ∷ 10 ∷ 13 ∷ [])
     ≡ map (λ (t : List ℕ). t ++ newline) (

@@ -18,7 +18,7 @@ pub record Sentence : Type 0 where
 abbrev pub row : ℕ → Place → String → Sentence
 row k q words = record { number = k; places = q; words = bytes words ++ newline }
 
--- The table. Its numbers are the model's limits (`proofs/Worked`, `limits-said`).
+-- The table. The limits in it are the model's (`proofs/Worked`, `limits-said`).
 unfoldable pub sentences : List Sentence
 sentences =
     row 1 (Only 0) "the sheet has under 20 bytes"

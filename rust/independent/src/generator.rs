@@ -352,7 +352,7 @@ fn shuffle_lines(draft: &mut Draft, random: &mut Random) {
 }
 
 /// Each kind leaves a number of the one before it. The norms stay below a limit, come close to it, meet
-/// it or pass it: the greatest norm taken or a tenth more; or 1,000,000, which few kinds can get to.
+/// it or pass it: the greatest norm taken, or a tenth more, or 1,000,000, which four kinds can pass.
 fn ladder(kinds: usize, random: &mut Random) -> Draft {
     let mut draft = Draft::new(kinds, random.between(1, 2));
     let limit = random.choose(&[1_000_000, NORM_LIMIT, NORM_LIMIT, NORM_LIMIT + NORM_LIMIT / 10]);
