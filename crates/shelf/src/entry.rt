@@ -1,0 +1,27 @@
+// An entry of the table.
+ghost use mathlib.Core.Path.{_≡_};
+ghost use Prim.Native.Nat.{_≤_};
+ghost use lib.Dec.{T};
+ghost use Rattle.model.specs.Limits.{mostKinds, mostTokens};
+ghost use Rattle.model.specs.Shelf.{entry};
+ghost use Rattle.shelf.specs.Rule.{obeysRule};
+use crate::table::TABLE;
+
+// The sizes of a row, "t from 0 to 16 tokens".
+const SIZES: usize = 17;
+
+// The constant table: every entry is what the addition rule makes of those before it.
+fn entries() -> [u64; 561]
+    ensures { λ r. ⌜ T (obeysRule r) ⌝ }
+{
+    TABLE
+}
+
+// "how many fields there are" of t tokens of k kinds.
+pub fn entry_of(k: usize, t: usize) -> u64
+    requires { ⌜ (k ≤ mostKinds) × (t ≤ mostTokens) ⌝ }
+    ensures { λ r. ⌜ r ≡ entry k t ⌝ }
+{
+    let table = entries();
+    table[k * SIZES + t]
+}
