@@ -52,3 +52,6 @@ pub mod Decimals
 pub mod Pages
 pub mod Meanings
 pub mod Demands
+-- For the crates above: buffers that are written in a loop, and what an enum tells.
+pub mod Writing
+pub mod Told

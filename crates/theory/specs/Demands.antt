@@ -66,7 +66,6 @@ pub record Demand1 (s : List ℕ) : Type 0 where
   pub row-taken : (n k : ℕ) (table : List ℕ) → (rowCheckOf n k table ≡ clear) ↔ ((1 ≤ n) × (n ≤ mostKinds) × (k < n) × (n * n ≤ length table))
   pub row-part : (n k : ℕ) (table : List ℕ) → rowCheckOf n k table ≡ clear → rowOf n k table ≡ take n (drop (k * n) table)
   pub row-refused : (n k : ℕ) (table : List ℕ) → (rowOf n k table ≡ []) ↔ ((q : ℕ) × (p : ℕ) × (rowCheckOf n k table ≡ refusal q p))
-
   -- Shelf numbers (document 02, request 2): "demand 1 speaks of the inputs they refuse too". Field to number is not refused just when the sheet is within the limits, the field is one of
   -- its fields and has at most 16 tokens; then it answers the field's size and number.
   pub number-taken : (i : ℕ) → (firstOf (shelfNumberChecks s i) ≡ clear) ↔ (Limits s × (i < fieldCount s) × (tokens (kindCount s) (fieldOf s i) ≤ mostTokens))

@@ -73,8 +73,11 @@ with-fewer-requires c κs =
 add-number : tie.Need-add-number Inv-loop μ-loop
 add-number c =
     let s = c .before .before .before .before .before .before .before in
-    omega (arith, turn (c .before) (c .with-fewer .result) .1 (c .with-fewer .ensures) .sum,
-    numbered-fits (s .args .kinds .now) (at (s .args .field .now)) (s .args .size) (s .pre .0) (s .pre .1 .0) (s .pre .1 .1))
+    omega (
+      arith,
+      turn (c .before) (c .with-fewer .result) .1 (c .with-fewer .ensures) .sum,
+      numbered-fits (s .args .kinds .now) (at (s .args .field .now)) (s .args .size) (s .pre .0) (s .pre .1 .0) (s .pre .1 .1),
+    )
 
 -- src/number.rt:40:9
 sub-left : tie.Need-sub-left Inv-loop μ-loop
