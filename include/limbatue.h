@@ -146,13 +146,13 @@ uint32_t limbatue_walk(const uint8_t *sheet, size_t sheet_length, size_t first, 
  * answer[0]: the length of the page. Refuses 12 alone. */
 uint32_t limbatue_page(const uint8_t *sheet, size_t sheet_length, uint8_t *page, size_t page_length, uint64_t *answer, size_t answer_length);
 
-/* Shelf number. The fields of so many tokens, their size, are listed with the smaller count of the last kind first, then of the one before it, and so on, and
- * numbered from 0; the field need not be in its prime form. Reads the sheet. Writes nothing but the answer.
+/* Shelf number. The size of a field is its tokens in all; the fields of a size are listed with the smaller count of the last kind first, then of the one before
+ * it, and so on, from number 0. Reads the sheet. Writes nothing but the answer.
  * answer[0]: the size of the field; answer[1]: its number among the fields of that size. Refuses 1 to 12, and 14. */
 uint32_t limbatue_shelf_number(const uint8_t *sheet, size_t sheet_length, size_t field, uint64_t *answer, size_t answer_length);
 
-/* Shelf field, the other direction: the field of that size and that shelf number. Reads the sheet, of whose fields it names none. Writes n counts. It has no
- * answer array. Refuses 1 to 10, 12, 14 and 15. */
+/* Shelf field: of the fields of a size the one of that number, whether or not the sheet has it. Reads the sheet. Writes n counts. It has no answer array.
+ * Refuses 1 to 10, 12, 14 and 15. */
 uint32_t limbatue_shelf_field(const uint8_t *sheet, size_t sheet_length, size_t size, uint64_t number, uint16_t *counts, size_t counts_length);
 
 #ifdef __cplusplus

@@ -20,8 +20,8 @@ pub struct ShelfNumber {
     pub number: u64,
 }
 
-/// The size of a field and its number among the fields of that size. These are listed with the smaller count of the last kind first, then of the one before it, and so on, from number 0; each has a number of
-/// its own, also where two are the same. Refused are 1 to 11, and 14 where the field has over 16 tokens.
+/// The size of a field and its number among the fields of that size. These are listed with the smaller count of the last kind first, then of the one before it, and so on, from number 0. Refused are 1 to 11, and
+/// 14 where the field has over 16 tokens.
 ///
 /// ```
 /// use limbatue::{Reason, ShelfNumber};
@@ -41,8 +41,7 @@ pub fn shelf_number(sheet: &[u8], field: usize) -> Result<ShelfNumber, Refusal> 
     Ok(ShelfNumber { size: answer[0] as usize, number: answer[1] })
 }
 
-/// The field of a size and a number: a count for each kind of the sheet, which need not have this field. Refused are 1 to 10, 14 where the size is over 16 tokens, and 15 where the number is not under the number of
-/// fields of that size.
+/// The field of a size and a number, as a count for each kind, whether or not the sheet has it. Refused are 1 to 10, 14 where the size is over 16, and 15 where there are not so many fields of that size.
 ///
 /// ```
 /// let sheet = std::fs::read("testdata/page36.sheet")?;
