@@ -192,6 +192,8 @@ static void test_shelf_field(void)
     make_fields();
     memset(shelved, 7, sizeof shelved);
     EXPECT(REFUSED(shelf_field(LIMBATUE_TOKENS_MOST + 1, 0), LIMBATUE_REFUSED_SIZE, 0));
+    EXPECT(REFUSED(shelf_field(256, 0), LIMBATUE_REFUSED_SIZE, 0));
+    EXPECT(REFUSED(shelf_field((size_t)UINT64_C(4294967296), 0), LIMBATUE_REFUSED_SIZE, 0));
     EXPECT(REFUSED(shelf_field(SIZE_MAX, 0), LIMBATUE_REFUSED_SIZE, 0));
     EXPECT(REFUSED(shelf_field(LIMBATUE_TOKENS_MOST, UINT64_C(1503232609098)), LIMBATUE_REFUSED_SHELF_NUMBER, 0));
     EXPECT(REFUSED(shelf_field(0, 1), LIMBATUE_REFUSED_SHELF_NUMBER, 0));
@@ -204,8 +206,9 @@ static void test_shelf_field(void)
     EXPECT(shelf_field(LIMBATUE_TOKENS_MOST, 1) == LIMBATUE_DONE && shelved[0] == 15 && shelved[1] == 1 && shelved[31] == 0 && shelved[32] == kept);
     EXPECT(shelf_field(0, 0) == LIMBATUE_DONE && shelved[0] == 0 && shelved[1] == 0 && shelved[32] == kept);
     make_sheet(2, 1, 2, 0); /* of 2 tokens: 2 0, then 1 1, then 0 2 */
-    EXPECT(limbatue_shelf_field(sheet, length, 2, 1, shelved, LIMBATUE_COUNTS_MOST) == LIMBATUE_DONE && shelved[0] == 1 && shelved[1] == 1 && shelved[2] == 0 && shelved[32] == kept);
-    EXPECT(limbatue_shelf_field(sheet, length, 2, 2, shelved, 2) == LIMBATUE_DONE && shelved[0] == 0 && shelved[1] == 2 && shelved[2] == 0);
+    memset(shelved, 7, sizeof shelved);
+    EXPECT(shelf_field(2, 1) == LIMBATUE_DONE && shelved[0] == 1 && shelved[1] == 1 && shelved[2] == kept && shelved[31] == kept);
+    EXPECT(limbatue_shelf_field(sheet, length, 2, 2, shelved, 2) == LIMBATUE_DONE && shelved[0] == 0 && shelved[1] == 2 && shelved[2] == kept);
     EXPECT(REFUSED(shelf_field(2, 3), LIMBATUE_REFUSED_SHELF_NUMBER, 0));
     make_sheet(3, 2, 2, 0); /* kind 2 has no line */
     EXPECT(REFUSED(shelf_field(LIMBATUE_TOKENS_MOST + 1, 0), LIMBATUE_REFUSED_NO_NORM, 2));

@@ -73,11 +73,11 @@ fn every_refusal_and_every_answer_is_met() {
     }
 }
 
-/// What the comparison with the library meets near the greatest size that has shelf numbers, and at the
-/// greatest number of kinds.
+/// What the comparison with the library meets near the greatest size that has shelf numbers, at the greatest
+/// number of kinds, and where tokens added up in 16 bits would be few.
 #[test]
 fn fields_of_16_tokens_and_of_17() {
-    let (mut most, mut one_over, mut of_32_kinds) = (0, 0, 0);
+    let (mut most, mut one_over, mut of_32_kinds, mut few_in_16_bits) = (0, 0, 0, 0);
     for number in 0..20_000 {
         let bytes = sample(SEED, number).bytes;
         let Ok(normed) = accept(&bytes) else { continue };
@@ -86,10 +86,11 @@ fn fields_of_16_tokens_and_of_17() {
             most += u64::from(tokens == MOST_TOKENS);
             one_over += u64::from(tokens == MOST_TOKENS + 1);
             of_32_kinds += u64::from(normed.card.kinds == MOST_KINDS && tokens <= MOST_TOKENS);
+            few_in_16_bits += u64::from(tokens >= 1 << 16 && tokens % (1 << 16) <= MOST_TOKENS);
         }
     }
-    println!("16 tokens {most}, 17 tokens {one_over}, at most 16 tokens of 32 kinds {of_32_kinds}");
-    assert!(most > 300 && one_over > 300 && of_32_kinds > 1_000, "{most} {one_over} {of_32_kinds}");
+    println!("16 tokens {most}, 17 {one_over}, at most 16 of 32 kinds {of_32_kinds}, few in 16 bits {few_in_16_bits}");
+    assert!(most > 300 && one_over > 300 && of_32_kinds > 1_000 && few_in_16_bits > 300);
 }
 
 #[test]

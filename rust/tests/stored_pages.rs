@@ -30,7 +30,7 @@ fn pages_agree() {
             compared += 1;
         }
     }
-    assert_eq!(compared, 74);
+    assert_eq!(compared, 77);
 }
 
 #[test]

@@ -602,7 +602,8 @@ fn add_fields(draft: &mut Draft, fields: usize, size: Size, random: &mut Random)
 }
 
 /// Puts fields of few tokens, up to two more than a field may have that has a shelf number, in the place of
-/// half of the fields. A token is in half of the cases of the kind of the one before it.
+/// half of the fields. A token is in half of the cases of the kind of the one before it. One in eight of
+/// these fields has 65,535 tokens of a kind, so that it has few if its tokens are added up in 16 bits.
 fn put_few_tokens(draft: &mut Draft, random: &mut Random) {
     for field in &mut draft.fields {
         if random.once_in(2) {
@@ -613,6 +614,9 @@ fn put_few_tokens(draft: &mut Draft, random: &mut Random) {
                     kind = random.below(draft.kinds);
                 }
                 field[kind] += 1;
+            }
+            if random.once_in(8) {
+                field[random.below(draft.kinds)] = u16::MAX;
             }
         }
     }
