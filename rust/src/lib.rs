@@ -10,9 +10,9 @@
 //! | whether two fields are the same | [`compare`] | |
 //! | a field's prime form | [`prime_form`] | [`prime_form_into`] |
 //! | the page, all of this as text | [`page`] | [`page_into`] |
-//! | a small field's size and its number among the fields of that size | [`shelf_number`] | |
-//! | the field of a size and a number | [`shelf_field`] | [`shelf_field_into`] |
 //! | how a bounded game on two fields ends | [`walk`], [`Session`] | |
+//! | the size of a small field, and its number among the fields of that size | [`shelf_number`] | |
+//! | the field of a size and a number | [`shelf_field`] | [`shelf_field_into`] |
 //!
 //! Every function may be given any bytes and any numbers. What it can not do it refuses: a [`Refusal`] says why and where, and whatever was lent is as it was.
 //! The functions keep no state, so any number of threads may call them. A call takes under 256 KB of stack (`include/limbatue.h` has each call's figure).

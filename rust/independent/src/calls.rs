@@ -129,9 +129,6 @@ impl Lent {
     }
 }
 
-/// The fields of 16 tokens of 32 kinds.
-const GREATEST_ENTRY: u64 = 1_503_232_609_098;
-
 /// Makes a call on the independent implementation.
 pub fn independent(call: &Call, lent: &mut Lent) -> Answer {
     let sheet = lent.sheet.lent();
@@ -198,6 +195,9 @@ pub fn calls(sheet: &[u8], random: &mut Random) -> Vec<Call> {
     }
     calls
 }
+
+/// How many fields of 16 tokens of 32 kinds there are: no entry is greater.
+const GREATEST_ENTRY: u64 = 1_503_232_609_098;
 
 /// A number of a field of a size, in most cases under the entry: any, one of the first or one of the last;
 /// else the entry or a number past it. For a size that has no numbers, it goes by the greatest that has.
