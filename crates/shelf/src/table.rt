@@ -1,4 +1,4 @@
-// How many fields there are of t tokens of k kinds, for k from 0 to 32 and t from 0 to 16: entry 17 * k + t. The program `entries` prints this file; crates/entries/stdout is a link to it.
+// How many fields there are of t tokens of k kinds, for k from 0 to 32 and t from 0 to 16: entry 17 * k + t. The program `entries` prints this file.
 pub const TABLE: [u64; 561] = [
     1,
     0,
