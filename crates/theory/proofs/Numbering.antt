@@ -77,6 +77,15 @@ precedes-plus [] a b c p = p
 precedes-plus (k ∷ ks) a b c (inl h) = inl (omega arith)
 precedes-plus (k ∷ ks) a b c (inr h) = inr (omega (arith, h .0), precedes-plus ks a b c (h .1))
 
+-- Of two fields at most one comes before the other.
+pub precedes-one : (ks : List ℕ) (a b : Field) → Precedes ks a b → ¬ Precedes ks b a
+unfolding Precedes
+precedes-one [] a b p q = p
+precedes-one (k ∷ ks) a b (inl h) (inl l) = omega arith
+precedes-one (k ∷ ks) a b (inl h) (inr l) = omega (arith, l .0)
+precedes-one (k ∷ ks) a b (inr h) (inl l) = omega (arith, h .0)
+precedes-one (k ∷ ks) a b (inr h) (inr l) = precedes-one ks a b (h .1) (l .1)
+
 -- Members with none of a later kind, and members with some of it.
 flat : (k : ℕ) (ks : List ℕ) (t : ℕ) → ¬ List·Memᴰ k ks → (x y : Field) → List·Memᴰ x (listed ks t) → List·Memᴰ y (listed ks t) → Precedes ks x y → Precedes (k ∷ ks) x y
 unfolding Precedes
