@@ -8,10 +8,12 @@ use crate::answers::ShelfNumber;
 use crate::kinds::listed_kinds;
 use acceptance::accept::accept;
 use sheet::Card;
-use shelf::entry::TOKENS;
 use shelf::number::number_of;
 use validation::checks::Checked;
 use weights::fields::field_tokens;
+
+// "fields of up to 16 tokens"
+pub const TOKENS: usize = 16;
 
 // Any bytes, and any field number.
 pub fn shelf_number(s: &[u8], field: usize) -> ShelfNumber

@@ -7,9 +7,6 @@ ghost use Rattle.model.specs.Shelf.{entry};
 ghost use Rattle.shelf.specs.Rule.{obeysRule};
 use crate::table::TABLE;
 
-// "fields of up to 16 tokens"
-pub const TOKENS: usize = 16;
-
 // The sizes of a row, "t from 0 to 16 tokens".
 const SIZES: usize = 17;
 
