@@ -4,7 +4,9 @@ use crate::table::verb_of;
 use replies::reply::Reply;
 use replies::reply::no_call;
 use verbs::compare::compare_fields;
+use verbs::field::numbered_field;
 use verbs::form::field_form;
+use verbs::number::field_number;
 use verbs::settle::settle;
 use verbs::settle::settled_row;
 use verbs::walk::walk_fields;
@@ -34,6 +36,8 @@ fn call(s: &[u8], verb: Verb, numbers: &[u64], out: &mut [u8]) -> Reply
         Verb::Compare => compare_fields(s, numbers, out),
         Verb::Form => field_form(s, numbers, out),
         Verb::Walk => walk_fields(s, numbers, out),
+        Verb::Number => field_number(s, numbers, out),
+        Verb::Field => numbered_field(s, numbers, out),
         Verb::Other => no_call(),
     }
 }
