@@ -4,16 +4,15 @@ use mathlib.Core.Path.{_≡_, sym, _∙_, ap}
 use Prim.Native.Nat.{ℕ, _+_, _*_, _/_, _%_, _^_, _≤_, _<_}
 use native.Mathlib.Nat.{div-add-mod'}
 use native.Mathlib.Omega.{arith}
-use lib.ListN.{length, getD, take}
-use lib.Seq.{ext-getD, length-take-le, getD-take}
-use Rattle.model.specs.Finite.{listFrom}
+use lib.ListN.{length, getD}
+use lib.Seq.{ext-getD}
 use Rattle.model.specs.Field.{Field, at}
 use Rattle.model.specs.Base.{gain, settledStage}
 use Rattle.model.specs.Sheet.{kindCount, fieldCount, cardOf}
 use Rattle.model.specs.Limits.{Limits}
 use Rattle.model.specs.Refusal.{refusal, firstOf, acceptChecks, Accepted, settleChecks, compareChecks, formChecks}
 use Rattle.theory.specs.Widths.{Bytes}
-use Rattle.model.specs.Answer.{refused, given, Lent, different, settleOf, compareOf, formOf, tableOf, primeForm, written}
+use Rattle.model.specs.Answer.{refused, given, different, settleOf, compareOf, formOf, tableOf, primeForm, written}
 use Rattle.theory.proofs.Checks.{first-left, first-right}
 use Rattle.theory.proofs.Answers.{demand1}
 use Rattle.theory.proofs.Meanings.{meanings}

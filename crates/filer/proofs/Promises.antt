@@ -14,11 +14,11 @@ use Rattle.model.specs.Base.{settledStage, settledRow}
 use Rattle.theory.specs.Game.{Always, Answered}
 use Rattle.model.specs.Sheet.{kindCount, fieldCount, cardOf, fieldOf}
 use Rattle.model.specs.Limits.{Limits}
-use Rattle.model.specs.Refusal.{Accepted, Finding, clear, refusal, firstOf, settleChecks, compareChecks, formChecks}
+use Rattle.model.specs.Refusal.{Accepted, clear, refusal, firstOf, settleChecks, compareChecks, formChecks}
 use Rattle.theory.specs.Terms.{Before, BaseOf, Stage, Settled as IsSettled}
 use Rattle.theory.specs.Meanings.{Settles}
 use Rattle.theory.specs.Demands.{Demand2, Demand3}
-use Rattle.model.specs.Answer.{Answer, refused, given, Lent, same, different, settleOf, compareOf, formOf, rowOf, rowCheckOf, tableOf, primeForm, written}
+use Rattle.model.specs.Answer.{refused, given, Lent, same, different, settleOf, compareOf, formOf, rowOf, rowCheckOf, tableOf, primeForm, written}
 use Rattle.theory.proofs.Lists.{length-from}
 use Rattle.theory.proofs.Field.{unit-other}
 use Rattle.theory.proofs.Sheets.{field-kinds}

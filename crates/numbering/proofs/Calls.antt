@@ -1,12 +1,10 @@
 -- What the calls come to: where the sheet's checks refuse, where the call's own do, and what an accepted sheet gives.
 use mathlib.Core.List.{List, [], reverse, List·Memᴰ}
-use mathlib.Core.Path.{_≡_, refl, sym, _∙_, ap}
-use Prim.Native.Nat.{ℕ, _+_, _≤_, _<_, _^_}
-use native.Mathlib.Omega.{arith}
+use mathlib.Core.Path.{_≡_, refl, _∙_, ap}
+use Prim.Native.Nat.{ℕ, _≤_, _<_}
 use lib.ListN.{length, take}
 use Rattle.model.specs.Finite.{listFrom, below}
 use Rattle.model.specs.Field.{Field, at, tokens}
-use Rattle.model.specs.Card.{liveCount}
 use Rattle.model.specs.Limits.{mostTokens, Limits}
 use Rattle.model.specs.Shelf.{entry, listed, numberIn, fieldIn, shelfNumber, shelfField}
 use Rattle.model.specs.Sheet.{kindCount, fieldCount, cardOf, fieldOf}
@@ -20,10 +18,6 @@ use Rattle.theory.proofs.Writing.{first-counts}
 use Rattle.validation.proofs.Checking.{less-stops, less-passes, past-stops, past-passes}
 
 module _ (s : List ℕ) where
-  kinds-is : cardOf s .kinds ≡ kindCount s
-  unfolding cardOf
-  kinds-is = refl
-
   -- The sheet's own checks refuse.
   module _ (k p : ℕ) (e : firstOf (acceptChecks s) ≡ refusal k p) where
     pub number-refused : (i : ℕ) → shelfNumberOf s i ≡ refused k p

@@ -1,8 +1,8 @@
 -- What the answers mean, proved as the specification states it.
-use mathlib.Core.List.{List, []}
-use mathlib.Core.Logic.{_↔_, Iff·symm, Iff·trans}
+use mathlib.Core.List.{List}
+use mathlib.Core.Logic.{_↔_, Iff·trans}
 use mathlib.Core.Path.{_≡_, refl, sym, _∙_, ap, fun-ext}
-use Prim.Native.Nat.{ℕ, _+_, _≤_, _<_}
+use Prim.Native.Nat.{ℕ, _≤_, _<_}
 use native.Mathlib.Decide.{decLt}
 use native.Mathlib.Omega.{arith}
 use lib.ListN.{length, take}
@@ -13,11 +13,11 @@ use Rattle.model.specs.Limits.{mostTokens, Limits}
 use Rattle.model.specs.Shelf.{entry, lastFirst, shelfNumber, shelfField}
 use Rattle.model.specs.Sheet.{kindCount, fieldCount, cardOf, fieldOf}
 use Rattle.model.specs.Refusal.{Accepted, Finding, clear, refusal, firstOf, shelfNumberChecks, shelfFieldChecks}
-use Rattle.model.specs.Answer.{Answer, refused, given, Lent, Shelved, written, shelfNumberOf, shelfCounts, shelfFieldOf}
+use Rattle.model.specs.Answer.{refused, given, Lent, Shelved, written, shelfNumberOf, shelfCounts, shelfFieldOf}
 use Rattle.theory.specs.Terms.{OfKinds}
-use Rattle.theory.specs.Shelves.{Precedes, Shelves}
+use Rattle.theory.specs.Shelves.{Precedes}
 use Rattle.theory.proofs.Lists.{getD-past}
-use Rattle.theory.proofs.Sheets.{field-kinds, never}
+use Rattle.theory.proofs.Sheets.{field-kinds}
 use Rattle.theory.proofs.Answers.{demand1}
 use Rattle.theory.proofs.Numbering.{precedes-one}
 use Rattle.theory.proofs.Shelves.{shelves}

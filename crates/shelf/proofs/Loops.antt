@@ -1,12 +1,12 @@
 -- The loops over the kinds, from the last down: the kinds not yet passed are the first i of the list.
-use mathlib.Core.List.{List, [], _∷_, _++_, reverse, reverse-append, List·Memᴰ, List·Memᴰ·head, List·Memᴰ·tail}
+use mathlib.Core.List.{List, [], _∷_, reverse, reverse-append, List·Memᴰ, List·Memᴰ·head, List·Memᴰ·tail}
 use mathlib.Core.Path.{_≡_, refl, sym, _∙_, ap, fun-ext}
-use Prim.Native.Nat.{ℕ, zero, suc, _+_, _-_, _≤_, _<_, _^_, min}
+use Prim.Native.Nat.{ℕ, zero, suc, _+_, _-_, _≤_, _<_, _^_}
 use native.Mathlib.Decide.{ℕ-discrete}
 use native.Mathlib.Omega.{arith}
 use lib.ListN.{length, getD, take, set, replicate, length-take, length-set, length-reverse}
 use lib.Seq.{take-suc, take-length, getD-set-same, getD-set-other}
-use Rattle.model.specs.Field.{Field, none, unit, at}
+use Rattle.model.specs.Field.{Field, unit, at}
 use Rattle.model.specs.Limits.{mostKinds, mostTokens}
 use Rattle.model.specs.Shelf.{entry, listed, numberIn, fieldIn}
 use Rattle.theory.proofs.Field.{unit-same, unit-other}

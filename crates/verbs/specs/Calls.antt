@@ -42,6 +42,6 @@ walkTold s = withFour (allowanceTold s)
 unfoldable pub numberTold : List ℕ → List ℕ → Told
 numberTold s = withOne (λ i. told (numberText s i))
 
--- field T X.
+-- field SIZE NUMBER.
 unfoldable pub fieldTold : List ℕ → List ℕ → Told
 fieldTold s = withTwo (λ t x. told (fieldText s t x))

@@ -78,6 +78,6 @@ shelvedText answer = worded (λ shelved. shelvedLine (shelved .size) (shelved .n
 unfoldable pub numberText : List ℕ → ℕ → Answer (List ℕ)
 numberText s i = shelvedText (shelfNumberOf s i)
 
--- field T X: the counts of the field.
+-- field SIZE NUMBER: the counts of the field.
 unfoldable pub fieldText : List ℕ → ℕ → ℕ → Answer (List ℕ)
 fieldText s t x = countsText (kindCount s) (shelfFieldOf s t x shelfRoom)

@@ -1,4 +1,4 @@
-// field T X.
+// field SIZE NUMBER.
 use numbering::ShelfField;
 use numbering::field::shelf_field;
 use replies::reply::Outcome;

@@ -1,8 +1,6 @@
 -- What each return answers, by the tests on the way, and what is written.
 use borrow.Author.Needs.{needs}
-use mathlib.Core.Path.{_≡_, refl, sym, _∙_, ap}
-use native.Mathlib.Omega.{arith}
-use Rattle.model.specs.Refusal.{Accepted}
+use mathlib.Core.Path.{_≡_, _∙_}
 use Rattle.model.specs.Sheet.{kindCount}
 use Rattle.theory.proofs.Told.{gives}
 use Rattle.norms.specs.Norms.{Accepts}

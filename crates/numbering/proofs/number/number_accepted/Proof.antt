@@ -1,9 +1,8 @@
 -- What each return answers, by the tests on the way.
 use borrow.Author.Needs.{needs}
-use mathlib.Core.Path.{_≡_, refl, sym, _∙_, ap}
-use Prim.Native.Nat.{ℕ, _≤_, _<_}
+use mathlib.Core.Path.{_≡_, sym, _∙_, ap}
 use native.Mathlib.Omega.{arith}
-use lib.ListN.{length, take}
+use lib.ListN.{length}
 use Rattle.model.specs.Field.{Field, at, tokens}
 use Rattle.model.specs.Sheet.{kindCount, fieldOf}
 use Rattle.sheet.proofs.Laws.{kinds-are, fields-are, kinds-most, field-counts-at, field-under}

@@ -5,7 +5,7 @@ use native.Mathlib.Omega.{arith}
 use lib.ListN.{length, take}
 use lib.Seq.{take-append-seam}
 use Rattle.model.specs.Answer.{written}
-use Rattle.theory.proofs.Writing.{Begun, begun-none, begun-more, begun-length, begun-all}
+use Rattle.theory.proofs.Writing.{Begun, begun-none, begun-more, begun-all}
 use borrow.Author.Needs.{needs}
 use Rattle.verbs.proofs.field.widened.Statement.{statement}
 use Rattle.verbs.proofs.field.widened.Tie as tie
