@@ -7,34 +7,29 @@ use lib.ListN.{getD}
 use Rattle.model.specs.Field.{at}
 use Rattle.model.specs.Shelf.{entry}
 use Rattle.shelf.proofs.Loops.{Numbered, numbered-start, numbered-next, numbered-end, numbered-fits}
-use Rattle.shelf.proofs.number.number_of.Statement.{statement}
-use Rattle.shelf.proofs.number.number_of.Tie as tie
+use Rattle.shelf.proofs.number.number_in.Statement.{statement}
+use Rattle.shelf.proofs.number.number_in.Tie as tie
 
 abbrev Inv-loop : tie.InvT-loop
-Inv-loop kinds field size number₀ left₀ i₀ number left i = Numbered kinds (at field) size number left i
+Inv-loop table kinds field size number₀ left₀ i₀ number left i = Numbered kinds (at field) size number left i
 
 abbrev μ-loop : tie.MeasureT-loop
-μ-loop kinds field size number₀ left₀ i₀ number left i = i
+μ-loop table kinds field size number₀ left₀ i₀ number left i = i
 
--- src/number.rt:36:5
 loop-holds : tie.Need-loop-holds Inv-loop μ-loop
 loop-holds c =
     let s = c .before in
-    numbered-start (s .args .kinds .now) (at (s .args .field .now)) (s .args .size) (s .pre .0) (s .pre .1 .0) (s .pre .1 .1)
+    numbered-start (s .args .kinds .now) (at (s .args .field .now)) (s .args .size) (s .pre .0) (s .pre .1 .0) (s .pre .1 .1 .0)
 
--- src/number.rt:37:26
 sub-kind : tie.Need-sub-kind Inv-loop μ-loop
 sub-kind c = search needs
 
--- src/number.rt:37:20
 mul-kind : tie.Need-mul-kind Inv-loop μ-loop
 mul-kind c = omega (arith, c .before .loop .inv .kinds-left, c .before .before .before .pre .0 .many)
 
--- src/number.rt:37:20
 shared-slice-read-kind : tie.Need-shared-slice-read-kind Inv-loop μ-loop
 shared-slice-read-kind c = omega (arith, c .before .before .loop .inv .kinds-left)
 
--- src/number.rt:38:26
 -- The kind that is read is one of 32.
 under : (c : tie.After-shared-slice-known2 Inv-loop μ-loop) → getD (c .before .before .before .before .args .kinds .now) (c .before .before .loop .i - 1) 0 < 32
 under c =
@@ -44,15 +39,12 @@ under c =
 mul-wide : tie.Need-mul-wide Inv-loop μ-loop
 mul-wide c = omega (arith, under c)
 
--- src/number.rt:38:26
 element-copy-out-wide : tie.Need-element-copy-out-wide Inv-loop μ-loop
 element-copy-out-wide c = under c
 
--- src/number.rt:38:13
 wide-requires : tie.Need-wide-requires Inv-loop μ-loop
 wide-requires c κs = search needs
 
--- src/number.rt:39:19
 -- What a turn does.
 turn : (c : tie.After-wide Inv-loop μ-loop) (fewer : ℕ)
     → let l = c .before .before .before .before .loop in
@@ -67,35 +59,29 @@ turn c fewer =
 with-fewer-requires : tie.Need-with-fewer-requires Inv-loop μ-loop
 with-fewer-requires c κs =
     let l = c .before .before .before .before .loop in
-    (search needs, omega (arith, l .inv .kinds-left, c .before .before .before .before .before .before .pre .0 .many), l .inv .few, turn c 0 .0)
+    ((search needs, omega (arith, l .inv .kinds-left, c .before .before .before .before .before .before .pre .0 .many), l .inv .few, turn c 0 .0), c .before .before .before .before .before .before .pre .1 .1 .1)
 
--- src/number.rt:39:9
 add-number : tie.Need-add-number Inv-loop μ-loop
 add-number c =
     let s = c .before .before .before .before .before .before .before in
     omega (
       arith,
       turn (c .before) (c .with-fewer .result) .1 (c .with-fewer .ensures) .sum,
-      numbered-fits (s .args .kinds .now) (at (s .args .field .now)) (s .args .size) (s .pre .0) (s .pre .1 .0) (s .pre .1 .1),
+      numbered-fits (s .args .kinds .now) (at (s .args .field .now)) (s .args .size) (s .pre .0) (s .pre .1 .0) (s .pre .1 .1 .0),
     )
 
--- src/number.rt:40:9
 sub-left : tie.Need-sub-left Inv-loop μ-loop
 sub-left c = turn (c .before) 0 .0
 
--- src/number.rt:41:9
 sub-i : tie.Need-sub-i Inv-loop μ-loop
 sub-i c = search needs
 
--- src/number.rt:36:5
 loop-less : tie.Need-loop-less Inv-loop μ-loop
 loop-less c = search needs
 
--- src/number.rt:36:5
 loop-again : tie.Need-loop-again Inv-loop μ-loop
 loop-again c = turn (c .before) (c .with-fewer .result) .1 (c .with-fewer .ensures)
 
--- src/number.rt:27:1
 returns : tie.Need-returns Inv-loop μ-loop
 returns c =
     let s = c .before .before .before in
@@ -103,8 +89,8 @@ returns c =
     let z : l .i ≡ 0 = omega arith in
     numbered-end (s .args .kinds .now) (at (s .args .field .now)) (s .args .size) (l .number) (l .left) (rw z at (l .inv))
 
-pub number-of-spec : {M : Type 1} → statement M
-number-of-spec =
+pub number-in-spec : {M : Type 1} → statement M
+number-in-spec =
     tie.close
     (tie.spec
     Inv-loop

@@ -5,16 +5,15 @@ use Prim.Native.Nat.{_+_, _-_, _<_}
 use native.Mathlib.Omega.{arith}
 use lib.ListN.{getD}
 use Rattle.shelf.proofs.Loops.{Found, found-start, found-kind, found-none, found-one, found-end}
-use Rattle.shelf.proofs.field.field_of.Statement.{statement}
-use Rattle.shelf.proofs.field.field_of.Tie as tie
+use Rattle.shelf.proofs.field.field_in.Statement.{statement}
+use Rattle.shelf.proofs.field.field_in.Tie as tie
 
 abbrev Inv-loop : tie.InvT-loop
-Inv-loop kinds size number counts₀ i₀ left₀ rest₀ counts i left rest = Found kinds size number counts i left rest
+Inv-loop table kinds size number counts₀ i₀ left₀ rest₀ counts i left rest = Found kinds size number counts i left rest
 
 abbrev μ-loop : tie.MeasureT-loop
-μ-loop kinds size number counts₀ i₀ left₀ rest₀ counts i left rest = i + left
+μ-loop table kinds size number counts₀ i₀ left₀ rest₀ counts i left rest = i + left
 
--- src/field.rt:23:5
 loop-holds : tie.Need-loop-holds Inv-loop μ-loop
 loop-holds c = let a = c .before .args in found-start (a .kinds .now) (a .size) (a .number) (search needs)
 
@@ -30,81 +29,65 @@ under c =
     let l = c .before .loop in
     c .before .before .before .pre .0 .under (l .i - 1) (omega (arith, l .inv .kinds-left, kind-left c))
 
--- src/field.rt:24:32
-sub-entry-of : tie.Need-sub-entry-of Inv-loop μ-loop
-sub-entry-of c = kind-left c
+sub-entry-in : tie.Need-sub-entry-in Inv-loop μ-loop
+sub-entry-in c = kind-left c
 
--- src/field.rt:24:13
-entry-of-requires : tie.Need-entry-of-requires Inv-loop μ-loop
-entry-of-requires c κs =
+entry-in-requires : tie.Need-entry-in-requires Inv-loop μ-loop
+entry-in-requires c κs =
     let l = c .before .loop in
     let s = c .before .before .before in
-    (omega (arith, l .inv .kinds-left, s .pre .0 .many), omega (arith, l .inv .few 0, s .pre .1 .0))
+    ((omega (arith, l .inv .kinds-left, s .pre .0 .many), omega (arith, l .inv .few 0, s .pre .1 .0)), s .pre .1 .1 .1)
 
--- src/field.rt:26:13
 sub-i : tie.Need-sub-i Inv-loop μ-loop
 sub-i c = kind-left (c .before .before)
 
--- src/field.rt:23:5
 loop-less : tie.Need-loop-less Inv-loop μ-loop
 loop-less c = omega (arith, kind-left (c .before .before))
 
--- src/field.rt:23:5
 loop-again : tie.Need-loop-again Inv-loop μ-loop
 loop-again c =
     let l = c .before .before .before .loop in
     let a = c .before .before .before .before .before .args in
-    found-none (a .kinds .now) (a .size) (a .number) (l .counts) (l .i) (l .left) (l .rest) (l .inv) (search needs) (omega (arith, c .before .entry-of .ensures))
+    found-none (a .kinds .now) (a .size) (a .number) (l .counts) (l .i) (l .left) (l .rest) (l .inv) (search needs) (omega (arith, c .before .entry-in .ensures))
 
--- src/field.rt:29:13
 sub-left : tie.Need-sub-left Inv-loop μ-loop
 sub-left c = search needs
 
--- src/field.rt:30:30
 sub-kind : tie.Need-sub-kind Inv-loop μ-loop
 sub-kind c = kind-left (c .before .before)
 
--- src/field.rt:30:24
 mul-kind : tie.Need-mul-kind Inv-loop μ-loop
 mul-kind c = omega (arith, c .before .before .before .loop .inv .kinds-left, c .before .before .before .before .before .pre .0 .many)
 
--- src/field.rt:30:24
 shared-slice-read-kind : tie.Need-shared-slice-read-kind Inv-loop μ-loop
 shared-slice-read-kind c = omega (arith, c .before .before .before .before .loop .inv .kinds-left, kind-left (c .before .before .before))
 
--- src/field.rt:31:13
 mul-counts : tie.Need-mul-counts Inv-loop μ-loop
 mul-counts c = omega (arith, under (c .before .before .before))
 
--- src/field.rt:31:13
 array-read-counts : tie.Need-array-read-counts Inv-loop μ-loop
 array-read-counts c = under (c .before .before .before)
 
--- src/field.rt:31:13
 add-counts : tie.Need-add-counts Inv-loop μ-loop
 add-counts c =
     let l = c .before .before .before .before .loop in
     let s = c .before .before .before .before .before .before in
     omega (arith, l .inv .few (getD (s .args .kinds .now) (l .i - 1) 0), s .pre .1 .0)
 
--- src/field.rt:31:13
 array-write-counts : tie.Need-array-write-counts Inv-loop μ-loop
 array-write-counts c = under (c .before .before .before)
 
--- src/field.rt:23:5
 loop-less-2 : tie.Need-loop-less-2 Inv-loop μ-loop
 loop-less-2 c = omega arith
 
--- src/field.rt:23:5
 loop-again-2 : tie.Need-loop-again-2 Inv-loop μ-loop
 loop-again-2 c =
     let l = c .before .before .before .before .loop in
     let s = c .before .before .before .before .before .before in
     let a = s .args in
-    rw (c .before .before .entry-of .ensures)
-    (found-one (a .kinds .now) (a .size) (a .number) (l .counts) (l .i) (l .left) (l .rest) (l .inv) (search needs) (s .pre .0) (λ h. omega (arith, c .before .before .entry-of .ensures)))
+    rw (c .before .before .entry-in .ensures)
+    (found-one (a .kinds .now) (a .size) (a .number) (l .counts) (l .i) (l .left) (l .rest) (l .inv) (search needs) (s .pre .0) (λ h. omega (arith, c .before .before .entry-in .ensures)))
 
--- src/field.rt:13:1
 returns : tie.Need-returns Inv-loop μ-loop
 returns c =
     let l = c .before .loop in
@@ -112,15 +95,15 @@ returns c =
     let z : l .left ≡ 0 = omega arith in
     found-end (a .kinds .now) (a .size) (a .number) (l .counts) (l .i) (l .rest) (rw z at (l .inv))
 
-pub field-of-spec : {M : Type 1} → statement M
-field-of-spec =
+pub field-in-spec : {M : Type 1} → statement M
+field-in-spec =
     tie.close
     (tie.spec
     Inv-loop
     μ-loop
     loop-holds
-    sub-entry-of
-    entry-of-requires
+    sub-entry-in
+    entry-in-requires
     sub-i
     loop-less
     loop-again
