@@ -38,7 +38,7 @@ numberIn ks t a = placeOf (agree ks a) (listed ks t)
 abbrev pub fieldIn : List ℕ → ℕ → ℕ → Field
 fieldIn ks t x = getD (listed ks t) x none
 
--- The kinds of a card that the listing runs over, "the last kind first": today all. (Request 6 changes `liveKinds`, and so this list alone.)
+-- The kinds of a card that the listing runs over, with the last first: today all. (Request 6 changes `liveKinds`, and so this list alone.)
 abbrev pub lastFirst : Card → List ℕ
 lastFirst c = reverse (liveKinds c)
 
