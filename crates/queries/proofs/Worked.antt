@@ -26,8 +26,11 @@ use Rattle.replies.specs.Told.{Told, told, noCall}
 use Rattle.replies.specs.Numbers.{withNone, withOne, withTwo, withFour}
 use Rattle.replies.specs.declared.reply.Outcome.{Outcome}
 use Rattle.replies.specs.declared.reply.Outcome.the-variants.{Answered, Refused, NoCall}
-use Rattle.verbs.specs.Texts.{worded, tableRoom, formRoom, shelfRoom, stagesLine, rowLines, settleText, rowIn, rowAfter, rowText, verdictText, compareText, countsText, formText, walkText, shelvedLine, shelvedText, numberText, fieldText}
-use Rattle.verbs.specs.Calls.{settleTold, rowTold, compareTold, formTold, allowanceTold, walkTold, numberTold, fieldTold}
+use Rattle.replies.specs.Texts.{worded, countsText}
+use Rattle.verbs.specs.Texts.{tableRoom, formRoom, stagesLine, rowLines, settleText, rowIn, rowAfter, rowText, verdictText, compareText, formText, walkText}
+use Rattle.shelf_verbs.specs.Texts.{shelfRoom, shelvedLine, shelvedText, numberText, fieldText}
+use Rattle.verbs.specs.Calls.{settleTold, rowTold, compareTold, formTold, allowanceTold, walkTold}
+use Rattle.shelf_verbs.specs.Calls.{numberTold, fieldTold}
 use Rattle.queries.specs.Verb.{verbs, verbIn, verbOf}
 use Rattle.queries.specs.Query.{verbTold, saidTold, wordsTold, queryOf}
 

@@ -3,7 +3,8 @@ use mathlib.Core.List.{List, [], _∷_}
 use Prim.Native.Nat.{ℕ}
 use Rattle.words.specs.Words.{Said, numbers, nothing, numbersOf, wordsOf}
 use Rattle.replies.specs.Told.{Told, noCall}
-use Rattle.verbs.specs.Calls.{settleTold, rowTold, compareTold, formTold, walkTold, numberTold, fieldTold}
+use Rattle.verbs.specs.Calls.{settleTold, rowTold, compareTold, formTold, walkTold}
+use Rattle.shelf_verbs.specs.Calls.{numberTold, fieldTold}
 use Rattle.queries.specs.Verb.{verbOf}
 use Rattle.queries.specs.declared.table.Verb.{Verb}
 use Rattle.queries.specs.declared.table.Verb.the-variants.{Settle, Row, Compare, Form, Walk, Number, Field, Other}

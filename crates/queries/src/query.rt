@@ -3,10 +3,10 @@ use crate::table::Verb;
 use crate::table::verb_of;
 use replies::reply::Reply;
 use replies::reply::no_call;
+use shelf_verbs::field::numbered_field;
+use shelf_verbs::number::field_number;
 use verbs::compare::compare_fields;
-use verbs::field::numbered_field;
 use verbs::form::field_form;
-use verbs::number::field_number;
 use verbs::settle::settle;
 use verbs::settle::settled_row;
 use verbs::walk::walk_fields;
@@ -16,7 +16,7 @@ use words::word_end;
 ghost use Prim.Native.Nat.{_≤_};
 ghost use lib.ListN.{length};
 ghost use Rattle.replies.specs.Told.{Tells};
-ghost use Rattle.verbs.specs.Calls.{mostText};
+ghost use Rattle.replies.specs.Texts.{mostText};
 ghost use Rattle.queries.specs.Query.{verbTold, queryOf};
 
 // No text is longer.

@@ -1,21 +1,21 @@
 -- The texts of the calls, from what the calls give.
-use mathlib.Core.List.{List, _++_, append-assoc}
+use mathlib.Core.List.{List, _++_}
 use mathlib.Core.Path.{_≡_, refl, sym, ap, _∙_}
 use Prim.Native.Nat.{ℕ, _≤_, _<_}
 use native.Mathlib.Omega.{arith}
 use borrow.Author.Tests.{le-leb, lt-leb}
-use lib.ListN.{length, take}
+use lib.ListN.{length}
 use Rattle.model.specs.Sheet.{kindCount}
 use Rattle.model.specs.Walk.{WalkAnswer}
-use Rattle.model.specs.Answer.{Answer, refused, given, Lent, settleOf, walkOf, rowCheckOf}
-use Rattle.model.specs.Page.{bytes, number, newline}
-use Rattle.text.specs.Count.{countsLine}
+use Rattle.model.specs.Answer.{Answer, refused, given, settleOf, walkOf, rowCheckOf}
+use Rattle.model.specs.Page.{number}
 use Rattle.text.specs.Appended.{Appended}
 use Rattle.text.proofs.Append.{from-start}
 use Rattle.walkline.specs.Line.{drawnText, foundText, answerLine}
 use Rattle.replies.specs.Told.{told, noCall, endOf, Tells}
+use Rattle.replies.specs.Texts.{worded}
 use Rattle.replies.specs.declared.reply.Outcome.{Outcome}
-use Rattle.verbs.specs.Texts.{worded, tableRoom, stagesLine, rowLines, settleText, rowIn, rowAfter, rowText, countsText, walkText, shelvedLine}
+use Rattle.verbs.specs.Texts.{tableRoom, stagesLine, rowLines, settleText, rowIn, rowAfter, rowText, walkText}
 use Rattle.verbs.specs.Calls.{mostNarrow, allowanceTold}
 
 -- Settle and Row, by what Settle gives for a table with room.
@@ -44,26 +44,6 @@ module _ (s room table : List ℕ) (is-room : room ≡ tableRoom) (lent : table 
   pub row-refused : (k number place : ℕ) → refused number place ≡ settleOf s room .answer → refused number place ≡ rowText s k
   unfolding rowText rowAfter
   row-refused k number place e = ap (rowAfter s k) (answered-there e)
-
--- Prime form and Shelf field, by what they give for a buffer with room.
-module _ (n : ℕ) (call : List ℕ → Lent (Unit {0})) {enough room counts : List ℕ} (is-room : room ≡ enough) (lent : counts ≡ call room .lent) where
-  called-there : {a : Answer (Unit {0})} → a ≡ call room .answer → a ≡ call enough .answer
-  called-there e = e ∙ ap (λ (r : List ℕ). call r .answer) is-room
-
-  pub counts-answered : given tt ≡ call room .answer → given (countsLine (take n counts)) ≡ countsText n (call enough)
-  unfolding countsText worded
-  counts-answered e =
-      ap (λ (l : List ℕ). given (countsLine (take n l))) (lent ∙ ap (λ (r : List ℕ). call r .lent) is-room)
-      ∙ ap (worded (λ _. countsLine (take n (call enough .lent)))) (called-there e)
-
-  pub counts-refused : (number place : ℕ) → refused number place ≡ call room .answer → refused number place ≡ countsText n (call enough)
-  unfolding countsText worded
-  counts-refused number place e = ap (worded (λ _. countsLine (take n (call enough .lent)))) (called-there e)
-
--- What is appended for the number of a field.
-pub shelved-is : (size x : ℕ) → bytes "size " ++ number size ++ (bytes " number " ++ number x) ++ bytes "\n" ≡ shelvedLine size x
-unfolding shelvedLine newline
-shelved-is size x = simp append-assoc
 
 -- A walk's line, whatever its answer.
 walk-told : (answer : Answer WalkAnswer) (drawn : ℕ)

@@ -5,11 +5,7 @@ use Prim.Native.Nat.{ℕ}
 use lib.Dec.{leb}
 use Rattle.replies.specs.Told.{Told, told, noCall}
 use Rattle.replies.specs.Numbers.{withNone, withOne, withTwo, withFour}
-use Rattle.verbs.specs.Texts.{settleText, rowText, compareText, formText, walkText, numberText, fieldText}
-
--- No text is longer: `stages S` has at most 28 bytes, and each of at most 32 rows 673.
-abbrev pub mostText : ℕ
-mostText = 21564
+use Rattle.verbs.specs.Texts.{settleText, rowText, compareText, formText, walkText}
 
 -- settle, with no number.
 unfoldable pub settleTold : List ℕ → List ℕ → Told
@@ -37,11 +33,3 @@ allowanceTold s i j limit allowance = elim (leb allowance mostNarrow) [ true ↦
 
 unfoldable pub walkTold : List ℕ → List ℕ → Told
 walkTold s = withFour (allowanceTold s)
-
--- number I.
-unfoldable pub numberTold : List ℕ → List ℕ → Told
-numberTold s = withOne (λ i. told (numberText s i))
-
--- field SIZE NUMBER.
-unfoldable pub fieldTold : List ℕ → List ℕ → Told
-fieldTold s = withTwo (λ t x. told (fieldText s t x))

@@ -1,29 +1,22 @@
 -- The text of each call's answer.
 use mathlib.Core.List.{List, _++_}
 use Prim.Native.Nat.{ℕ}
-use lib.ListN.{take, replicate}
+use lib.ListN.{replicate}
 use Rattle.model.specs.Finite.{concat, listFrom}
 use Rattle.model.specs.Sheet.{kindCount}
 use Rattle.model.specs.Refusal.{Finding, clear, refusal}
-use Rattle.model.specs.Answer.{Answer, refused, given, Lent, Verdict, Shelved, settleOf, rowOf, rowCheckOf, compareOf, formOf, walkOf, shelfNumberOf, shelfFieldOf}
+use Rattle.model.specs.Answer.{Answer, refused, given, Verdict, settleOf, rowOf, rowCheckOf, compareOf, formOf, walkOf}
 use Rattle.model.specs.Page.{bytes, number, newline, wordOf}
 use Rattle.text.specs.Count.{countsLine}
 use Rattle.walkline.specs.Line.{drawnText, foundText}
+use Rattle.replies.specs.Texts.{worded, countsText}
 
--- An answer by the text that its value gets.
-unfoldable pub worded : {A : Type 0} → (A → List ℕ) → Answer A → Answer (List ℕ)
-worded text (given a) = given (text a)
-worded text (refused number place) = refused number place
-
--- The room that is lent: a table, a form and a field of any card.
+-- The room that is lent: a table and a form of any card.
 unfoldable pub tableRoom : List ℕ
 tableRoom = replicate 1024 0
 
 unfoldable pub formRoom : List ℕ
 formRoom = replicate 32 0
-
-unfoldable pub shelfRoom : List ℕ
-shelfRoom = replicate 32 0
 
 -- `stages S`, and then the rows, each on a line of its own.
 unfoldable pub stagesLine : ℕ → List ℕ
@@ -55,10 +48,6 @@ verdictText answer = worded (λ verdict. wordOf (given verdict)) answer
 unfoldable pub compareText : List ℕ → ℕ → ℕ → Answer (List ℕ)
 compareText s i j = verdictText (compareOf s i j)
 
--- The first n counts of what a call wrote, as a line, or its refusal.
-unfoldable pub countsText : ℕ → Lent (Unit {0}) → Answer (List ℕ)
-countsText n wrote = worded (λ _. countsLine (take n (wrote .lent))) (wrote .answer)
-
 -- form I: the counts of the prime form.
 unfoldable pub formText : List ℕ → ℕ → Answer (List ℕ)
 formText s i = countsText (kindCount s) (formOf s i formRoom)
@@ -67,17 +56,3 @@ formText s i = countsText (kindCount s) (formOf s i formRoom)
 unfoldable pub walkText : List ℕ → ℕ → ℕ → ℕ → ℕ → Answer (List ℕ)
 walkText s i j limit allowance =
     let w = walkOf s i j limit (record { left = allowance }) in worded (λ found. foundText found ++ drawnText (w .drawn)) (w .answer)
-
--- number I: `size S number X`.
-unfoldable pub shelvedLine : ℕ → ℕ → List ℕ
-shelvedLine size x = bytes "size " ++ number size ++ bytes " number " ++ number x ++ newline
-
-unfoldable pub shelvedText : Answer Shelved → Answer (List ℕ)
-shelvedText answer = worded (λ shelved. shelvedLine (shelved .size) (shelved .number)) answer
-
-unfoldable pub numberText : List ℕ → ℕ → Answer (List ℕ)
-numberText s i = shelvedText (shelfNumberOf s i)
-
--- field SIZE NUMBER: the counts of the field.
-unfoldable pub fieldText : List ℕ → ℕ → ℕ → Answer (List ℕ)
-fieldText s t x = countsText (kindCount s) (shelfFieldOf s t x shelfRoom)

@@ -12,7 +12,7 @@ use Rattle.text.specs.Count.{countsLine}
 use Rattle.replies.specs.Told.{told}
 use Rattle.verbs.specs.Texts.{formText}
 use Rattle.verbs.specs.Calls.{formTold}
-use Rattle.verbs.proofs.Answered.{counts-answered, counts-refused}
+use Rattle.replies.proofs.Texts.{counts-answered, counts-refused}
 use Rattle.verbs.proofs.Sizes.{formed-few}
 use Rattle.replies.proofs.Numbers.{one-taken, one-other}
 use Rattle.replies.proofs.Replies.{tells-answer, tells-nothing, told-as}

@@ -12,8 +12,9 @@ ghost use Prim.Native.Nat.{_≤_};
 ghost use lib.ListN.{length, take};
 ghost use Rattle.model.specs.Limits.{mostKinds};
 ghost use Rattle.replies.specs.Told.{Tells};
-ghost use Rattle.verbs.specs.Texts.{shelfRoom};
-ghost use Rattle.verbs.specs.Calls.{mostText, fieldTold};
+ghost use Rattle.shelf_verbs.specs.Texts.{shelfRoom};
+ghost use Rattle.replies.specs.Texts.{mostText};
+ghost use Rattle.shelf_verbs.specs.Calls.{fieldTold};
 
 // Room for a field of any card.
 fn shelf_room() -> [u16; 32]

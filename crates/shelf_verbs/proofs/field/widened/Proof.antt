@@ -7,8 +7,8 @@ use lib.Seq.{take-append-seam}
 use Rattle.model.specs.Answer.{written}
 use Rattle.theory.proofs.Writing.{Begun, begun-none, begun-more, begun-all}
 use borrow.Author.Needs.{needs}
-use Rattle.verbs.proofs.field.widened.Statement.{statement}
-use Rattle.verbs.proofs.field.widened.Tie as tie
+use Rattle.shelf_verbs.proofs.field.widened.Statement.{statement}
+use Rattle.shelf_verbs.proofs.field.widened.Tie as tie
 
 abbrev Inv-loop : tie.InvT-loop
 Inv-loop counts wide₀ i₀ wide i = Begun counts wide₀ i wide

@@ -2,13 +2,14 @@
 use mathlib.Core.Path.{sym, ap, _∙_}
 use Rattle.numbering.specs.Answers.{numberAnswer}
 use Rattle.replies.specs.Told.{told}
-use Rattle.verbs.specs.Texts.{worded, shelvedText, numberText}
-use Rattle.verbs.specs.Calls.{numberTold}
+use Rattle.shelf_verbs.specs.Texts.{shelvedText, numberText}
+use Rattle.replies.specs.Texts.{worded}
+use Rattle.shelf_verbs.specs.Calls.{numberTold}
 use Rattle.replies.proofs.Numbers.{one-taken, one-other}
 use Rattle.replies.proofs.Replies.{tells-answer, tells-nothing, told-as}
 use borrow.Author.Needs.{needs}
-use Rattle.verbs.proofs.number.field_number.Statement.{statement}
-use Rattle.verbs.proofs.number.field_number.Tie as tie
+use Rattle.shelf_verbs.proofs.number.field_number.Statement.{statement}
+use Rattle.shelf_verbs.proofs.number.field_number.Tie as tie
 
 no-call-requires : tie.Need-no-call-requires
 no-call-requires c κs = search needs

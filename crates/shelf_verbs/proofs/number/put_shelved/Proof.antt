@@ -2,11 +2,11 @@
 use native.Mathlib.Omega.{arith}
 use Rattle.model.specs.Page.{bytes}
 use Rattle.text.proofs.Append.{then, reads-as}
-use Rattle.verbs.specs.Texts.{shelvedLine}
-use Rattle.verbs.proofs.Answered.{shelved-is}
+use Rattle.shelf_verbs.specs.Texts.{shelvedLine}
+use Rattle.shelf_verbs.proofs.Shelved.{shelved-is}
 use borrow.Author.Needs.{needs}
-use Rattle.verbs.proofs.number.put_shelved.Statement.{statement}
-use Rattle.verbs.proofs.number.put_shelved.Tie as tie
+use Rattle.shelf_verbs.proofs.number.put_shelved.Statement.{statement}
+use Rattle.shelf_verbs.proofs.number.put_shelved.Tie as tie
 
 slice-aggregate-put-two-labelled : tie.Need-slice-aggregate-put-two-labelled
 slice-aggregate-put-two-labelled c = search needs

@@ -1,8 +1,8 @@
 -- `shelf_room`: 32 zeros.
 use mathlib.Core.Path.{refl}
-use Rattle.verbs.specs.Texts.{shelfRoom}
-use Rattle.verbs.proofs.field.shelf_room.Statement.{statement}
-use Rattle.verbs.proofs.field.shelf_room.Tie as tie
+use Rattle.shelf_verbs.specs.Texts.{shelfRoom}
+use Rattle.shelf_verbs.proofs.field.shelf_room.Statement.{statement}
+use Rattle.shelf_verbs.proofs.field.shelf_room.Tie as tie
 
 returns : tie.Need-returns
 unfolding shelfRoom

@@ -11,15 +11,15 @@ use Rattle.sheet.specs.declared.reader.Card.{Card}
 use Rattle.numbering.specs.Answers.{fieldAnswer}
 use Rattle.text.specs.Count.{countsLine}
 use Rattle.replies.specs.Told.{told}
-use Rattle.verbs.specs.Texts.{fieldText}
-use Rattle.verbs.specs.Calls.{fieldTold}
-use Rattle.verbs.proofs.Answered.{counts-answered, counts-refused}
-use Rattle.verbs.proofs.Sizes.{shelved-few}
+use Rattle.shelf_verbs.specs.Texts.{fieldText}
+use Rattle.shelf_verbs.specs.Calls.{fieldTold}
+use Rattle.replies.proofs.Texts.{counts-answered, counts-refused}
+use Rattle.shelf_verbs.proofs.Shelved.{shelved-few}
 use Rattle.replies.proofs.Numbers.{two-taken, two-other}
 use Rattle.replies.proofs.Replies.{tells-answer, tells-nothing, told-as}
 use borrow.Author.Needs.{needs}
-use Rattle.verbs.proofs.field.numbered_field.Statement.{statement}
-use Rattle.verbs.proofs.field.numbered_field.Tie as tie
+use Rattle.shelf_verbs.proofs.field.numbered_field.Statement.{statement}
+use Rattle.shelf_verbs.proofs.field.numbered_field.Tie as tie
 
 -- The sheet was accepted, so that the room suffices.
 few : (c : tie.After-of-header) → c .of-header .result .kinds ≤ length (c .before .before .before .before .shelf-field .last .1 .1 .1 .0)

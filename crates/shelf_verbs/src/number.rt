@@ -11,8 +11,9 @@ ghost use Prim.Native.Nat.{_+_, _≤_};
 ghost use lib.ListN.{length};
 ghost use Rattle.text.specs.Appended.{Appended};
 ghost use Rattle.replies.specs.Told.{Tells};
-ghost use Rattle.verbs.specs.Texts.{shelvedLine};
-ghost use Rattle.verbs.specs.Calls.{mostText, numberTold};
+ghost use Rattle.shelf_verbs.specs.Texts.{shelvedLine};
+ghost use Rattle.replies.specs.Texts.{mostText};
+ghost use Rattle.shelf_verbs.specs.Calls.{numberTold};
 
 // `size S number X`.
 fn put_shelved(out: &mut [u8], at: usize, size: usize, number: u64) -> usize
