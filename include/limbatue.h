@@ -1,4 +1,4 @@
-/* limbatue.h: race cards, fields and their prime forms. The verified library, version 0.3.0, for C99, C++11 and whatever calls C.
+/* limbatue.h: race cards, fields and their prime forms. The verified library, version 0.4.0, for C99, C++11 and whatever calls C.
  *
  * Link liblimbatue.a. Where it is installed, `pkg-config --cflags --libs limbatue` prints the options; in the repository, tools/archive proves it and writes
  * target/lib/liblimbatue.a. It is for Linux on x86-64, for programs and shared libraries alike. docs/SHEET.md tells what the bytes of a sheet are.
@@ -33,6 +33,8 @@
  *   11      0      the first field or kind number is too large
  *   11      1      the second field number is too large
  *   13      0      the round limit is over 8
+ *   14      0      the field or the size is over 16 tokens
+ *   15      0      no field of this size has so large a number
  *   12      0      a buffer or table is too short
  */
 #ifndef LIMBATUE_H
@@ -46,8 +48,8 @@ extern "C" {
 #endif
 
 /* The version: 10000 x major + 100 x minor + patch. */
-#define LIMBATUE_VERSION 300
-#define LIMBATUE_VERSION_TEXT "0.3.0"
+#define LIMBATUE_VERSION 400
+#define LIMBATUE_VERSION_TEXT "0.4.0"
 
 /* Of what a call returned. */
 #define LIMBATUE_NUMBER(returned) ((returned) & 255u)
@@ -68,7 +70,9 @@ enum {
     LIMBATUE_REFUSED_NORM_OVER_LIMIT = 10,
     LIMBATUE_REFUSED_NUMBER = 11,
     LIMBATUE_REFUSED_TOO_SHORT = 12,
-    LIMBATUE_REFUSED_ROUND_LIMIT = 13
+    LIMBATUE_REFUSED_ROUND_LIMIT = 13,
+    LIMBATUE_REFUSED_SIZE = 14,
+    LIMBATUE_REFUSED_SHELF_NUMBER = 15
 };
 
 /* answer[0] of Compare; answer[0] of Walk. */
@@ -78,10 +82,13 @@ enum { LIMBATUE_TOGETHER = 0, LIMBATUE_APART = 1, LIMBATUE_SPENT = 2 };
 /* Bytes of the longest sheet. Who reads a sheet from a stream reads one byte more, so that a longer one is refused and not cut. */
 #define LIMBATUE_SHEET_MOST 12820
 
-/* Elements that any sheet's table and any field's prime form have at most; bytes that no page passes. */
+/* Elements that any sheet's table and any field's counts have at most; bytes that no page passes. */
 #define LIMBATUE_TABLE_MOST 1024
 #define LIMBATUE_COUNTS_MOST 32
 #define LIMBATUE_PAGE_MOST 73319
+
+/* Tokens of the largest fields that have shelf numbers. */
+#define LIMBATUE_TOKENS_MOST 16
 
 /* Elements that each call writes to its answer array; a shorter array is refused. */
 #define LIMBATUE_NUMBERS_ANSWER 4
@@ -90,10 +97,11 @@ enum { LIMBATUE_TOGETHER = 0, LIMBATUE_APART = 1, LIMBATUE_SPENT = 2 };
 #define LIMBATUE_COMPARE_ANSWER 3
 #define LIMBATUE_WALK_ANSWER 3
 #define LIMBATUE_PAGE_ANSWER 1
+#define LIMBATUE_SHELF_NUMBER_ANSWER 2
 
 /* Bytes of stack that must be left where a call is made. Taken are, as measured: settle 131,064, compare 127,608, prime form 131,400, walk 79,712 at most, page
- * 215,224, the others under 256. Stated is each with 4,096 more, for memcpy, memset and the loader, which may be asked for them at a first call, and rounded up to
- * pages of 4,096. In the repository ./stack measures the archive again, and fails where under 4,096 are left. */
+ * 215,224, shelf number 6,296, shelf field 6,408, the others under 256. Stated is each with 4,096 more, for memcpy, memset and the loader, which may be asked for
+ * them at a first call, and rounded up to pages of 4,096. In the repository ./stack measures the archive again, and fails where under 4,096 are left. */
 #define LIMBATUE_VERSION_STACK 8192
 #define LIMBATUE_NUMBERS_STACK 8192
 #define LIMBATUE_SETTLE_STACK 135168
@@ -102,6 +110,8 @@ enum { LIMBATUE_TOGETHER = 0, LIMBATUE_APART = 1, LIMBATUE_SPENT = 2 };
 #define LIMBATUE_PRIME_FORM_STACK 139264
 #define LIMBATUE_WALK_STACK 86016
 #define LIMBATUE_PAGE_STACK 221184
+#define LIMBATUE_SHELF_NUMBER_STACK 12288
+#define LIMBATUE_SHELF_FIELD_STACK 12288
 #define LIMBATUE_STACK_MOST LIMBATUE_PAGE_STACK
 
 /* The version of the library that was linked; LIMBATUE_VERSION is that of this header. */
@@ -135,6 +145,15 @@ uint32_t limbatue_walk(const uint8_t *sheet, size_t sheet_length, size_t first, 
  * "refused NUMBER PLACE" and a newline.
  * answer[0]: the length of the page. Refuses 12 alone. */
 uint32_t limbatue_page(const uint8_t *sheet, size_t sheet_length, uint8_t *page, size_t page_length, uint64_t *answer, size_t answer_length);
+
+/* Shelf number. The size of a field is its tokens in all; the fields of a size are listed with the smaller count of the last kind first, then of the one before
+ * it, and so on, from number 0. Reads the sheet. Writes nothing but the answer.
+ * answer[0]: the size of the field; answer[1]: its number among the fields of that size. Refuses 1 to 12, and 14. */
+uint32_t limbatue_shelf_number(const uint8_t *sheet, size_t sheet_length, size_t field, uint64_t *answer, size_t answer_length);
+
+/* Shelf field: of the fields of a size the one of that number, whether or not the sheet has it. Reads the sheet. Writes n counts. It has no answer array.
+ * Refuses 1 to 10, 12, 14 and 15. */
+uint32_t limbatue_shelf_field(const uint8_t *sheet, size_t sheet_length, size_t size, uint64_t number, uint16_t *counts, size_t counts_length);
 
 #ifdef __cplusplus
 }

@@ -18,6 +18,7 @@ static ucontext_t here, there;
 static uint8_t sheet[LIMBATUE_SHEET_MOST + 1], page[LIMBATUE_PAGE_MOST];
 static uint32_t table[LIMBATUE_TABLE_MOST], allowance, returned;
 static uint64_t counts[LIMBATUE_COUNTS_MOST], answer[4];
+static uint16_t field[LIMBATUE_COUNTS_MOST];
 static size_t length, last;
 
 static void version(void) { returned = limbatue_version() == LIMBATUE_VERSION ? 0 : 1; }
@@ -28,6 +29,9 @@ static void compare(void) { returned = limbatue_compare(sheet, length, 0, last, 
 static void prime_form(void) { returned = limbatue_prime_form(sheet, length, last, counts, LIMBATUE_COUNTS_MOST); }
 static void walk(void) { returned = limbatue_walk(sheet, length, 0, last, 8, &allowance, answer, LIMBATUE_WALK_ANSWER); }
 static void write_page(void) { returned = limbatue_page(sheet, length, page, LIMBATUE_PAGE_MOST, answer, LIMBATUE_PAGE_ANSWER); }
+static void shelf_number(void) { returned = limbatue_shelf_number(sheet, length, last, answer, LIMBATUE_SHELF_NUMBER_ANSWER); }
+/* Of the fields of 16 tokens there is a number 16 where there are two kinds or more. */
+static void shelf_field(void) { returned = limbatue_shelf_field(sheet, length, LIMBATUE_TOKENS_MOST, 16, field, LIMBATUE_COUNTS_MOST); }
 
 static struct {
     const char *name;
@@ -43,6 +47,8 @@ static struct {
     { "prime_form", prime_form, LIMBATUE_PRIME_FORM_STACK, 0, 0 },
     { "walk", walk, LIMBATUE_WALK_STACK, 0, 0 },
     { "page", write_page, LIMBATUE_PAGE_STACK, 0, 0 },
+    { "shelf_number", shelf_number, LIMBATUE_SHELF_NUMBER_STACK, 0, 0 },
+    { "shelf_field", shelf_field, LIMBATUE_SHELF_FIELD_STACK, 0, 0 },
 };
 enum { CALLS = sizeof calls / sizeof calls[0] };
 
@@ -107,7 +113,7 @@ int main(int argc, char **argv)
     }
     for (i = 0; i < CALLS; i++) {
         int passed = calls[i].done && calls[i].most + MARGIN <= calls[i].stated && calls[i].stated <= LIMBATUE_STACK_MOST;
-        printf("%-10s %6lu bytes, stated %6lu%s\n", calls[i].name, (unsigned long)calls[i].most, (unsigned long)calls[i].stated,
+        printf("%-12s %6lu bytes, stated %6lu%s\n", calls[i].name, (unsigned long)calls[i].most, (unsigned long)calls[i].stated,
                passed ? "" : calls[i].done ? ": too few" : ": done on no sheet");
         failed |= !passed;
     }

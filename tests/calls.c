@@ -11,6 +11,7 @@ static int failures = 0;
 static uint8_t sheet[LIMBATUE_SHEET_MOST + 1], page[LIMBATUE_PAGE_MOST];
 static uint32_t table[LIMBATUE_TABLE_MOST];
 static uint64_t counts[LIMBATUE_COUNTS_MOST], answer[4];
+static uint16_t shelved[LIMBATUE_COUNTS_MOST + 1];
 static size_t length;
 
 static void put(size_t at, size_t bytes, size_t value)
@@ -45,6 +46,8 @@ static void put_count(size_t field, size_t kind, size_t count)
 static uint32_t numbers(void) { return limbatue_numbers(sheet, length, answer, LIMBATUE_NUMBERS_ANSWER); }
 static uint32_t settle(void) { return limbatue_settle(sheet, length, table, LIMBATUE_TABLE_MOST, answer, LIMBATUE_SETTLE_ANSWER); }
 static uint32_t compare(size_t first, size_t second) { return limbatue_compare(sheet, length, first, second, answer, LIMBATUE_COMPARE_ANSWER); }
+static uint32_t shelf_number(size_t field) { return limbatue_shelf_number(sheet, length, field, answer, LIMBATUE_SHELF_NUMBER_ANSWER); }
+static uint32_t shelf_field(size_t size, uint64_t number) { return limbatue_shelf_field(sheet, length, size, number, shelved, LIMBATUE_COUNTS_MOST); }
 
 /* The numbers of a sheet, or the refusal of a small one of which one part was changed. */
 static int has_numbers(size_t kinds, size_t codes, size_t lines, size_t fields)
@@ -156,6 +159,61 @@ static void test_page(void)
     EXPECT(limbatue_page(sheet, 0, page, LIMBATUE_PAGE_MOST, answer, LIMBATUE_PAGE_ANSWER) == LIMBATUE_DONE && answer[0] == 12 && memcmp(page, "refused 1 0\n", 12) == 0);
 }
 
+/* With 32 kinds there are 1,503,232,609,098 fields of 16 tokens. The last of them has all tokens of kind 31. */
+static void test_shelf_number(void)
+{
+    make_fields();
+    EXPECT(shelf_number(0) == LIMBATUE_DONE && answer[0] == 1 && answer[1] == 0);
+    EXPECT(shelf_number(1) == LIMBATUE_DONE && answer[0] == 1 && answer[1] == 1);
+    EXPECT(shelf_number(2) == LIMBATUE_DONE && answer[0] == 2 && answer[1] == 0);
+    EXPECT(REFUSED(shelf_number(3), LIMBATUE_REFUSED_NUMBER, 0));
+    memset(answer, 7, sizeof answer);
+    EXPECT(REFUSED(limbatue_shelf_number(sheet, length, 1, answer, LIMBATUE_SHELF_NUMBER_ANSWER - 1), LIMBATUE_REFUSED_TOO_SHORT, 0));
+    EXPECT(answer[0] == answer[3] && answer[1] == answer[3]);
+    EXPECT(limbatue_shelf_number(sheet, length, 1, answer, LIMBATUE_SHELF_NUMBER_ANSWER + 1) == LIMBATUE_DONE && answer[0] == 1 && answer[1] == 1 && answer[2] == answer[3]);
+    put_count(0, 0, 0);
+    EXPECT(shelf_number(0) == LIMBATUE_DONE && answer[0] == 0 && answer[1] == 0);
+    put_count(0, 31, LIMBATUE_TOKENS_MOST);
+    EXPECT(shelf_number(0) == LIMBATUE_DONE && answer[0] == LIMBATUE_TOKENS_MOST && answer[1] == UINT64_C(1503232609097));
+    put_count(0, 0, 1);
+    memset(answer, 7, sizeof answer);
+    EXPECT(REFUSED(shelf_number(0), LIMBATUE_REFUSED_SIZE, 0));
+    EXPECT(REFUSED(limbatue_shelf_number(sheet, length, 0, answer, 0), LIMBATUE_REFUSED_SIZE, 0));
+    EXPECT(answer[0] == answer[3] && answer[1] == answer[3]);
+    put_count(0, 0, 65535); /* with the 16 of kind 31, over what 16 bits hold */
+    EXPECT(REFUSED(shelf_number(0), LIMBATUE_REFUSED_SIZE, 0));
+    make_sheet(3, 2, 2, 0); /* kind 2 has no line */
+    EXPECT(REFUSED(shelf_number(0), LIMBATUE_REFUSED_NO_NORM, 2));
+}
+
+static void test_shelf_field(void)
+{
+    const uint16_t kept = 7 * 256 + 7;
+    make_fields();
+    memset(shelved, 7, sizeof shelved);
+    EXPECT(REFUSED(shelf_field(LIMBATUE_TOKENS_MOST + 1, 0), LIMBATUE_REFUSED_SIZE, 0));
+    EXPECT(REFUSED(shelf_field(256, 0), LIMBATUE_REFUSED_SIZE, 0));
+    EXPECT(REFUSED(shelf_field((size_t)UINT64_C(4294967296), 0), LIMBATUE_REFUSED_SIZE, 0));
+    EXPECT(REFUSED(shelf_field(SIZE_MAX, 0), LIMBATUE_REFUSED_SIZE, 0));
+    EXPECT(REFUSED(shelf_field(LIMBATUE_TOKENS_MOST, UINT64_C(1503232609098)), LIMBATUE_REFUSED_SHELF_NUMBER, 0));
+    EXPECT(REFUSED(shelf_field(0, 1), LIMBATUE_REFUSED_SHELF_NUMBER, 0));
+    EXPECT(REFUSED(shelf_field(0, UINT64_MAX), LIMBATUE_REFUSED_SHELF_NUMBER, 0));
+    EXPECT(REFUSED(limbatue_shelf_field(sheet, length, LIMBATUE_TOKENS_MOST + 1, UINT64_MAX, shelved, 0), LIMBATUE_REFUSED_SIZE, 0));
+    EXPECT(REFUSED(limbatue_shelf_field(sheet, length, LIMBATUE_TOKENS_MOST, UINT64_MAX, shelved, 0), LIMBATUE_REFUSED_SHELF_NUMBER, 0));
+    EXPECT(REFUSED(limbatue_shelf_field(sheet, length, LIMBATUE_TOKENS_MOST, 0, shelved, LIMBATUE_COUNTS_MOST - 1), LIMBATUE_REFUSED_TOO_SHORT, 0));
+    EXPECT(shelved[0] == kept && shelved[30] == kept && shelved[31] == kept);
+    EXPECT(shelf_field(LIMBATUE_TOKENS_MOST, UINT64_C(1503232609097)) == LIMBATUE_DONE && shelved[0] == 0 && shelved[30] == 0 && shelved[31] == 16 && shelved[32] == kept);
+    EXPECT(shelf_field(LIMBATUE_TOKENS_MOST, 1) == LIMBATUE_DONE && shelved[0] == 15 && shelved[1] == 1 && shelved[31] == 0 && shelved[32] == kept);
+    EXPECT(shelf_field(0, 0) == LIMBATUE_DONE && shelved[0] == 0 && shelved[1] == 0 && shelved[32] == kept);
+    make_sheet(2, 1, 2, 0); /* of 2 tokens: 2 0, then 1 1, then 0 2 */
+    memset(shelved, 7, sizeof shelved);
+    EXPECT(shelf_field(2, 1) == LIMBATUE_DONE && shelved[0] == 1 && shelved[1] == 1 && shelved[2] == kept && shelved[31] == kept);
+    EXPECT(limbatue_shelf_field(sheet, length, 2, 2, shelved, 2) == LIMBATUE_DONE && shelved[0] == 0 && shelved[1] == 2 && shelved[2] == kept);
+    EXPECT(REFUSED(shelf_field(2, 3), LIMBATUE_REFUSED_SHELF_NUMBER, 0));
+    make_sheet(3, 2, 2, 0); /* kind 2 has no line */
+    EXPECT(REFUSED(shelf_field(LIMBATUE_TOKENS_MOST + 1, 0), LIMBATUE_REFUSED_NO_NORM, 2));
+}
+
 int main(void)
 {
     test_version();
@@ -164,5 +222,7 @@ int main(void)
     test_filer();
     test_walk();
     test_page();
+    test_shelf_number();
+    test_shelf_field();
     return failures != 0;
 }

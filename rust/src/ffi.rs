@@ -54,4 +54,19 @@ unsafe extern "C" {
         answer: *mut u64,
         answer_length: usize,
     ) -> u32;
+    pub fn limbatue_shelf_number(
+        sheet: *const u8,
+        sheet_length: usize,
+        field: usize,
+        answer: *mut u64,
+        answer_length: usize,
+    ) -> u32;
+    pub fn limbatue_shelf_field(
+        sheet: *const u8,
+        sheet_length: usize,
+        size: usize,
+        number: u64,
+        counts: *mut u16,
+        counts_length: usize,
+    ) -> u32;
 }

@@ -11,10 +11,12 @@
 //! | a field's prime form | [`prime_form`] | [`prime_form_into`] |
 //! | the page, all of this as text | [`page`] | [`page_into`] |
 //! | how a bounded game on two fields ends | [`walk`], [`Session`] | |
+//! | the size of a small field, and its number among the fields of that size | [`shelf_number`] | |
+//! | the field of a size and a number | [`shelf_field`] | [`shelf_field_into`] |
 //!
 //! Every function may be given any bytes and any numbers. What it can not do it refuses: a [`Refusal`] says why and where, and whatever was lent is as it was.
 //! The functions keep no state, so any number of threads may call them. A call takes under 256 KB of stack (`include/limbatue.h` has each call's figure).
-//! [`row`], [`compare`], [`walk`], [`numbers`] and the forms that end in `_into` allocate nothing.
+//! [`row`], [`compare`], [`walk`], [`numbers`], [`shelf_number`] and the forms that end in `_into` allocate nothing.
 //!
 //! The functions are proved in crate `exports` of the repository. The `unsafe` here, one call in each function, is sound because a Rust slice is what `include/limbatue.h` asks for:
 //! not null, aligned, of its length, and a `&mut` overlaps nothing.
@@ -46,10 +48,12 @@ mod readme {}
 mod ffi;
 mod refusal;
 mod settled;
+mod shelf;
 mod walk;
 
 pub use refusal::{Reason, Refusal};
 pub use settled::Settled;
+pub use shelf::{ShelfNumber, shelf_field, shelf_field_into, shelf_number};
 pub use walk::{Session, Walked, walk};
 
 /// The bytes of the longest sheet that can be accepted.
@@ -75,7 +79,7 @@ pub const SHEET_MOST: usize = 12_820;
 /// ```
 pub const TABLE_MOST: usize = 1024;
 
-/// The counts of a prime form for any sheet.
+/// The counts of a prime form, or of a field found by its number, for any sheet.
 ///
 /// ```
 /// let mut counts = [0; limbatue::COUNTS_MOST];
@@ -94,6 +98,17 @@ pub const COUNTS_MOST: usize = 32;
 /// # Ok::<(), limbatue::Refusal>(())
 /// ```
 pub const PAGE_MOST: usize = 73_319;
+
+/// The tokens of the largest fields that have shelf numbers.
+///
+/// ```
+/// let sheet = std::fs::read("testdata/chain32.sheet")?;
+/// assert!(limbatue::shelf_field(&sheet, limbatue::TOKENS_MOST, 0).is_ok());
+/// let refusal = limbatue::shelf_field(&sheet, limbatue::TOKENS_MOST + 1, 0).unwrap_err();
+/// assert_eq!(refusal.to_string(), "the field or the size is over 16 tokens");
+/// # Ok::<(), std::io::Error>(())
+/// ```
+pub const TOKENS_MOST: usize = 16;
 
 /// A sheet's numbers of kinds, codes, lines and fields. [`numbers`] gives them.
 ///

@@ -12,7 +12,7 @@ use std::fmt;
 ///
 /// // A library that is newer than this crate may know more reasons, so a `match` needs an arm for those.
 /// let is_about_the_call = match refusal.reason {
-///     Reason::Number | Reason::RoundLimit | Reason::TooShort => true,
+///     Reason::Number | Reason::RoundLimit | Reason::Size | Reason::ShelfNumber | Reason::TooShort => true,
 ///     _ => false,
 /// };
 /// assert!(!is_about_the_call);
@@ -44,6 +44,10 @@ pub enum Reason {
     Number,
     /// 13: the round limit is over 8.
     RoundLimit,
+    /// 14: the field or the size is over 16 tokens.
+    Size,
+    /// 15: no field of this size has so large a number.
+    ShelfNumber,
     /// 12: a buffer or table is too short.
     TooShort,
     /// A number that this crate does not know.
@@ -102,6 +106,8 @@ impl Refusal {
             Reason::Number => 11,
             Reason::TooShort => 12,
             Reason::RoundLimit => 13,
+            Reason::Size => 14,
+            Reason::ShelfNumber => 15,
             Reason::Other(number) => number,
         }
     }
@@ -122,6 +128,8 @@ impl Refusal {
             11 => Reason::Number,
             12 => Reason::TooShort,
             13 => Reason::RoundLimit,
+            14 => Reason::Size,
+            15 => Reason::ShelfNumber,
             number => Reason::Other(number),
         };
         Refusal { reason, place: returned / 256 }
@@ -149,6 +157,8 @@ impl fmt::Display for Refusal {
             (Reason::Number, 0) => f.write_str("the first field or kind number is too large"),
             (Reason::Number, 1) => f.write_str("the second field number is too large"),
             (Reason::RoundLimit, _) => f.write_str("the round limit is over 8"),
+            (Reason::Size, _) => f.write_str("the field or the size is over 16 tokens"),
+            (Reason::ShelfNumber, _) => f.write_str("no field of this size has so large a number"),
             (Reason::TooShort, _) => f.write_str("a buffer or table is too short"),
             (Reason::Layout | Reason::Number | Reason::Other(_), _) => {
                 write!(f, "refusal {} at place {place}", self.number())

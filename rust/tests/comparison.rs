@@ -1,11 +1,14 @@
 //! The library against the independent implementation: every answer, every buffer, what stands before and past it, and every session. The comparison itself is tried
 //! too: it finds each kind of difference.
 
+use std::collections::BTreeSet;
+
 use independent::calls::{Answer, Call, Comparison, Lent, Margined, compare_implementations, independent, row_place};
 use independent::filer::Verdict;
 use independent::generator::sample;
 use independent::page::page;
 use independent::sheet::{Numbers, Refusal};
+use independent::shelf::ShelfNumber;
 use independent::walker::{Answer as Found, Walked};
 
 /// The crate's own declarations of the C functions.
@@ -59,6 +62,11 @@ fn call_library(call: &Call, lent: &mut Lent, entries: usize) -> (u32, Margined<
                 ffi::limbatue_page(sheet, bytes, page.as_mut_ptr(), page.len(), values, room)
             }
             Call::Numbers => ffi::limbatue_numbers(sheet, bytes, values, room),
+            Call::ShelfNumber { field } => ffi::limbatue_shelf_number(sheet, bytes, field, values, room),
+            Call::ShelfField { size, number, .. } => {
+                let counts = lent.field.lent_mut();
+                ffi::limbatue_shelf_field(sheet, bytes, size, number, counts.as_mut_ptr(), counts.len())
+            }
         }
     };
     (code, array)
@@ -68,10 +76,10 @@ fn call_library(call: &Call, lent: &mut Lent, entries: usize) -> (u32, Margined<
 fn values_of(call: &Call) -> usize {
     match call {
         Call::Settle { .. } | Call::Page { .. } => 1,
-        Call::RowCheck { .. } | Call::Row { .. } => 2,
+        Call::RowCheck { .. } | Call::Row { .. } | Call::ShelfNumber { .. } => 2,
         Call::Compare { .. } | Call::Walk { .. } => 3,
         Call::Numbers => 4,
-        Call::PrimeForm { .. } => 0,
+        Call::PrimeForm { .. } | Call::ShelfField { .. } => 0,
     }
 }
 
@@ -107,6 +115,8 @@ fn library(call: &Call, lent: &mut Lent) -> Answer {
         }
         Call::Page { .. } => Answer::PageWritten { bytes: values[0] as usize },
         Call::Numbers => numbers(values[0] as _, values[1] as _, values[2] as _, values[3] as _),
+        Call::ShelfNumber { .. } => Answer::ShelfNumber(ShelfNumber { size: values[0], number: values[1] }),
+        Call::ShelfField { .. } => Answer::FieldWritten,
     }
 }
 
@@ -180,6 +190,11 @@ fn wrappers(call: &Call, lent: &mut Lent) -> Answer {
         }
         Call::Numbers => limbatue::numbers(sheet)
             .map_or_else(refused, |said| numbers(said.kinds, said.codes, said.lines, said.fields)),
+        Call::ShelfNumber { field } => limbatue::shelf_number(sheet, field).map_or_else(refused, |found| {
+            Answer::ShelfNumber(ShelfNumber { size: found.size as _, number: found.number })
+        }),
+        Call::ShelfField { size, number, .. } => limbatue::shelf_field_into(sheet, size, number, lent.field.lent_mut())
+            .map_or_else(refused, |()| Answer::FieldWritten),
     }
 }
 
@@ -207,6 +222,8 @@ fn owned_forms(call: &Call, lent: &mut Lent) -> Answer {
             let page = limbatue::page(sheet);
             written(page.as_bytes(), lent.page.lent_mut(), Answer::PageWritten { bytes: page.len() })
         }
+        Call::ShelfField { size, number, .. } => limbatue::shelf_field(sheet, size, number)
+            .map_or_else(refused, |counts| written(&counts, lent.field.lent_mut(), Answer::FieldWritten)),
         _ => wrappers(call, lent),
     }
 }
@@ -336,6 +353,40 @@ fn a_write_on_refusal_is_found() {
         answer
     });
     assert!(comparison.differences.iter().any(|difference| difference.lent_differs));
+}
+
+#[test]
+fn another_shelf_number_is_found() {
+    let comparison = differences(|call, lent| match independent(call, lent) {
+        Answer::ShelfNumber(ShelfNumber { size: 16, number }) => {
+            Answer::ShelfNumber(ShelfNumber { size: 16, number: number + 1 })
+        }
+        answer => answer,
+    });
+    assert!(!comparison.differences.is_empty());
+    assert!(comparison.differences.iter().all(|difference| matches!(difference.call, Call::ShelfNumber { .. })));
+}
+
+#[test]
+fn a_write_to_the_buffer_of_a_field_is_found() {
+    let comparison = differences(|call, lent| {
+        let answer = independent(call, lent);
+        match (answer, lent.field.lent_mut()) {
+            (Answer::FieldWritten, [.., last]) => *last ^= 1,
+            (Answer::Refused(_), [first, ..]) => *first = 0,
+            _ => {}
+        }
+        answer
+    });
+    let mut found = BTreeSet::new();
+    for difference in &comparison.differences {
+        assert!(difference.lent_differs && matches!(difference.call, Call::ShelfField { .. }), "{difference:?}");
+        found.insert(match difference.answers[0] {
+            Answer::Refused(refusal) => refusal.number,
+            _ => 0,
+        });
+    }
+    assert!([0, 9, 12, 14, 15].iter().all(|number| found.contains(number)), "{found:?}");
 }
 
 #[test]

@@ -1,12 +1,15 @@
 //! The fast implementation held against the definitions on small random cards.
 
 use independent::base::Refinement;
-use independent::definitions::{Definitions, Field, TooLarge, fewest_reads, one_token, walk as walk_by_definition};
+use independent::definitions::{
+    Definitions, Field, TooLarge, fewest_reads, one_token, shelf, shelf_order, walk as walk_by_definition,
+};
 use independent::filer::{Verdict, compare};
-use independent::generator::{FAMILIES, Size, draft};
+use independent::generator::{Draft, DraftLine, FAMILIES, Size, draft};
 use independent::norm::{NormedCard, accept, kind_norms};
 use independent::random::Random;
-use independent::sheet::{Refusal, read};
+use independent::sheet::{MOST_FIELDS, MOST_KINDS, Refusal, read};
+use independent::shelf::{Entries, MOST_TOKENS, ShelfNumber, field_of, number_of, shelf_field, shelf_number};
 use independent::walker::{Session, walk};
 
 /// The greatest norm of a kind that is searched.
@@ -188,4 +191,85 @@ fn a_missing_norm_comes_before_one_over_the_limit() {
     sheet[12] = 68;
     sheet[16] = 68;
     assert_eq!(accept(&sheet).err(), Some(Refusal { number: 10, place: 0 }));
+}
+
+/// A sheet of some fields, each kind of which leaves nothing.
+fn sheet_of(kinds: usize, fields: &[Field]) -> Vec<u8> {
+    let mut draft = Draft::new(kinds, 1);
+    draft.lines = (0..kinds).map(|kind| DraftLine { kind, code: 0, left: vec![0; kinds] }).collect();
+    draft.fields = fields.iter().map(|field| field.iter().map(|&count| count as u16).collect()).collect();
+    draft.bytes()
+}
+
+/// Both directions against the list of all fields of a size: every number under the entry is that of one
+/// field, and the field's is that number again.
+#[test]
+fn shelf_numbers_are_places_in_the_list() {
+    // For each number of kinds the greatest size that is listed.
+    for (kinds, most) in [(1, 16), (2, 16), (3, 16), (4, 10), (5, 6), (6, 4), (7, 3), (8, 2)] {
+        for tokens in 0..=most {
+            let listed = shelf(kinds, tokens);
+            let entry = listed.len() as u64;
+            assert_eq!(Entries::new(kinds, tokens).of(kinds, tokens), entry, "{kinds} kinds, {tokens} tokens");
+            for (from, fields) in (0..).step_by(MOST_FIELDS).zip(listed.chunks(MOST_FIELDS)) {
+                let sheet = sheet_of(kinds, fields);
+                for (place, field) in fields.iter().enumerate() {
+                    let number = from + place as u64;
+                    let context = format!("{kinds} kinds, {tokens} tokens, number {number}");
+                    assert_eq!(shelf_number(&sheet, place), Ok(ShelfNumber { size: tokens, number }), "{context}");
+                    let mut counts = vec![7; kinds + 1];
+                    assert_eq!(shelf_field(&sheet, tokens as usize, number, &mut counts), Ok(()), "{context}");
+                    let written: Field = counts[..kinds].iter().map(|&count| u64::from(count)).collect();
+                    assert_eq!((&written, counts[kinds]), (field, 7), "{context}");
+                }
+                for number in [entry, entry + 1, u64::MAX] {
+                    let refusal = shelf_field(&sheet, tokens as usize, number, &mut [7; 8]).expect_err("no such field");
+                    assert_eq!((refusal.number, refusal.place), (15, 0), "{kinds} kinds, {tokens} tokens");
+                }
+            }
+        }
+    }
+}
+
+/// With any number of kinds, where no list can be made: the fields of the numbers from 0 up come one after
+/// another in the order, have the tokens, and have these numbers; and the first and the last are known.
+#[test]
+fn shelf_numbers_of_many_kinds() {
+    let mut random = Random::new(16);
+    for kinds in 1..=MOST_KINDS {
+        for tokens in 0..=MOST_TOKENS {
+            let entry = Entries::new(kinds, tokens).of(kinds, tokens);
+            let field = |number: u64| field_of(kinds, tokens, number).expect("a number under the entry");
+            assert_eq!(field(0)[0], tokens);
+            assert_eq!(field(entry - 1)[kinds - 1], tokens);
+            assert_eq!(field_of(kinds, tokens, entry), None);
+            for _ in 0..20 {
+                let number = random.below(entry as usize) as u64;
+                let found = field(number);
+                assert_eq!(found.iter().sum::<u64>(), tokens);
+                assert_eq!(number_of(&found), number, "{found:?}");
+                if number > 0 {
+                    assert!(shelf_order(&field(number - 1), &found).is_lt(), "{found:?}");
+                }
+            }
+        }
+    }
+}
+
+#[test]
+fn entries_are_the_known_ones() {
+    let entries = Entries::new(MOST_KINDS, MOST_TOKENS);
+    assert_eq!((0..=MOST_TOKENS).map(|tokens| entries.of(0, tokens)).sum::<u64>(), 1);
+    let known = [(0, 0, 1), (3, 2, 6), (32, 1, 32), (32, 2, 528), (32, 3, 5_984), (32, 16, 1_503_232_609_098)];
+    for (kinds, tokens, entry) in known {
+        assert_eq!(entries.of(kinds, tokens), entry, "{kinds} kinds, {tokens} tokens");
+    }
+    // The closed form: k (k + 1) .. (k + t - 1) / (1 · 2 .. t).
+    for kinds in 0..=MOST_KINDS {
+        let mut closed = 1;
+        for tokens in 0..=MOST_TOKENS {
+            assert_eq!(entries.of(kinds, tokens), closed, "{kinds} kinds, {tokens} tokens");
+            closed = closed * (kinds as u64 + tokens) / (tokens + 1);
+        }
+    }
 }

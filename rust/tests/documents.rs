@@ -64,6 +64,18 @@ fn table() -> Vec<Row> {
             refusal: limbatue::walk(&accepted, 0, 1, 9, &mut Session::new(1)).expect_err("nine rounds"),
         },
         Row {
+            number: 14,
+            place: "0",
+            sentence: "the field or the size is over 16 tokens",
+            refusal: limbatue::shelf_field(&accepted, 17, 0).expect_err("seventeen tokens"),
+        },
+        Row {
+            number: 15,
+            place: "0",
+            sentence: "no field of this size has so large a number",
+            refusal: limbatue::shelf_field(&accepted, 16, 17).expect_err("seventeen fields of sixteen tokens"),
+        },
+        Row {
             number: 12,
             place: "0",
             sentence: "a buffer or table is too short",
@@ -85,11 +97,11 @@ fn refusals_say_their_sentences() {
     }
 }
 
-/// Asserts that a document has every row of the table: a line with the number, the place and the sentence.
+/// Asserts that a document has every row of the table, a line with the number, the place and the sentence, and that they stand in the order of the checks.
 fn assert_table(path: &str) {
     let text = document(path);
-    let has = |row: &Row| {
-        text.lines().any(|line| {
+    let place_of = |row: &Row| {
+        text.lines().position(|line| {
             line.split_once(row.sentence).is_some_and(|(before, _)| {
                 let words: Vec<&str> = before.split(|c: char| !c.is_ascii_alphanumeric()).collect();
                 words.contains(&&*row.number.to_string()) && words.contains(&row.place)
@@ -99,10 +111,11 @@ fn assert_table(path: &str) {
     let table = table();
     let lacking: Vec<String> = table
         .iter()
-        .filter(|row| !has(row))
+        .filter(|row| place_of(row).is_none())
         .map(|row| format!("  {} {} {}", row.number, row.place, row.sentence))
         .collect();
     assert!(lacking.is_empty(), "{path} lacks these rows of the table of refusals:\n{}", lacking.join("\n"));
+    assert!(table.iter().map(place_of).is_sorted(), "{path} has the table of refusals in another order");
 }
 
 #[test]
@@ -130,5 +143,6 @@ fn the_constants_are_the_header_s() {
     assert_eq!(limbatue::TABLE_MOST, defined("LIMBATUE_TABLE_MOST"));
     assert_eq!(limbatue::COUNTS_MOST, defined("LIMBATUE_COUNTS_MOST"));
     assert_eq!(limbatue::PAGE_MOST, defined("LIMBATUE_PAGE_MOST"));
+    assert_eq!(limbatue::TOKENS_MOST, defined("LIMBATUE_TOKENS_MOST"));
     assert_eq!(limbatue::version() as usize, defined("LIMBATUE_VERSION"));
 }

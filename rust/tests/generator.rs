@@ -8,7 +8,8 @@ use independent::generator::{COSTLY, Damage, FAMILIES, Family, Size, apply, draf
 use independent::norm::{NORM_LIMIT, NormedCard, accept};
 use independent::page::page;
 use independent::random::Random;
-use independent::sheet::{MOST_BYTES, Refusal};
+use independent::sheet::{MOST_BYTES, MOST_KINDS, Refusal};
+use independent::shelf::{MOST_TOKENS, tokens_of};
 
 const SEED: u64 = 20_261_115;
 
@@ -55,6 +56,41 @@ fn every_refusal_and_every_answer_is_met() {
     }
     met("settle: stage 32");
     assert_eq!(comparison.differences.len(), 0);
+    // Of the two calls on shelf numbers each answer is met often.
+    let often = |name: &str| assert!(comparison.answers.get(name).is_some_and(|&count| count > 100), "{name}");
+    for size in 0..=16 {
+        often(&format!("shelf number: size {size}"));
+        often(&format!("shelf field: size {size}"));
+    }
+    for number in [1, 2, 3, 4, 5, 6, 7, 8, 9, 10] {
+        often(&format!("shelf number: refused {number}"));
+        often(&format!("shelf field: refused {number}"));
+    }
+    for name in
+        ["number: refused 11", "number: refused 14", "field: refused 14", "field: refused 15", "field: refused 12"]
+    {
+        often(&format!("shelf {name}"));
+    }
+}
+
+/// What the comparison with the library meets near the greatest size that has shelf numbers, at the greatest
+/// number of kinds, and where tokens added up in 16 bits would be few.
+#[test]
+fn fields_of_16_tokens_and_of_17() {
+    let (mut most, mut one_over, mut of_32_kinds, mut few_in_16_bits) = (0, 0, 0, 0);
+    for number in 0..20_000 {
+        let bytes = sample(SEED, number).bytes;
+        let Ok(normed) = accept(&bytes) else { continue };
+        for field in 0..normed.card.fields {
+            let tokens = tokens_of(&normed.card.field(field));
+            most += u64::from(tokens == MOST_TOKENS);
+            one_over += u64::from(tokens == MOST_TOKENS + 1);
+            of_32_kinds += u64::from(normed.card.kinds == MOST_KINDS && tokens <= MOST_TOKENS);
+            few_in_16_bits += u64::from(tokens >= 1 << 16 && tokens % (1 << 16) <= MOST_TOKENS);
+        }
+    }
+    println!("16 tokens {most}, 17 {one_over}, at most 16 of 32 kinds {of_32_kinds}, few in 16 bits {few_in_16_bits}");
+    assert!(most > 300 && one_over > 300 && of_32_kinds > 1_000 && few_in_16_bits > 300);
 }
 
 #[test]

@@ -1,13 +1,15 @@
-//! The stored pages and walks, and document 01's examples.
+//! The stored pages, walks and shelf numbers, and document 01's examples.
 
 use std::fs;
 use std::path::{Path, PathBuf};
 
 use independent::filer::{Verdict, compare, row, settle};
 use independent::page::page;
+use independent::sheet::{Refusal, numbers};
+use independent::shelf::{shelf_field, shelf_number};
 use independent::walker::{Answer, Session, walk};
 
-/// The folder of the stored sheets, pages and walks.
+/// The folder of the stored sheets, pages, walks and shelf numbers.
 fn stored() -> PathBuf {
     Path::new(env!("CARGO_MANIFEST_DIR")).join("testdata")
 }
@@ -28,7 +30,7 @@ fn pages_agree() {
             compared += 1;
         }
     }
-    assert_eq!(compared, 50);
+    assert_eq!(compared, 77);
 }
 
 #[test]
@@ -56,6 +58,36 @@ fn walks_agree() {
     assert!(text.lines().count() > 100);
 }
 
+/// The answer to a line's call, as the line has it.
+fn shelf_answer(sheet: &[u8], verb: &str, numbers_given: &[u64]) -> Result<String, Refusal> {
+    match (verb, numbers_given) {
+        ("number", &[field]) => {
+            let found = shelf_number(sheet, field as usize)?;
+            Ok(format!("size {} number {}", found.size, found.number))
+        }
+        ("field", &[size, number]) => {
+            let mut counts = [7; 32];
+            shelf_field(sheet, size as usize, number, &mut counts)?;
+            Ok(counts[..numbers(sheet)?.kinds].iter().map(u16::to_string).collect::<Vec<_>>().join(" "))
+        }
+        other => panic!("{other:?} is no call"),
+    }
+}
+
+#[test]
+fn shelf_numbers_agree() {
+    let text = fs::read_to_string(stored().join("shelf.txt")).expect("shelf.txt");
+    for line in text.lines() {
+        let (call, expected) = line.split_once(" = ").expect("a call and its answer");
+        let words: Vec<&str> = call.split(' ').collect();
+        let numbers_given: Vec<u64> = words[2..].iter().map(|word| word.parse().expect("a number")).collect();
+        let given = shelf_answer(&sheet(words[0]), words[1], &numbers_given)
+            .unwrap_or_else(|refusal| format!("refused {} {}", refusal.number, refusal.place));
+        assert_eq!(given, expected, "{line}");
+    }
+    assert!(text.lines().count() > 1_000);
+}
+
 #[test]
 fn refused_calls_alter_nothing() {
     let mut table = [7; 3];
@@ -64,6 +96,12 @@ fn refused_calls_alter_nothing() {
     let mut session = Session { allowance: 5 };
     walk(&sheet("page36"), 0, 0, 9, &mut session).expect_err("a limit of nine");
     assert_eq!(session.allowance, 5);
+    // 14 comes before 15, and both before 12: two counts are needed, and two tokens of two kinds are numbered 0 to 2.
+    for (size, number, refused) in [(17, u64::MAX, 14), (2, 3, 15), (2, 2, 12)] {
+        let mut counts = [7; 1];
+        let refusal = shelf_field(&sheet("page36"), size, number, &mut counts).expect_err("one count is too few");
+        assert_eq!((refusal.number, refusal.place, counts), (refused, 0, [7; 1]));
+    }
 }
 
 #[test]

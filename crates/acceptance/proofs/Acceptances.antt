@@ -156,6 +156,10 @@ accepts s c e = go (firstOf (acceptChecks s)) refl e
     go clear d q = record { reads = record { header = cc; passed = sheet-clear s d }; accepted = d; norms-are = refl }
     go (refusal k p) d q = let z : _≡_ {A = ℕ} 0 1 = cc in absurd (omega arith)
 
+-- An acceptance that passed tells of the sheet.
+pub acceptance-accepts : (s : List ℕ) (a : Acceptance) → a ≡ acceptanceOf s → (c : Card) → a .checked ≡ Passed c → Accepts s c (a .norms)
+acceptance-accepts s a e c d = rw (ap (λ (x : Acceptance). x .norms) e) (accepts s c (sym (ap (λ (x : Acceptance). x .checked) e) ∙ d))
+
 -- What a refusal tells.
 pub refused : (s : List ℕ) (k p : ℕ) → acceptanceOf s .checked ≡ Refused k p → firstOf (acceptChecks s) ≡ refusal k p
 unfolding acceptanceOf acceptedWith refusedWith
@@ -164,3 +168,6 @@ refused s k p e = go (firstOf (acceptChecks s)) e
     go : (f : Finding) → (elim f as (λ _. Acceptance) [ clear ↦ acceptedWith s | refusal i q ↦ refusedWith i q ]) .checked ≡ Refused k p → f ≡ refusal k p
     go clear h = let z : _≡_ {A = ℕ} 0 1 = cc in absurd (omega arith)
     go (refusal i q) h = cc
+
+pub acceptance-refuses : (s : List ℕ) (a : Acceptance) → a ≡ acceptanceOf s → (k p : ℕ) → a .checked ≡ Refused k p → firstOf (acceptChecks s) ≡ refusal k p
+acceptance-refuses s a e k p d = refused s k p (sym (ap (λ (x : Acceptance). x .checked) e) ∙ d)

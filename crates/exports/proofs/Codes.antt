@@ -12,21 +12,21 @@ use Rattle.model.specs.Limits.{normLimit}
 use Rattle.model.specs.Sheet.{u16At, kindCount, lineCount, lineOf, codeCount, cardOf}
 use Rattle.theory.specs.Widths.{Bytes}
 use Rattle.model.specs.Walk.{WalkAnswer, spent, Walk}
-use Rattle.model.specs.Refusal.{Check, check, Finding, clear, refusal, firstOf, headerChecks, lineChecks, normChecks, sheetChecks, acceptChecks, settleChecks, compareChecks, formChecks, walkChecks, rowChecks}
-use Rattle.model.specs.Answer.{Answer, refused, given, Lent, Session, Walked, within, fullWalk, rowCheckOf, settleOf, compareOf, formOf, walkOf}
+use Rattle.model.specs.Refusal.{Check, check, Finding, clear, refusal, firstOf, headerChecks, lineChecks, normChecks, sheetChecks, acceptChecks, settleChecks, compareChecks, formChecks, walkChecks, rowChecks, shelfNumberChecks, shelfFieldChecks}
+use Rattle.model.specs.Answer.{Answer, refused, given, Lent, Session, Walked, within, fullWalk, rowCheckOf, settleOf, compareOf, formOf, walkOf, shelfNumberOf, shelfFieldOf}
 use Rattle.theory.proofs.Sheets.{then, first-append}
 use Rattle.exports.specs.Reply.{codeOf}
 
 abbrev pub Small : Finding → Type 0
 Small clear = Unit {0}
-Small (refusal k p) = (k ≤ 13) × (p ≤ 65535)
+Small (refusal k p) = (k ≤ 15) × (p ≤ 65535)
 
 -- Of a check before others, of two lists of checks, and of a list for each number.
 small-nil : Small (firstOf [])
 unfolding firstOf
 small-nil = tt
 
-small-cons : (k p : ℕ) (b : Bool) (xs : List Check) → k ≤ 13 → p ≤ 65535 → Small (firstOf xs) → Small (firstOf (check k p b ∷ xs))
+small-cons : (k p : ℕ) (b : Bool) (xs : List Check) → k ≤ 15 → p ≤ 65535 → Small (firstOf xs) → Small (firstOf (check k p b ∷ xs))
 unfolding firstOf
 small-cons k p true xs h l r = (h, l)
 small-cons k p false xs h l r = r
@@ -44,12 +44,12 @@ unfolding concat listFrom
 small-all f i zero h = small-nil
 small-all f i (suc m) h = small-append (f i) (concat (listFrom f (suc i) m)) (h i (omega arith)) (small-all f (suc i) m (λ j l. h j (omega arith)))
 
-small-each : (k : ℕ) (b : ℕ → Bool) (i m : ℕ) → k ≤ 13 → i + m ≤ 65536 → Small (firstOf (listFrom (λ j. check k j (b j)) i m))
+small-each : (k : ℕ) (b : ℕ → Bool) (i m : ℕ) → k ≤ 15 → i + m ≤ 65536 → Small (firstOf (listFrom (λ j. check k j (b j)) i m))
 unfolding listFrom
 small-each k b i zero h l = small-nil
 small-each k b i (suc m) h l = small-cons k i (b i) (listFrom (λ j. check k j (b j)) (suc i) m) h (omega arith) (small-each k b (suc i) m h (omega arith))
 
-small-last : (k p : ℕ) (b : Bool) → k ≤ 13 → p ≤ 65535 → Small (firstOf (check k p b ∷ []))
+small-last : (k p : ℕ) (b : Bool) → k ≤ 15 → p ≤ 65535 → Small (firstOf (check k p b ∷ []))
 small-last k p b h l = small-cons k p b [] h l small-nil
 
 pub row-small : (n k size : ℕ) → Small (firstOf (rowChecks n k size))
@@ -118,6 +118,16 @@ module _ (s : List ℕ) (bytes : Bytes s) where
       small-append (sheetChecks s) _ sheet-small
       (small-cons 11 0 _ _ (omega arith) (omega arith) (small-cons 11 1 _ _ (omega arith) (omega arith) (small-last 13 0 _ (omega arith) (omega arith))))
 
+  shelf-number-small : (i : ℕ) → Small (firstOf (shelfNumberChecks s i))
+  unfolding shelfNumberChecks
+  shelf-number-small i = small-append (acceptChecks s) _ accept-small (small-cons 11 0 _ _ (omega arith) (omega arith) (small-last 14 0 _ (omega arith) (omega arith)))
+
+  shelf-field-small : (t x size : ℕ) → Small (firstOf (shelfFieldChecks s t x size))
+  unfolding shelfFieldChecks
+  shelf-field-small t x size =
+      small-append (acceptChecks s) _ accept-small
+      (small-cons 14 0 _ _ (omega arith) (omega arith) (small-cons 15 0 _ _ (omega arith) (omega arith) (small-last 12 0 _ (omega arith) (omega arith))))
+
 -- What is refused is what the checks found.
 pub found-fits : (f : Finding) → Small f → (k p : ℕ) → f ≡ refusal k p → codeOf k p < 2 ^ 32
 found-fits clear h k p e = let z : _≡_ {A = ℕ} 0 1 = cc in absurd (omega arith)
@@ -148,6 +158,15 @@ module _ (s : List ℕ) (bytes : Bytes s) (k p : ℕ) where
   pub form-fits : (i : ℕ) (buffer : List ℕ) → formOf s i buffer .answer ≡ refused k p → codeOf k p < 2 ^ 32
   unfolding formOf
   form-fits i buffer = refused-fits (λ (x : Lent (Unit {0})). x .answer) _ _ tt refl (λ k p. refl) (firstOf (formChecks s i (length buffer))) (form-small s bytes i (length buffer)) k p
+
+  pub shelf-number-fits : (i : ℕ) → shelfNumberOf s i ≡ refused k p → codeOf k p < 2 ^ 32
+  unfolding shelfNumberOf
+  shelf-number-fits i = refused-fits (λ x. x) _ refused _ refl (λ k p. refl) (firstOf (shelfNumberChecks s i)) (shelf-number-small s bytes i) k p
+
+  pub shelf-field-fits : (t x : ℕ) (buffer : List ℕ) → shelfFieldOf s t x buffer .answer ≡ refused k p → codeOf k p < 2 ^ 32
+  unfolding shelfFieldOf
+  shelf-field-fits t x buffer =
+      refused-fits (λ (y : Lent (Unit {0})). y .answer) _ _ tt refl (λ k p. refl) (firstOf (shelfFieldChecks s t x (length buffer))) (shelf-field-small s bytes t x (length buffer)) k p
 
 -- The walk is given, whether the allowance ends it or not.
 within-given : (v : Session) (w : Walk) → (a : WalkAnswer) × (within v w .answer ≡ given a)

@@ -9,13 +9,13 @@ use lib.ListN.{length}
 use Rattle.model.specs.Sheet.{kindCount, cardOf}
 use Rattle.model.specs.Base.{settledStage}
 use Rattle.model.specs.Walk.{WalkAnswer}
-use Rattle.model.specs.Refusal.{Finding, clear, refusal, check, firstOf, sheetChecks, acceptChecks, settleChecks, formChecks}
-use Rattle.model.specs.Answer.{Answer, refused, given, Lent, written, Verdict, Walked, tableOf, primeForm, rowCheckOf, settleOf, compareOf, formOf, walkOf}
+use Rattle.model.specs.Refusal.{Finding, clear, refusal, check, firstOf, sheetChecks, acceptChecks, settleChecks, formChecks, shelfFieldChecks}
+use Rattle.model.specs.Answer.{Answer, refused, given, Lent, written, Verdict, Walked, Shelved, tableOf, primeForm, shelfCounts, rowCheckOf, settleOf, compareOf, formOf, walkOf, shelfNumberOf, shelfFieldOf}
 use Rattle.theory.proofs.Checks.{first-left, first-right}
 use Rattle.sheet.specs.declared.reader.Card.{Card}
 use Rattle.sheet.specs.Reader.{Reads}
 use Rattle.exports.specs.Reply.{Reply, codeOf, refusing, replyOf, laidOut, valuesReply}
-use Rattle.exports.specs.Calls.{rowValues, foundOr, rowCall, numberValues, numbersCall, walkValues, walkCall, stageValues, settleCall, shortCodeBy, shortCode, verdictValues, compareCall, noValues, formCall}
+use Rattle.exports.specs.Calls.{rowValues, foundOr, rowCall, numberValues, numbersCall, walkValues, walkCall, stageValues, settleCall, shortCodeBy, shortCode, verdictValues, compareCall, noValues, formCall, shelvedValues, shelfNumberCall, shelfFieldCall}
 use Rattle.exports.proofs.Replies.{reply-refuses, reply-short, reply-gives}
 
 -- The parts of a call that comes to y.
@@ -148,3 +148,28 @@ module _ (s : List ℕ) (i : ℕ) (buffer : List ℕ) where
   pub form-gives : formOf s i buffer .answer ≡ given tt → formCall s i buffer ≡ record { code = 0; lent = formOf s i buffer .lent; values = written [] [] }
   unfolding formCall
   form-gives e = reply-gives buffer (formOf s i buffer .lent) [] [] _ (ap (laidOut noValues) e) (omega arith)
+
+-- Shelf number.
+module _ (s : List ℕ) (i : ℕ) (array : List ℕ) where
+  pub shelf-number-refuses : (k p : ℕ) → shelfNumberOf s i ≡ refused k p → shelfNumberCall s i array ≡ refusing k p tt array
+  unfolding shelfNumberCall
+  shelf-number-refuses k p e = reply-refuses tt tt array _ k p (ap (laidOut shelvedValues) e)
+
+  pub shelf-number-gives : (a : Shelved) → shelfNumberOf s i ≡ given a → shelfNumberCall s i array ≡ valuesReply (shelvedValues a) array
+  unfolding shelfNumberCall
+  shelf-number-gives a e = ap (λ (y : Answer Shelved). replyOf (laidOut shelvedValues y) tt tt array) e
+
+-- Shelf field.
+module _ (s : List ℕ) (t x : ℕ) (buffer : List ℕ) where
+  pub shelf-field-kept : (k p : ℕ) → shelfFieldOf s t x buffer .answer ≡ refused k p → shelfFieldOf s t x buffer .lent ≡ buffer
+  unfolding shelfFieldOf
+  shelf-field-kept k p e = kept tt (written (shelfCounts s t x) buffer) buffer (firstOf (shelfFieldChecks s t x (length buffer))) k p e
+
+  pub shelf-field-refuses : (k p : ℕ) → shelfFieldOf s t x buffer .answer ≡ refused k p → shelfFieldCall s t x buffer ≡ refusing k p buffer []
+  unfolding shelfFieldCall
+  shelf-field-refuses k p e = reply-refuses buffer (shelfFieldOf s t x buffer .lent) [] _ k p (ap (laidOut noValues) e)
+
+  pub shelf-field-gives : shelfFieldOf s t x buffer .answer ≡ given tt
+      → shelfFieldCall s t x buffer ≡ record { code = 0; lent = shelfFieldOf s t x buffer .lent; values = written [] [] }
+  unfolding shelfFieldCall
+  shelf-field-gives e = reply-gives buffer (shelfFieldOf s t x buffer .lent) [] [] _ (ap (laidOut noValues) e) (omega arith)

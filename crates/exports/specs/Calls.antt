@@ -4,7 +4,7 @@ use Prim.Native.Nat.{ℕ, _*_}
 use Rattle.model.specs.Sheet.{kindCount, codeCount, lineCount, fieldCount}
 use Rattle.model.specs.Refusal.{Finding, clear, refusal, firstOf, sheetChecks, acceptChecks}
 use Rattle.model.specs.Walk.{WalkAnswer, apart, together, spent}
-use Rattle.model.specs.Answer.{Answer, refused, given, Verdict, same, different, rowCheckOf, walkOf, settleOf, compareOf, formOf}
+use Rattle.model.specs.Answer.{Answer, refused, given, Verdict, same, different, Shelved, rowCheckOf, walkOf, settleOf, compareOf, formOf, shelfNumberOf, shelfFieldOf}
 use Rattle.page.specs.Writing.{writePageOf}
 use Rattle.exports.specs.Reply.{Reply, codeOf, replyOf, laidOut}
 
@@ -68,6 +68,17 @@ noValues _ = []
 
 unfoldable pub formCall : List ℕ → ℕ → List ℕ → Reply (List ℕ)
 formCall s i buffer = let x = formOf s i buffer in replyOf (laidOut noValues (x .answer)) buffer (x .lent) []
+
+-- Shelf number: the size of the field, its tokens, and its number at that size.
+abbrev pub shelvedValues : Shelved → List ℕ
+shelvedValues x = x .size ∷ x .number ∷ []
+
+unfoldable pub shelfNumberCall : List ℕ → ℕ → List ℕ → Reply (Unit {0})
+shelfNumberCall s i array = replyOf (laidOut shelvedValues (shelfNumberOf s i)) tt tt array
+
+-- Shelf field, of a size and a number: no values, and so no answer array. The buffer is lent.
+unfoldable pub shelfFieldCall : List ℕ → ℕ → ℕ → List ℕ → Reply (List ℕ)
+shelfFieldCall s t x buffer = let y = shelfFieldOf s t x buffer in replyOf (laidOut noValues (y .answer)) buffer (y .lent) []
 
 -- The page: its length. The buffer that it is written to is lent.
 abbrev pub lengthValues : ℕ → List ℕ

@@ -25,5 +25,11 @@ pub mod form;
 // Walk.
 pub mod walk;
 
+// Shelf number.
+pub mod shelf_number;
+
+// Shelf field.
+pub mod shelf_field;
+
 // The page.
 pub mod printing;

@@ -4,17 +4,15 @@ use mathlib.Core.Path.{_≡_, sym, _∙_, ap}
 use Prim.Native.Nat.{ℕ, _+_, _*_, _/_, _%_, _^_, _≤_, _<_}
 use native.Mathlib.Nat.{div-add-mod'}
 use native.Mathlib.Omega.{arith}
-use lib.ListN.{length, getD, take}
-use lib.Seq.{ext-getD, length-take-le, getD-take}
-use Rattle.model.specs.Finite.{listFrom}
+use lib.ListN.{length, getD}
+use lib.Seq.{ext-getD}
 use Rattle.model.specs.Field.{Field, at}
 use Rattle.model.specs.Base.{gain, settledStage}
 use Rattle.model.specs.Sheet.{kindCount, fieldCount, cardOf}
 use Rattle.model.specs.Limits.{Limits}
 use Rattle.model.specs.Refusal.{refusal, firstOf, acceptChecks, Accepted, settleChecks, compareChecks, formChecks}
 use Rattle.theory.specs.Widths.{Bytes}
-use Rattle.model.specs.Answer.{refused, given, Lent, different, settleOf, compareOf, formOf, tableOf, primeForm, written}
-use Rattle.theory.proofs.Lists.{length-from, getD-from}
+use Rattle.model.specs.Answer.{refused, given, different, settleOf, compareOf, formOf, tableOf, primeForm, written}
 use Rattle.theory.proofs.Checks.{first-left, first-right}
 use Rattle.theory.proofs.Answers.{demand1}
 use Rattle.theory.proofs.Meanings.{meanings}
@@ -22,10 +20,6 @@ use Rattle.validation.proofs.Checking.{past-stops, past-passes, less-stops}
 use Rattle.rows.specs.Stage.{BaseAt}
 use Rattle.filer.specs.Settlement.{tableIn}
 use Rattle.filer.proofs.Writing.{table-long, row-under, count-under, table-at}
-
--- What a call's contract asks, from what the call comes to.
-pub gives : {A : Type 0} {x y : Lent A} → x ≡ y → (y .answer ≡ x .answer) × (y .lent ≡ x .lent)
-gives e = (ap (λ z. z .answer) (sym e), ap (λ z. z .lent) (sym e))
 
 module _ (s : List ℕ) where
   -- The sheet's own checks refuse.
@@ -102,13 +96,3 @@ module _ (s : List ℕ) where
 
     pub gain-fits : Bytes s → gain (cardOf s) + 1 < 2 ^ 64
     gain-fits bytes = let W = meanings {0} .widths s bytes ok in omega (arith, W .gain-most)
-
--- The first n counts of an array are a part of it.
-pub first-counts : (xs : List ℕ) (n : ℕ) → n ≤ length xs → take n xs ≡ listFrom (at xs) 0 n
-first-counts xs n h = ext-getD 0 (take n xs) (listFrom (at xs) 0 n) (length-take-le n xs h ∙ sym (length-from (at xs) 0 n)) each
-  where
-    each : (k : ℕ) → k < length (take n xs) → getD (take n xs) k 0 ≡ getD (listFrom (at xs) 0 n) k 0
-    each k l =
-        let q : k < n = omega (arith, length-take-le n xs h) in
-        let z : 0 + k ≡ k = omega arith in
-        getD-take n xs k 0 q ∙ sym (getD-from (at xs) 0 n k 0 q ∙ ap (at xs) z)

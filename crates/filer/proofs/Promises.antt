@@ -14,16 +14,17 @@ use Rattle.model.specs.Base.{settledStage, settledRow}
 use Rattle.theory.specs.Game.{Always, Answered}
 use Rattle.model.specs.Sheet.{kindCount, fieldCount, cardOf, fieldOf}
 use Rattle.model.specs.Limits.{Limits}
-use Rattle.model.specs.Refusal.{Accepted, Finding, clear, refusal, firstOf, settleChecks, compareChecks, formChecks}
+use Rattle.model.specs.Refusal.{Accepted, clear, refusal, firstOf, settleChecks, compareChecks, formChecks}
 use Rattle.theory.specs.Terms.{Before, BaseOf, Stage, Settled as IsSettled}
 use Rattle.theory.specs.Meanings.{Settles}
 use Rattle.theory.specs.Demands.{Demand2, Demand3}
-use Rattle.model.specs.Answer.{Answer, refused, given, Lent, same, different, settleOf, compareOf, formOf, rowOf, rowCheckOf, tableOf, primeForm, written}
+use Rattle.model.specs.Answer.{refused, given, Lent, same, different, settleOf, compareOf, formOf, rowOf, rowCheckOf, tableOf, primeForm, written}
 use Rattle.theory.proofs.Lists.{length-from}
 use Rattle.theory.proofs.Field.{unit-other}
 use Rattle.theory.proofs.Sheets.{field-kinds}
 use Rattle.theory.proofs.Answers.{demand1}
 use Rattle.theory.proofs.Demands.{demands}
+use Rattle.theory.proofs.Told.{told, found, answer-of, lent-of}
 use Rattle.theory.proofs.Meanings.{meanings}
 use Rattle.filer.specs.Answers.{settlingOf, findingOf, verdictOf, formingOf}
 use Rattle.filer.specs.Promises.{SettleAnswers, SettleMeans, RowAnswers, CompareAnswers, CompareMeans, CompareGames, FormAnswers, FormMeans, Promises}
@@ -66,35 +67,6 @@ forming-only Written Written e = refl
 forming-only Written (NotFormed k p) e = let z : _≡_ {A = ℕ} 0 1 = cc in absurd (omega arith)
 forming-only (NotFormed k p) Written e = let z : _≡_ {A = ℕ} 0 1 = cc in absurd (omega arith)
 forming-only (NotFormed k p) (NotFormed i q) e = cc
-
--- So an answer is a case just when the value that the contract gives it is that of the case.
-told : {A B : Type 0} (f : A → B) → ((v w : A) → f v ≡ f w → v ≡ w) → {y : B} (v : A) → f v ≡ y → (w : A) → (v ≡ w) ↔ (y ≡ f w)
-told f only v e w = ((λ h. sym e ∙ ap f h), (λ h. only v w (e ∙ h)))
-
--- A call is refused just as its checks find.
-module _ {X A : Type 0} (answer : X → Answer A) (x : X) (r : ℕ → ℕ → X) (a : A) (gives : answer x ≡ given a) (refuses : (k p : ℕ) → answer (r k p) ≡ refused k p) where
-  given-not : (k p : ℕ) → _≡_ {A = Answer A} (given a) (refused k p) → _≡_ {A = Finding} clear (refusal k p)
-  given-not k p e = let z : _≡_ {A = ℕ} 0 1 = cc in absurd (omega arith)
-
-  clear-not : (k p : ℕ) → _≡_ {A = Finding} clear (refusal k p) → answer x ≡ refused k p
-  clear-not k p e = let z : _≡_ {A = ℕ} 0 1 = cc in absurd (omega arith)
-
-  same-refusal : (j q k p : ℕ) → _≡_ {A = Answer A} (refused j q) (refused k p) → refusal j q ≡ refusal k p
-  same-refusal j q k p e = let h : j ≡ k = cc in let l : q ≡ p = cc in cc
-
-  same-refused : (j q k p : ℕ) → refusal j q ≡ refusal k p → _≡_ {A = Answer A} (refused j q) (refused k p)
-  same-refused j q k p e = let h : j ≡ k = cc in let l : q ≡ p = cc in cc
-
-  found : (f : Finding) (k p : ℕ) → (answer (elim f as (λ _. X) [ clear ↦ x | refusal k p ↦ r k p ]) ≡ refused k p) ↔ (f ≡ refusal k p)
-  found clear k p = ((λ e. given-not k p (sym gives ∙ e)), clear-not k p)
-  found (refusal j q) k p = ((λ e. same-refusal j q k p (sym (refuses j q) ∙ e)), (λ e. refuses j q ∙ same-refused j q k p e))
-
--- The parts of what a call leaves.
-answer-of : {A : Type 0} {x y : Lent A} → x ≡ y → x .answer ≡ y .answer
-answer-of e = ap (λ z. z .answer) e
-
-lent-of : {A : Type 0} {x y : Lent A} → x ≡ y → x .lent ≡ y .lent
-lent-of e = ap (λ z. z .lent) e
 
 -- Settle.
 module _ (s table : List ℕ) (answer : Settling) (after : List ℕ) (e : settlingOf answer ≡ settleOf s table .answer) (d : after ≡ settleOf s table .lent) where

@@ -25,11 +25,9 @@ use Rattle.base.specs.Settle.{FieldsFit, IsSettled}
 use Rattle.base.proofs.Outcomes.{settled-fit, prime-form, compare-different, compare-same}
 use Rattle.filer.specs.declared.settlement.Settlement.{Settlement}
 use Rattle.filer.specs.Settlement.{IsSettlement, tableIn}
-use Rattle.filer.proofs.Calls.{gives, settle-refused, compare-refused, form-refused, table-short, no-first, no-second, no-field, buffer-short, settle-given, form-given, rounds-fit, first-counts}
-
--- An acceptance that passed tells of the sheet.
-pub acceptance-accepts : (s : List ℕ) (a : Acceptance) → a ≡ acceptanceOf s → (c : Card) → a .checked ≡ Passed c → Accepts s c (a .norms)
-acceptance-accepts s a e c d = rw (ap (λ (x : Acceptance). x .norms) e) (accepts s c (sym (ap (λ (x : Acceptance). x .checked) e) ∙ d))
+use Rattle.theory.proofs.Told.{gives}
+use Rattle.theory.proofs.Writing.{first-counts}
+use Rattle.filer.proofs.Calls.{settle-refused, compare-refused, form-refused, table-short, no-first, no-second, no-field, buffer-short, settle-given, form-given, rounds-fit}
 
 -- The core function's answer, from the check of the sheet.
 module _ (s : List ℕ) (a : Acceptance) (e : a ≡ acceptanceOf s) (first : ℕ) (settled : Settled) where

@@ -6,7 +6,7 @@ use lib.ListN.{length}
 use Rattle.model.specs.Field.{at}
 use Rattle.model.specs.Base.{roundsFor}
 use Rattle.model.specs.Sheet.{byte, u32At, kindCount, codeCount, lineCount, fieldCount, counts}
-use Rattle.model.specs.Answer.{written, tableOf, primeForm}
+use Rattle.model.specs.Answer.{written, tableOf, primeForm, shelfCounts}
 
 -- "unsigned, low byte first": a number written as two bytes, and as four, the low half first.
 abbrev pub twoBytes : ℕ → List ℕ
@@ -49,6 +49,7 @@ pub record Plain : Type 0 where
   -- "n × n of them", and "n counts".
   pub table-size : (s : List ℕ) → length (tableOf s) ≡ kindCount s * kindCount s
   pub form-size : (s : List ℕ) (i : ℕ) → length (primeForm s i) ≡ kindCount s
+  pub shelf-size : (s : List ℕ) (t x : ℕ) → length (shelfCounts s t x) ≡ kindCount s
   -- "N + 1 + (s - 1)(g + 1), or N + 1 if s is 0"
   pub rounds-none : (N g : ℕ) → roundsFor N g 0 ≡ N + 1
   pub rounds-some : (N g s : ℕ) → 0 < s → roundsFor N g s ≡ N + 1 + (s - 1) * (g + 1)

@@ -11,11 +11,12 @@ use Rattle.model.specs.Expansion.{simulates, expands}
 use Rattle.model.specs.Stage.{lowering, equalNorm, falling, refined, stageFrom, stage}
 use Rattle.model.specs.Base.{fieldsOfNorm, earlier, atom, row, passes, firstSettled, formAt, partingStage, roundsFor, roundsAt}
 use Rattle.model.specs.Walk.{tryReplies, tryChallenges, examine, walk}
+use Rattle.model.specs.Shelf.{entry, listed, agree, placeOf, shelfNumber, shelfField}
 use Rattle.model.specs.Sheet.{fieldsOffset, totalOf, counts, lineOf, cardOf, fieldOf}
-use Rattle.model.specs.Refusal.{firstOf, headerChecks, lineChecks, normChecks, sheetChecks, settleChecks, compareChecks, formChecks, walkChecks, rowChecks}
+use Rattle.model.specs.Refusal.{firstOf, headerChecks, lineChecks, normChecks, sheetChecks, settleChecks, compareChecks, formChecks, walkChecks, rowChecks, shelfNumberChecks, shelfFieldChecks}
 use Rattle.model.specs.Page.{bytes, digits, number, newline, wordOf, refusedLine}
-use Rattle.model.specs.Answer.{written, tableOf, settleOf, verdict, compareOf, primeForm, formOf, within, fullWalk, walkOf, rowOf, rowCheckOf}
-use Rattle.model.proofs.Worked.{page, chain}
+use Rattle.model.specs.Answer.{written, tableOf, settleOf, verdict, compareOf, primeForm, formOf, within, fullWalk, walkOf, rowOf, rowCheckOf, shelfNumberOf, shelfCounts, shelfFieldOf}
+use Rattle.model.proofs.Worked.{sheetOf, page, chain}
 use Rattle.text.specs.Count.{countText, countTexts, countsLine}
 use Rattle.walkline.specs.Line.{drawnText, foundText}
 use Rattle.words.specs.Word.{digitOf, valueFrom, some, numberOf}
@@ -25,8 +26,11 @@ use Rattle.replies.specs.Told.{Told, told, noCall}
 use Rattle.replies.specs.Numbers.{withNone, withOne, withTwo, withFour}
 use Rattle.replies.specs.declared.reply.Outcome.{Outcome}
 use Rattle.replies.specs.declared.reply.Outcome.the-variants.{Answered, Refused, NoCall}
-use Rattle.verbs.specs.Texts.{worded, tableRoom, formRoom, stagesLine, rowLines, settleText, rowIn, rowAfter, rowText, verdictText, compareText, formText, walkText}
+use Rattle.replies.specs.Texts.{worded, countsText}
+use Rattle.verbs.specs.Texts.{tableRoom, formRoom, stagesLine, rowLines, settleText, rowIn, rowAfter, rowText, verdictText, compareText, formText, walkText}
+use Rattle.shelf_verbs.specs.Texts.{shelfRoom, shelvedLine, shelvedText, numberText, fieldText}
 use Rattle.verbs.specs.Calls.{settleTold, rowTold, compareTold, formTold, allowanceTold, walkTold}
+use Rattle.shelf_verbs.specs.Calls.{numberTold, fieldTold}
 use Rattle.queries.specs.Verb.{verbs, verbIn, verbOf}
 use Rattle.queries.specs.Query.{verbTold, saidTold, wordsTold, queryOf}
 
@@ -37,6 +41,10 @@ pub record Example : Type 0 where
 
 abbrev pub asks : List ℕ → List String → Outcome → String → Example
 asks s words outcome text = record { sheet = s; words = words; told = record { outcome = outcome; text = bytes text } }
+
+-- One kind, 0 a -> none, and fields of 17 and of 16 tokens.
+abbrev pub crowded : List ℕ
+crowded = sheetOf 1 1 ((0 ∷ 0 ∷ 0 ∷ []) ∷ []) ((17 ∷ []) ∷ (16 ∷ []) ∷ [])
 
 abbrev pub examples : List Example
 examples =
@@ -50,10 +58,21 @@ examples =
     ∷ asks chain ("walk" ∷ "0" ∷ "1" ∷ "2" ∷ "10" ∷ []) Answered "apart 2 drawn 10\n"
     ∷ asks chain ("walk" ∷ "0" ∷ "1" ∷ "2" ∷ "9" ∷ []) Answered "spent drawn 9\n"
     ∷ asks chain ("walk" ∷ "0" ∷ "0" ∷ "0" ∷ "4294967295" ∷ []) Answered "together drawn 0\n"
+    ∷ asks chain ("number" ∷ "1" ∷ []) Answered "size 1 number 2\n"
+    ∷ asks chain ("number" ∷ "2" ∷ []) (Refused 11 0) "refused 11 0\n"
+    ∷ asks crowded ("number" ∷ "0" ∷ []) (Refused 14 0) "refused 14 0\n"
+    ∷ asks crowded ("number" ∷ "1" ∷ []) Answered "size 16 number 0\n"
+    ∷ asks chain ("field" ∷ "2" ∷ "4" ∷ []) Answered "0 1 1\n"
+    ∷ asks chain ("field" ∷ "2" ∷ "6" ∷ []) (Refused 15 0) "refused 15 0\n"
+    ∷ asks chain ("field" ∷ "17" ∷ "0" ∷ []) (Refused 14 0) "refused 14 0\n"
     ∷ asks [] ("settle" ∷ []) (Refused 1 0) "refused 1 0\n"
     ∷ asks [] ("walk" ∷ "0" ∷ "0" ∷ "0" ∷ "4294967296" ∷ []) NoCall ""
     ∷ asks [] ("settle" ∷ "0" ∷ []) NoCall ""
     ∷ asks [] ("row" ∷ []) NoCall ""
+    ∷ asks [] ("number" ∷ []) NoCall ""
+    ∷ asks [] ("number" ∷ "0" ∷ "1" ∷ []) NoCall ""
+    ∷ asks [] ("field" ∷ "1" ∷ []) NoCall ""
+    ∷ asks [] ("field" ∷ "1" ∷ "0" ∷ "0" ∷ []) NoCall ""
     ∷ asks [] ("compare" ∷ "0" ∷ "" ∷ []) NoCall ""
     ∷ asks [] ("compare" ∷ "0" ∷ "18446744073709551616" ∷ []) NoCall ""
     ∷ asks [] ("compare" ∷ "0" ∷ "1" ∷ "2" ∷ "3" ∷ "4" ∷ []) NoCall ""
@@ -63,5 +82,5 @@ examples =
     ∷ []
 
 pub worked : map (λ (x : Example). queryOf (x .sheet) (ended (map bytes (x .words)))) examples ≡ map (λ (x : Example). x .told) examples
-unfolding any all keep pick concat listFrom below leastFrom bit unit ℕ-discrete weigh ready best sweeps kindNorm gainOf simulates expands lowering equalNorm falling refined stageFrom stage fieldsOfNorm earlier atom row passes firstSettled formAt partingStage roundsFor roundsAt tryReplies tryChallenges examine walk fieldsOffset totalOf counts lineOf cardOf fieldOf firstOf headerChecks lineChecks normChecks sheetChecks settleChecks compareChecks formChecks walkChecks rowChecks bytes digits number newline wordOf refusedLine written tableOf settleOf verdict compareOf primeForm formOf within fullWalk walkOf rowOf rowCheckOf countText countTexts countsLine drawnText foundText digitOf valueFrom some numberOf firstWord startedBy wordsOf sameWord saidAfter numbersOf ended told noCall withNone withOne withTwo withFour worded tableRoom formRoom stagesLine rowLines settleText rowIn rowAfter rowText verdictText compareText formText walkText settleTold rowTold compareTold formTold allowanceTold walkTold verbs verbIn verbOf verbTold saidTold wordsTold queryOf
+unfolding any all keep pick concat listFrom below leastFrom bit unit ℕ-discrete weigh ready best sweeps kindNorm gainOf simulates expands lowering equalNorm falling refined stageFrom stage fieldsOfNorm earlier atom row passes firstSettled formAt partingStage roundsFor roundsAt tryReplies tryChallenges examine walk entry listed agree placeOf shelfNumber shelfField fieldsOffset totalOf counts lineOf cardOf fieldOf firstOf headerChecks lineChecks normChecks sheetChecks settleChecks compareChecks formChecks walkChecks rowChecks shelfNumberChecks shelfFieldChecks bytes digits number newline wordOf refusedLine written tableOf settleOf verdict compareOf primeForm formOf within fullWalk walkOf rowOf rowCheckOf shelfNumberOf shelfCounts shelfFieldOf countText countTexts countsLine drawnText foundText digitOf valueFrom some numberOf firstWord startedBy wordsOf sameWord saidAfter numbersOf ended told noCall withNone withOne withTwo withFour worded tableRoom formRoom shelfRoom stagesLine rowLines settleText rowIn rowAfter rowText verdictText compareText countsText formText walkText shelvedLine shelvedText numberText fieldText settleTold rowTold compareTold formTold allowanceTold walkTold numberTold fieldTold verbs verbIn verbOf verbTold saidTold wordsTold queryOf
 worked = refl

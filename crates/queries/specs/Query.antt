@@ -4,9 +4,10 @@ use Prim.Native.Nat.{ℕ}
 use Rattle.words.specs.Words.{Said, numbers, nothing, numbersOf, wordsOf}
 use Rattle.replies.specs.Told.{Told, noCall}
 use Rattle.verbs.specs.Calls.{settleTold, rowTold, compareTold, formTold, walkTold}
+use Rattle.shelf_verbs.specs.Calls.{numberTold, fieldTold}
 use Rattle.queries.specs.Verb.{verbOf}
 use Rattle.queries.specs.declared.table.Verb.{Verb}
-use Rattle.queries.specs.declared.table.Verb.the-variants.{Settle, Row, Compare, Form, Walk, Other}
+use Rattle.queries.specs.declared.table.Verb.the-variants.{Settle, Row, Compare, Form, Walk, Number, Field, Other}
 
 -- Each verb, with its numbers.
 unfoldable pub verbTold : List ℕ → Verb → List ℕ → Told
@@ -15,6 +16,8 @@ verbTold s Row = rowTold s
 verbTold s Compare = compareTold s
 verbTold s Form = formTold s
 verbTold s Walk = walkTold s
+verbTold s Number = numberTold s
+verbTold s Field = fieldTold s
 verbTold s Other = λ _. noCall
 
 -- The same, where the words after the verb say numbers; otherwise it is no call.

@@ -3,6 +3,8 @@ use crate::table::Verb;
 use crate::table::verb_of;
 use replies::reply::Reply;
 use replies::reply::no_call;
+use shelf_verbs::field::numbered_field;
+use shelf_verbs::number::field_number;
 use verbs::compare::compare_fields;
 use verbs::form::field_form;
 use verbs::settle::settle;
@@ -14,7 +16,7 @@ use words::word_end;
 ghost use Prim.Native.Nat.{_≤_};
 ghost use lib.ListN.{length};
 ghost use Rattle.replies.specs.Told.{Tells};
-ghost use Rattle.verbs.specs.Calls.{mostText};
+ghost use Rattle.replies.specs.Texts.{mostText};
 ghost use Rattle.queries.specs.Query.{verbTold, queryOf};
 
 // No text is longer.
@@ -34,6 +36,8 @@ fn call(s: &[u8], verb: Verb, numbers: &[u64], out: &mut [u8]) -> Reply
         Verb::Compare => compare_fields(s, numbers, out),
         Verb::Form => field_form(s, numbers, out),
         Verb::Walk => walk_fields(s, numbers, out),
+        Verb::Number => field_number(s, numbers, out),
+        Verb::Field => numbered_field(s, numbers, out),
         Verb::Other => no_call(),
     }
 }

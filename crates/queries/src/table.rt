@@ -10,6 +10,8 @@ pub enum Verb {
     Compare,
     Form,
     Walk,
+    Number,
+    Field,
     Other,
 }
 
@@ -31,6 +33,12 @@ pub fn verb_of(word: &[u8]) -> Verb
     }
     if same_word(word, b"walk") {
         return Verb::Walk;
+    }
+    if same_word(word, b"number") {
+        return Verb::Number;
+    }
+    if same_word(word, b"field") {
+        return Verb::Field;
     }
     Verb::Other
 }

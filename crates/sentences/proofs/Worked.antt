@@ -7,7 +7,7 @@ use Prim.Native.String.{String}
 use lib.Dec.{eqb, ltb}
 use lib.ListN.{length}
 use Rattle.model.specs.Finite.{both, pick}
-use Rattle.model.specs.Limits.{mostKinds, mostCodes, mostLines, mostFields, normLimit, mostRounds}
+use Rattle.model.specs.Limits.{mostKinds, mostCodes, mostLines, mostFields, normLimit, mostRounds, mostTokens}
 use Rattle.model.specs.Page.{bytes, digits, number, newline}
 use Rattle.model.specs.Sheet.{linesOffset}
 use Rattle.sentences.specs.Sentence.{sentences, among, has, named, sentenceOf}
@@ -33,10 +33,14 @@ examples =
     ∷ at 11 1 "the second field number is too large\n"
     ∷ at 12 0 "a buffer or table is too short\n"
     ∷ at 13 0 "the round limit is over 8\n"
+    ∷ at 14 0 "the field or the size is over 16 tokens\n"
+    ∷ at 15 0 "no field of this size has so large a number\n"
     ∷ at 0 0 ""
     ∷ at 1 1 ""
     ∷ at 6 4 ""
-    ∷ at 14 0 ""
+    ∷ at 14 1 ""
+    ∷ at 15 1 ""
+    ∷ at 16 0 ""
     ∷ []
 
 pub worked : map (λ (e : Example). sentenceOf (e .number) (e .place)) examples ≡ map (λ (e : Example). bytes (e .text)) examples
@@ -50,7 +54,7 @@ grouped (d ∷ ds) = d ∷ elim (both (ltb 0 (length ds)) (eqb (length ds % 3) 0
 
 -- Each limit in a sentence is the model's.
 pub limits-said
-    : map (λ (k : ℕ). sentenceOf k 0) (1 ∷ 2 ∷ 3 ∷ 4 ∷ 5 ∷ 6 ∷ 10 ∷ 13 ∷ [])
+    : map (λ (k : ℕ). sentenceOf k 0) (1 ∷ 2 ∷ 3 ∷ 4 ∷ 5 ∷ 6 ∷ 10 ∷ 13 ∷ 14 ∷ [])
     ≡ map (λ (t : List ℕ). t ++ newline) (
     (bytes "the sheet has under " ++ number linesOffset ++ bytes " bytes")
     ∷ (bytes "the number of kinds is not from 1 to " ++ number mostKinds)
@@ -60,6 +64,7 @@ pub limits-said
     ∷ (bytes "the offset of the lines is not " ++ number linesOffset)
     ∷ (bytes "kind 0: its norm is over " ++ grouped (number normLimit))
     ∷ (bytes "the round limit is over " ++ number mostRounds)
+    ∷ (bytes "the field or the size is over " ++ number mostTokens ++ bytes " tokens")
     ∷ []
     )
 unfolding sentenceOf sentences pick has among named grouped bytes digits number newline

@@ -3,7 +3,7 @@ use mathlib.Core.List.{List}
 use mathlib.Core.Path.{_≡_}
 use Prim.Native.Nat.{ℕ, _<_}
 use lib.ListN.{length}
-use Rattle.model.specs.Refusal.{Check, refusal, firstOf, acceptChecks, settleChecks, compareChecks, formChecks, walkChecks, rowChecks}
+use Rattle.model.specs.Refusal.{Check, refusal, firstOf, acceptChecks, settleChecks, compareChecks, formChecks, walkChecks, rowChecks, shelfNumberChecks, shelfFieldChecks}
 use Rattle.sentences.specs.Sentence.{sentenceOf}
 
 -- What these checks refuse has a sentence.
@@ -18,3 +18,5 @@ pub record Every : Type 0 where
   pub compare : (s : List ℕ) (i j : ℕ) → Said (compareChecks s i j)
   pub form : (s : List ℕ) (i size : ℕ) → Said (formChecks s i size)
   pub walk : (s : List ℕ) (i j limit : ℕ) → Said (walkChecks s i j limit)
+  pub number : (s : List ℕ) (i : ℕ) → Said (shelfNumberChecks s i)
+  pub field : (s : List ℕ) (t x size : ℕ) → Said (shelfFieldChecks s t x size)

@@ -22,7 +22,7 @@ pub struct Row {
     pub words: [u8; 52],
 }
 
-const ROWS: usize = 17;
+const ROWS: usize = 19;
 
 const TABLE: [Row; ROWS] = [
     Row {
@@ -120,6 +120,18 @@ const TABLE: [Row; ROWS] = [
         places: Place::Only(0),
         count: 26,
         words: *b"the round limit is over 8\n                          ",
+    },
+    Row {
+        number: 14,
+        places: Place::Only(0),
+        count: 40,
+        words: *b"the field or the size is over 16 tokens\n            ",
+    },
+    Row {
+        number: 15,
+        places: Place::Only(0),
+        count: 44,
+        words: *b"no field of this size has so large a number\n        ",
     },
     Row {
         number: 12,

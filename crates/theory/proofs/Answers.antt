@@ -14,12 +14,14 @@ use Rattle.theory.proofs.Lists.{length-from, getD-from}
 use Rattle.model.specs.Finite.{concat, listFrom}
 use Rattle.model.specs.Norm.{kindNorm}
 use Rattle.model.specs.Base.{roundsAt, settledStage, settledRow}
-use Rattle.model.specs.Field.{at}
+use Rattle.model.specs.Field.{at, tokens}
+use Rattle.model.specs.Card.{liveCount}
+use Rattle.model.specs.Shelf.{entry, shelfField}
 use Rattle.model.specs.Walk.{spent, Walk}
 use Rattle.model.specs.Sheet.{kindCount, fieldCount, cardOf, fieldOf}
-use Rattle.model.specs.Limits.{mostKinds, mostRounds}
-use Rattle.model.specs.Refusal.{check, Finding, clear, refusal, firstOf, sheetChecks, normChecks, Accepted, settleChecks, compareChecks, formChecks, walkChecks, rowChecks}
-use Rattle.model.specs.Answer.{Answer, Lent, tableOf, primeForm, refused, given, Session, Walked, same, different, settleOf, rowCheckOf, rowOf, verdict, written, compareOf, formOf, within, fullWalk, walkOf}
+use Rattle.model.specs.Limits.{mostKinds, mostRounds, mostTokens, Limits}
+use Rattle.model.specs.Refusal.{Check, check, Finding, clear, refusal, firstOf, sheetChecks, normChecks, acceptChecks, Accepted, settleChecks, compareChecks, formChecks, walkChecks, rowChecks, shelfNumberChecks, shelfFieldChecks}
+use Rattle.model.specs.Answer.{Answer, Lent, tableOf, primeForm, refused, given, Session, Walked, same, different, settleOf, rowCheckOf, rowOf, verdict, written, compareOf, formOf, within, fullWalk, walkOf, shelfNumberOf, shelfCounts, shelfFieldOf}
 use Rattle.theory.specs.Demands.{Demand1}
 use Rattle.model.proofs.Plain.{plain}
 use Rattle.theory.proofs.Exec.{Tells, tells-lt}
@@ -222,8 +224,46 @@ module _ (s : List ℕ) where
       go clear = within-draws v (fullWalk s i j limit) .1
       go (refusal k p) = omega arith
 
+  -- The checks of a call after those of the sheet.
+  sheet-then : (xs : List Check) → firstOf (acceptChecks s ++ xs) ≡ clear → Limits s × (firstOf xs ≡ clear)
+  unfolding Accepted
+  sheet-then xs e =
+      let p = then-clear (firstOf (acceptChecks s)) (firstOf xs) (sym (first-append (acceptChecks s) xs) ∙ e) in
+      (accepted-limits s (p .0), p .1)
+
+  number-taken : (i : ℕ) → (firstOf (shelfNumberChecks s i) ≡ clear) ↔ (Limits s × (i < fieldCount s) × (tokens (kindCount s) (fieldOf s i) ≤ mostTokens))
+  unfolding shelfNumberChecks
+  number-taken i = (
+    (λ e.
+        let p = sheet-then _ e in
+        let x = cons-none 11 0 _ _ (p .1) in
+        let y = cons-none 14 0 _ _ (x .1) in
+        (p .0, small i (fieldCount s) (x .0), from-less mostTokens (tokens (kindCount s) (fieldOf s i)) (y .0))),
+    (λ p. call-checks s (limits-accepted s (p .0)) _
+        ∙ clear-cons 11 0 _ _ (not-small i (fieldCount s) (p .1)) (clear-cons 14 0 _ [] (not-less mostTokens (tokens (kindCount s) (fieldOf s i)) (p .2)) clear-nil)),
+  )
+
+  shelf-taken : (t x size : ℕ) → (firstOf (shelfFieldChecks s t x size) ≡ clear)
+      ↔ (Limits s × (t ≤ mostTokens) × (x < entry (liveCount (cardOf s)) t) × (kindCount s ≤ size))
+  unfolding shelfFieldChecks
+  shelf-taken t x size = (
+    (λ e.
+        let p = sheet-then _ e in
+        let a = cons-none 14 0 _ _ (p .1) in
+        let b = cons-none 15 0 _ _ (a .1) in
+        let c = cons-none 12 0 _ _ (b .1) in
+        (p .0, from-less mostTokens t (a .0), small x (entry (liveCount (cardOf s)) t) (b .0), from-less size (kindCount s) (c .0))),
+    (λ p. call-checks s (limits-accepted s (p .0)) _
+        ∙ clear-cons 14 0 _ _ (not-less mostTokens t (p .1))
+        (clear-cons 15 0 _ _ (not-small x (entry (liveCount (cardOf s)) t) (p .2)) (clear-cons 12 0 _ [] (not-less size (kindCount s) (p .3)) clear-nil))),
+  )
+
+  shelf-counts : (t x k : ℕ) → k < kindCount s → at (shelfCounts s t x) k ≡ shelfField (cardOf s) t x k
+  unfolding shelfCounts
+  shelf-counts t x k h = let z : 0 + k ≡ k = omega arith in getD-from (shelfField (cardOf s) t x) 0 (kindCount s) k 0 h ∙ ap (shelfField (cardOf s) t x) z
+
   pub demand1 : Demand1 s
-  unfolding settleOf compareOf formOf walkOf rowOf
+  unfolding settleOf compareOf formOf walkOf rowOf shelfNumberOf shelfFieldOf
   demand1 = record {
     accepted = (accepted-limits s, limits-accepted s);
     settled = λ L table h. call-clear _ _ (firstOf (settleChecks s (length table))) (settle-clear (limits-accepted s L) (length table) h);
@@ -252,4 +292,16 @@ module _ (s : List ℕ) where
     row-taken = row-taken;
     row-part = λ n k table e. call-clear _ _ (rowCheckOf n k table) e;
     row-refused = row-refuses;
+    number-taken = number-taken;
+    numbered = λ i e. call-clear _ _ (firstOf (shelfNumberChecks s i)) e;
+    number-refused = λ i k p e. call-refused _ _ (firstOf (shelfNumberChecks s i)) k p e;
+    shelf-taken = shelf-taken;
+    shelved = λ t x buffer e. call-clear _ _ (firstOf (shelfFieldChecks s t x (length buffer))) e;
+    shelf-refused = λ t x buffer k p e. call-refused _ _ (firstOf (shelfFieldChecks s t x (length buffer))) k p e;
+    shelf-counts = shelf-counts;
+    shelf-size = plain .shelf-size s;
+    shelf-length = λ t x buffer.
+        kept (given tt) (shelfCounts s t x) buffer (firstOf (shelfFieldChecks s t x (length buffer))) (λ e. omega (arith, plain .shelf-size s t x, shelf-taken t x (length buffer) .0 e .3));
+    shelf-past = λ t x buffer e h.
+        past (given tt) (shelfCounts s t x) buffer (firstOf (shelfFieldChecks s t x (length buffer))) e (omega (arith, plain .shelf-size s t x));
   }

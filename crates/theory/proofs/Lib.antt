@@ -25,6 +25,10 @@ pub mod Fewest
 pub mod Cut
 pub mod Enumerate
 pub mod Rows
+-- Shelf numbers: the listing, its order and its numbers, the listing of a card.
+pub mod Listing
+pub mod Numbering
+pub mod Shelves
 -- Pairs examined where an allowance may end the count: one part after another, and runs through lists.
 pub mod Counted
 pub mod Runs
@@ -48,3 +52,6 @@ pub mod Decimals
 pub mod Pages
 pub mod Meanings
 pub mod Demands
+-- For the crates above: buffers that are written in a loop, and what an enum tells.
+pub mod Writing
+pub mod Told

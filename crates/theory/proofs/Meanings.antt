@@ -17,6 +17,7 @@ use Rattle.theory.proofs.Walks.{walks}
 use Rattle.theory.proofs.Decimals.{decimals}
 use Rattle.theory.proofs.Pages.{pages}
 use Rattle.theory.proofs.Widths.{widths}
+use Rattle.theory.proofs.Shelves.{shelves, entries-fit}
 use Rattle.theory.proofs.Settling.{sheet-settles, sheet-primes}
 
 turn-passed : (c : Card) (l m : Line) (P : Field → Field → Type 0) (s : Side) (a b : Field) → ¬ (0 < sideOf s a b (l .kind)) → Turn c s l m a b P ↔ P a b
@@ -54,4 +55,4 @@ steps L R = (
 )
 
 pub meanings {ℓ} : Meanings {ℓ}
-meanings = record { firsts = firsts; headers = headers; places = sheet-places; norms = sheet-norms; steps = steps; games = games; walks = walks; settles = sheet-settles; primes = λ s ok. sheet-primes s ok; decimals = decimals; pages = pages; widths = widths }
+meanings = record { firsts = firsts; headers = headers; places = sheet-places; norms = sheet-norms; steps = steps; games = games; walks = walks; settles = sheet-settles; primes = λ s ok. sheet-primes s ok; decimals = decimals; pages = pages; widths = widths; shelves = shelves; entries-fit = entries-fit }

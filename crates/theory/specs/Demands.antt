@@ -4,18 +4,19 @@ use mathlib.Core.Logic.{_↔_, _⊎_}
 use mathlib.Core.Path.{_≡_}
 use Prim.Native.Nat.{ℕ, _+_, _-_, _*_, _≤_, _<_, min}
 use lib.ListN.{length, take, drop}
-use Rattle.model.specs.Field.{Field, at}
-use Rattle.model.specs.Card.{On}
+use Rattle.model.specs.Field.{Field, at, tokens}
+use Rattle.model.specs.Card.{On, liveCount}
 use Rattle.model.specs.Norm.{IsNorm}
 use Rattle.theory.specs.Expansion.{Expands, Bisimilar}
 use Rattle.model.specs.Base.{settledStage, settledRow}
 use Rattle.theory.specs.Game.{Holds, Always, Parting, Parted, Strategy, Answered, Challenge}
+use Rattle.model.specs.Shelf.{entry, shelfNumber, shelfField}
 use Rattle.model.specs.Walk.{spent}
 use Rattle.model.specs.Sheet.{kindCount, fieldCount, cardOf, fieldOf}
-use Rattle.model.specs.Limits.{mostKinds, mostRounds, Limits}
-use Rattle.model.specs.Refusal.{Accepted, clear, refusal, firstOf, sheetChecks, settleChecks, compareChecks, formChecks, walkChecks}
+use Rattle.model.specs.Limits.{mostKinds, mostRounds, mostTokens, Limits}
+use Rattle.model.specs.Refusal.{Accepted, clear, refusal, firstOf, sheetChecks, settleChecks, compareChecks, formChecks, walkChecks, shelfNumberChecks, shelfFieldChecks}
 use Rattle.theory.specs.Terms.{OfKinds, IsGain, Stage, Prime}
-use Rattle.model.specs.Answer.{refused, given, Session, same, different, settleOf, compareOf, formOf, walkOf, rowOf, rowCheckOf, tableOf, primeForm, written, fullWalk}
+use Rattle.model.specs.Answer.{refused, given, Session, same, different, settleOf, compareOf, formOf, walkOf, rowOf, rowCheckOf, tableOf, primeForm, written, fullWalk, shelfNumberOf, shelfCounts, shelfFieldOf}
 
 -- Demand 1.
 pub record Demand1 (s : List ℕ) : Type 0 where
@@ -65,6 +66,24 @@ pub record Demand1 (s : List ℕ) : Type 0 where
   pub row-taken : (n k : ℕ) (table : List ℕ) → (rowCheckOf n k table ≡ clear) ↔ ((1 ≤ n) × (n ≤ mostKinds) × (k < n) × (n * n ≤ length table))
   pub row-part : (n k : ℕ) (table : List ℕ) → rowCheckOf n k table ≡ clear → rowOf n k table ≡ take n (drop (k * n) table)
   pub row-refused : (n k : ℕ) (table : List ℕ) → (rowOf n k table ≡ []) ↔ ((q : ℕ) × (p : ℕ) × (rowCheckOf n k table ≡ refusal q p))
+  -- Shelf numbers (document 02, request 2): "demand 1 speaks of the inputs they refuse too". Field to number is not refused just when the sheet is within the limits, the field is one of
+  -- its fields and has at most 16 tokens; then it answers the field's size and number.
+  pub number-taken : (i : ℕ) → (firstOf (shelfNumberChecks s i) ≡ clear) ↔ (Limits s × (i < fieldCount s) × (tokens (kindCount s) (fieldOf s i) ≤ mostTokens))
+  pub numbered : (i : ℕ) → firstOf (shelfNumberChecks s i) ≡ clear
+      → shelfNumberOf s i ≡ given (record { size = tokens (kindCount s) (fieldOf s i); number = shelfNumber (cardOf s) (fieldOf s i) })
+  pub number-refused : (i k p : ℕ) → firstOf (shelfNumberChecks s i) ≡ refusal k p → shelfNumberOf s i ≡ refused k p
+  -- Number to field is not refused just when the sheet is within the limits, the size is at most 16, the number is under its entry and the buffer has room for n counts; then these are written.
+  pub shelf-taken : (t x size : ℕ) → (firstOf (shelfFieldChecks s t x size) ≡ clear)
+      ↔ (Limits s × (t ≤ mostTokens) × (x < entry (liveCount (cardOf s)) t) × (kindCount s ≤ size))
+  pub shelved : (t x : ℕ) (buffer : List ℕ) → firstOf (shelfFieldChecks s t x (length buffer)) ≡ clear
+      → shelfFieldOf s t x buffer ≡ record { answer = given tt; lent = written (shelfCounts s t x) buffer }
+  pub shelf-refused : (t x : ℕ) (buffer : List ℕ) (k p : ℕ) → firstOf (shelfFieldChecks s t x (length buffer)) ≡ refusal k p
+      → shelfFieldOf s t x buffer ≡ record { answer = refused k p; lent = buffer }
+  -- "n counts": count k is that of kind k. "Bytes of a lent buffer past those named keep their values", and it keeps its length.
+  pub shelf-counts : (t x k : ℕ) → k < kindCount s → at (shelfCounts s t x) k ≡ shelfField (cardOf s) t x k
+  pub shelf-size : (t x : ℕ) → length (shelfCounts s t x) ≡ kindCount s
+  pub shelf-length : (t x : ℕ) (buffer : List ℕ) → length (shelfFieldOf s t x buffer .lent) ≡ length buffer
+  pub shelf-past : (t x : ℕ) (buffer : List ℕ) (e : ℕ) → kindCount s ≤ e → at (shelfFieldOf s t x buffer .lent) e ≡ at buffer e
 
 -- Demand 2, of fields i and j of an accepted sheet, with bisimulations of every universe.
 pub record Demand2 {ℓ} (s : List ℕ) (i j : ℕ) : Type (ℓ + 1) where

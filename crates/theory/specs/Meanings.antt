@@ -21,6 +21,7 @@ use Rattle.model.specs.Answer.{tableOf, rowOf, fullWalk}
 use Rattle.model.specs.Plain.{headerBytes}
 use Rattle.theory.specs.Widths.{Bytes, Widths}
 use Rattle.model.specs.Page.{number, itself, refusedLine, pageOf, printed}
+use Rattle.theory.specs.Shelves.{Shelves, EntriesFit}
 use Rattle.theory.specs.Terms.{IsGain, Stage, BaseOf, Prime, Settled}
 
 -- "the first that applies is given with its place"
@@ -126,3 +127,5 @@ pub record Meanings {ℓ} : Type (ℓ + 1) where
   pub decimals : (x : ℕ) → Decimal x
   pub pages : (s : List ℕ) → Pages {ℓ} s
   pub widths : (s : List ℕ) → Bytes s → Accepted s → Widths s
+  pub shelves : (c : Card) (t : ℕ) → Shelves c t
+  pub entries-fit : EntriesFit

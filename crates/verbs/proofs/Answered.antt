@@ -4,17 +4,18 @@ use mathlib.Core.Path.{_≡_, refl, sym, ap, _∙_}
 use Prim.Native.Nat.{ℕ, _≤_, _<_}
 use native.Mathlib.Omega.{arith}
 use borrow.Author.Tests.{le-leb, lt-leb}
-use lib.ListN.{length, take}
+use lib.ListN.{length}
 use Rattle.model.specs.Sheet.{kindCount}
 use Rattle.model.specs.Walk.{WalkAnswer}
-use Rattle.model.specs.Answer.{Answer, refused, given, settleOf, formOf, walkOf, rowCheckOf}
-use Rattle.text.specs.Count.{countsLine}
+use Rattle.model.specs.Answer.{Answer, refused, given, settleOf, walkOf, rowCheckOf}
+use Rattle.model.specs.Page.{number}
 use Rattle.text.specs.Appended.{Appended}
 use Rattle.text.proofs.Append.{from-start}
 use Rattle.walkline.specs.Line.{drawnText, foundText, answerLine}
 use Rattle.replies.specs.Told.{told, noCall, endOf, Tells}
+use Rattle.replies.specs.Texts.{worded}
 use Rattle.replies.specs.declared.reply.Outcome.{Outcome}
-use Rattle.verbs.specs.Texts.{worded, tableRoom, formRoom, stagesLine, rowLines, settleText, rowIn, rowAfter, rowText, formText, walkText}
+use Rattle.verbs.specs.Texts.{tableRoom, stagesLine, rowLines, settleText, rowIn, rowAfter, rowText, walkText}
 use Rattle.verbs.specs.Calls.{mostNarrow, allowanceTold}
 
 -- Settle and Row, by what Settle gives for a table with room.
@@ -43,21 +44,6 @@ module _ (s room table : List ℕ) (is-room : room ≡ tableRoom) (lent : table 
   pub row-refused : (k number place : ℕ) → refused number place ≡ settleOf s room .answer → refused number place ≡ rowText s k
   unfolding rowText rowAfter
   row-refused k number place e = ap (rowAfter s k) (answered-there e)
-
--- Prime form, by what it gives for a buffer with room.
-module _ (s room form : List ℕ) (i : ℕ) (is-room : room ≡ formRoom) (lent : form ≡ formOf s i room .lent) where
-  formed-there : {a : Answer (Unit {0})} → a ≡ formOf s i room .answer → a ≡ formOf s i formRoom .answer
-  formed-there e = e ∙ ap (λ (r : List ℕ). formOf s i r .answer) is-room
-
-  pub form-answered : given tt ≡ formOf s i room .answer → given (countsLine (take (kindCount s) form)) ≡ formText s i
-  unfolding formText worded
-  form-answered e =
-      ap (λ (f : List ℕ). given (countsLine (take (kindCount s) f))) (lent ∙ ap (λ (r : List ℕ). formOf s i r .lent) is-room)
-      ∙ ap (worded (λ _. countsLine (take (kindCount s) (formOf s i formRoom .lent)))) (formed-there e)
-
-  pub form-refused : (number place : ℕ) → refused number place ≡ formOf s i room .answer → refused number place ≡ formText s i
-  unfolding formText worded
-  form-refused number place e = ap (worded (λ _. countsLine (take (kindCount s) (formOf s i formRoom .lent)))) (formed-there e)
 
 -- A walk's line, whatever its answer.
 walk-told : (answer : Answer WalkAnswer) (drawn : ℕ)

@@ -1,16 +1,15 @@
 -- How large is what the calls give.
-use mathlib.Core.List.{List, [], _++_}
-use mathlib.Core.Path.{_≡_, refl, sym, ap, _∙_}
-use Prim.Native.Nat.{ℕ, _+_, _*_, _≤_}
+use mathlib.Core.List.{List, []}
+use mathlib.Core.Path.{_≡_, refl, ap}
+use Prim.Native.Nat.{ℕ, _*_, _≤_}
 use native.Mathlib.Omega.{arith}
 use lib.ListN.{length, drop, length-take}
 use Rattle.model.specs.Limits.{mostKinds}
 use Rattle.model.specs.Sheet.{kindCount}
-use Rattle.model.specs.Refusal.{Check, Finding, clear, refusal, firstOf, acceptChecks, Accepted, settleChecks, formChecks}
+use Rattle.model.specs.Refusal.{Finding, clear, refusal, settleChecks, formChecks}
 use Rattle.model.specs.Answer.{given, settleOf, formOf, rowOf, rowCheckOf}
-use Rattle.theory.proofs.Checks.{first-left}
 use Rattle.theory.proofs.Answers.{demand1}
-use Rattle.filer.proofs.Calls.{limits}
+use Rattle.replies.proofs.Texts.{answered-few}
 
 -- A row that is handed out has at most as many counts as a card has kinds.
 pub row-most : (n k : ℕ) (table : List ℕ) → length (rowOf n k table) ≤ mostKinds
@@ -22,34 +21,10 @@ row-most n k table = go (rowCheckOf n k table) refl
         omega (arith, ap length (demand1 [] .row-part n k table e), length-take n (drop (k * n) table), few)
     go (refusal q p) e = omega (arith, ap length (demand1 [] .row-refused n k table .1 (q, p, e)))
 
--- A sheet that a call answers is accepted, and so has at most 32 kinds.
-few-kinds : (s : List ℕ) → Accepted s → kindCount s ≤ mostKinds
-few-kinds s ok = limits s ok .kinds .1
-
-passes : (s : List ℕ) (more : List Check) → firstOf (acceptChecks s ++ more) ≡ clear → Accepted s
-unfolding Accepted
-passes s more e = go (firstOf (acceptChecks s)) refl
-  where
-    go : (f : Finding) → firstOf (acceptChecks s) ≡ f → f ≡ clear
-    go clear d = refl
-    go (refusal k p) d = sym (first-left (acceptChecks s) more k p d) ∙ e
-
 pub settled-few : (s table : List ℕ) (stage : ℕ) → given stage ≡ settleOf s table .answer → kindCount s ≤ mostKinds
 unfolding settleChecks
-settled-few s table stage e = go (firstOf (settleChecks s (length table))) refl
-  where
-    go : (f : Finding) → firstOf (settleChecks s (length table)) ≡ f → kindCount s ≤ mostKinds
-    go clear d = few-kinds s (passes s _ d)
-    go (refusal k p) d =
-        let r = e ∙ ap (λ x. x .answer) (demand1 s .settle-refused table k p d) in
-        let z : _≡_ {A = ℕ} 0 1 = cc in absurd (omega arith)
+settled-few s table stage e = answered-few s _ (λ k p d. ap (λ x. x .answer) (demand1 s .settle-refused table k p d)) e
 
 pub formed-few : (s : List ℕ) (i : ℕ) (buffer : List ℕ) → given tt ≡ formOf s i buffer .answer → kindCount s ≤ mostKinds
 unfolding formChecks
-formed-few s i buffer e = go (firstOf (formChecks s i (length buffer))) refl
-  where
-    go : (f : Finding) → firstOf (formChecks s i (length buffer)) ≡ f → kindCount s ≤ mostKinds
-    go clear d = few-kinds s (passes s _ d)
-    go (refusal k p) d =
-        let r = e ∙ ap (λ x. x .answer) (demand1 s .form-refused i buffer k p d) in
-        let z : _≡_ {A = ℕ} 0 1 = cc in absurd (omega arith)
+formed-few s i buffer e = answered-few s _ (λ k p d. ap (λ x. x .answer) (demand1 s .form-refused i buffer k p d)) e

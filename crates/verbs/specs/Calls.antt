@@ -7,10 +7,6 @@ use Rattle.replies.specs.Told.{Told, told, noCall}
 use Rattle.replies.specs.Numbers.{withNone, withOne, withTwo, withFour}
 use Rattle.verbs.specs.Texts.{settleText, rowText, compareText, formText, walkText}
 
--- No text is longer: `stages S` has at most 28 bytes, and each of at most 32 rows 673.
-abbrev pub mostText : ℕ
-mostText = 21564
-
 -- settle, with no number.
 unfoldable pub settleTold : List ℕ → List ℕ → Told
 settleTold s = withNone (told (settleText s))

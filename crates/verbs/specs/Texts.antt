@@ -1,7 +1,7 @@
 -- The text of each call's answer.
 use mathlib.Core.List.{List, _++_}
 use Prim.Native.Nat.{ℕ}
-use lib.ListN.{take, replicate}
+use lib.ListN.{replicate}
 use Rattle.model.specs.Finite.{concat, listFrom}
 use Rattle.model.specs.Sheet.{kindCount}
 use Rattle.model.specs.Refusal.{Finding, clear, refusal}
@@ -9,11 +9,7 @@ use Rattle.model.specs.Answer.{Answer, refused, given, Verdict, settleOf, rowOf
 use Rattle.model.specs.Page.{bytes, number, newline, wordOf}
 use Rattle.text.specs.Count.{countsLine}
 use Rattle.walkline.specs.Line.{drawnText, foundText}
-
--- An answer by the text that its value gets.
-unfoldable pub worded : {A : Type 0} → (A → List ℕ) → Answer A → Answer (List ℕ)
-worded text (given a) = given (text a)
-worded text (refused number place) = refused number place
+use Rattle.replies.specs.Texts.{worded, countsText}
 
 -- The room that is lent: a table and a form of any card.
 unfoldable pub tableRoom : List ℕ
@@ -54,7 +50,7 @@ compareText s i j = verdictText (compareOf s i j)
 
 -- form I: the counts of the prime form.
 unfoldable pub formText : List ℕ → ℕ → Answer (List ℕ)
-formText s i = worded (λ _. countsLine (take (kindCount s) (formOf s i formRoom .lent))) (formOf s i formRoom .answer)
+formText s i = countsText (kindCount s) (formOf s i formRoom)
 
 -- walk I J LIMIT ALLOWANCE: `apart R drawn D`, `together drawn D` or `spent drawn D`.
 unfoldable pub walkText : List ℕ → ℕ → ℕ → ℕ → ℕ → Answer (List ℕ)

@@ -12,7 +12,8 @@ ghost use lib.ListN.{length};
 ghost use Rattle.filer.specs.Answers.{verdictOf};
 ghost use Rattle.replies.specs.Told.{told, Tells};
 ghost use Rattle.verbs.specs.Texts.{verdictText};
-ghost use Rattle.verbs.specs.Calls.{mostText, compareTold};
+ghost use Rattle.replies.specs.Texts.{mostText};
+ghost use Rattle.verbs.specs.Calls.{compareTold};
 
 // `same` or `different S R`.
 fn put_verdict(out: &mut [u8], verdict: Verdict) -> Reply

@@ -12,7 +12,8 @@ ghost use Prim.Native.Nat.{_≤_};
 ghost use lib.ListN.{length};
 ghost use Rattle.replies.specs.Told.{Tells};
 ghost use Rattle.verbs.specs.Texts.{formRoom};
-ghost use Rattle.verbs.specs.Calls.{mostText, formTold};
+ghost use Rattle.replies.specs.Texts.{mostText};
+ghost use Rattle.verbs.specs.Calls.{formTold};
 
 // Room for the prime form of any card's field.
 fn form_room() -> [u64; 32]

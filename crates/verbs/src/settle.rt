@@ -22,7 +22,8 @@ ghost use Rattle.model.specs.Answer.{given, rowCheckOf};
 ghost use Rattle.text.specs.Appended.{Appended};
 ghost use Rattle.replies.specs.Told.{told, Tells};
 ghost use Rattle.verbs.specs.Texts.{tableRoom, stagesLine, rowLines, rowIn};
-ghost use Rattle.verbs.specs.Calls.{mostText, settleTold, rowTold};
+ghost use Rattle.replies.specs.Texts.{mostText};
+ghost use Rattle.verbs.specs.Calls.{settleTold, rowTold};
 
 // Room for the table of any card.
 fn table_room() -> [u32; 1024]

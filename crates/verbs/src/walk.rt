@@ -11,7 +11,8 @@ ghost use Prim.Native.Nat.{_≤_};
 ghost use lib.ListN.{length};
 ghost use Rattle.walker.specs.Answers.{answerOf};
 ghost use Rattle.replies.specs.Told.{Tells, endOf};
-ghost use Rattle.verbs.specs.Calls.{mostText, walkTold};
+ghost use Rattle.replies.specs.Texts.{mostText};
+ghost use Rattle.verbs.specs.Calls.{walkTold};
 
 // The largest number of 32 bits.
 const NARROW: u64 = 4_294_967_295;

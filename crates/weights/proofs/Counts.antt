@@ -7,10 +7,11 @@ use native.Mathlib.Nat.{mul-le-mul, mul-le-mul-right}
 use native.Mathlib.Omega.{arith}
 use borrow.Author.Count.{below-more}
 use lib.Dec.{T}
-use Rattle.model.specs.Field.{Field, weigh}
+use lib.ListN.{replicate, getD-replicate}
+use Rattle.model.specs.Field.{Field, weigh, at, tokens}
 use Rattle.model.specs.Norm.{ready}
 use Rattle.theory.proofs.Exec.{Tells}
-use Rattle.theory.proofs.Field.{weigh-next}
+use Rattle.theory.proofs.Field.{weigh-next, weigh-weights}
 use Rattle.theory.proofs.Sweeps.{Ready, tells-ready}
 
 -- A sum over fewer kinds is no more than one over all.
@@ -80,3 +81,7 @@ ready-false n w a k h p z = tells-false (tells-ready n w a) (λ f. omega (arith,
 -- One kind more of a loop that looks for a kind without a value.
 pub ready-more : (i : ℕ) (w : ℕ → ℕ) (a : Field) → Ready i w a → (0 < a i → 0 < w i) → Ready (i + 1) w a
 ready-more i w a all here = below-more (λ k. 0 < a k → 0 < w k) i all here
+
+-- Where each kind counts 1 the sum is the tokens.
+pub tokens-are : (n m : ℕ) (a : Field) → n ≤ m → weigh n (at (replicate m 1)) a ≡ tokens n a
+tokens-are n m a h = weigh-weights n (at (replicate m 1)) (λ _. 1) a (λ k l _. getD-replicate m k 1 0 (omega arith))

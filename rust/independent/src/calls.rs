@@ -10,7 +10,8 @@ use crate::filer::{Verdict, compare, prime_form, row, row_check, settle};
 use crate::generator::sample;
 use crate::page::{page, write_page};
 use crate::random::Random;
-use crate::sheet::{Numbers, Refusal, numbers};
+use crate::sheet::{MOST_KINDS, Numbers, Refusal, numbers};
+use crate::shelf::{Entries, MOST_TOKENS, ShelfNumber, shelf_field, shelf_number};
 use crate::walker::{Session, Walked, walk};
 
 /// A call, with the numbers that it gives and the lengths of the buffers that it lends.
@@ -24,6 +25,8 @@ pub enum Call {
     Walk { first: usize, second: usize, limit: u64, allowance: u32 },
     Page { bytes: usize },
     Numbers,
+    ShelfNumber { field: usize },
+    ShelfField { size: usize, number: u64, entries: usize },
 }
 
 /// What a call answers.
@@ -53,6 +56,10 @@ pub enum Answer {
     },
     /// A sheet's numbers.
     Numbers(Numbers),
+    /// Shelf number.
+    ShelfNumber(ShelfNumber),
+    /// Shelf field.
+    FieldWritten,
 }
 
 /// Entries before and past each buffer that must stay as they are.
@@ -92,6 +99,8 @@ pub struct Lent {
     pub counts: Margined<u64>,
     /// The buffer of the page.
     pub page: Margined<u8>,
+    /// The buffer of Shelf field.
+    pub field: Margined<u16>,
     pub session: Session,
 }
 
@@ -105,6 +114,7 @@ impl Lent {
         };
         let counts = if let Call::PrimeForm { entries, .. } = *call { entries } else { 0 };
         let page = if let Call::Page { bytes } = *call { bytes } else { 0 };
+        let field = if let Call::ShelfField { entries, .. } = *call { entries } else { 0 };
         let allowance = if let Call::Walk { allowance, .. } = *call { allowance } else { 0 };
         Lent {
             sheet: Margined::new(sheet.len(), |index| {
@@ -113,6 +123,7 @@ impl Lent {
             table: Margined::new(table, |index| 0xa5a5_0000 + index as u32),
             counts: Margined::new(counts, |index| 0xa5a5_a5a5_0000_0000 + index as u64),
             page: Margined::new(page, |index| 0x80 | index as u8),
+            field: Margined::new(field, |index| 0xa500 + index as u16),
             session: Session { allowance },
         }
     }
@@ -132,6 +143,10 @@ pub fn independent(call: &Call, lent: &mut Lent) -> Answer {
         }
         Call::Page { .. } => write_page(sheet, lent.page.lent_mut()).map(|bytes| Answer::PageWritten { bytes }),
         Call::Numbers => numbers(sheet).map(Answer::Numbers),
+        Call::ShelfNumber { field } => shelf_number(sheet, field).map(Answer::ShelfNumber),
+        Call::ShelfField { size, number, .. } => {
+            shelf_field(sheet, size, number, lent.field.lent_mut()).map(|()| Answer::FieldWritten)
+        }
     };
     answer.unwrap_or_else(Answer::Refused)
 }
@@ -172,7 +187,30 @@ pub fn calls(sheet: &[u8], random: &mut Random) -> Vec<Call> {
     }
     calls.push(Call::Page { bytes: around(page(sheet).len(), random) });
     calls.push(Call::Numbers);
+    for _ in 0..2 {
+        calls.push(Call::ShelfNumber { field: number_near(fields, random) });
+        let size = number_near(MOST_TOKENS as usize + 1, random);
+        let number = shelf_number_near(kinds, size, random);
+        calls.push(Call::ShelfField { size, number, entries: around(kinds, random) });
+    }
     calls
+}
+
+/// How many fields of 16 tokens of 32 kinds there are: no entry is greater.
+const GREATEST_ENTRY: u64 = 1_503_232_609_098;
+
+/// A number of a field of a size, in most cases under the entry: any, one of the first or one of the last;
+/// else the entry or a number past it. For a size that has no numbers, it goes by the greatest that has.
+fn shelf_number_near(kinds: usize, size: usize, random: &mut Random) -> u64 {
+    let tokens = (size as u64).min(MOST_TOKENS);
+    let entry = Entries::new(kinds.min(MOST_KINDS), tokens).of(kinds.min(MOST_KINDS), tokens);
+    match random.below(12) {
+        0 => entry,
+        1 => random.choose(&[entry + 1, 1 << 32, GREATEST_ENTRY - 1, GREATEST_ENTRY, 1 << 63, u64::MAX]),
+        2 => random.below(3) as u64,
+        3..=5 => entry.saturating_sub(1 + random.below(3) as u64),
+        _ => random.below(entry.max(1) as usize) as u64,
+    }
 }
 
 /// A length: in most cases one that is long enough, by nothing or a little; else one too short.
@@ -252,7 +290,7 @@ pub fn compare_implementations(
     comparison
 }
 
-/// The name of a call's entry and of its answer.
+/// The name of a call's entry and of its answer; of Shelf number and Shelf field the size is the answer.
 fn name(call: &Call, answer: &Answer) -> String {
     let entry = match call {
         Call::Settle { .. } => "settle",
@@ -263,23 +301,31 @@ fn name(call: &Call, answer: &Answer) -> String {
         Call::Walk { .. } => "walk",
         Call::Page { .. } => "page",
         Call::Numbers => "numbers",
+        Call::ShelfNumber { .. } => "shelf number",
+        Call::ShelfField { .. } => "shelf field",
     };
-    let answer = match answer {
-        Answer::Refused(refusal) => format!("refused {}", refusal.number),
-        Answer::Settled { stage } => format!("stage {stage}"),
-        Answer::Row { entries: 0, .. } => "empty".to_string(),
-        Answer::Verdict(Verdict::Same) => "same".to_string(),
-        Answer::Verdict(Verdict::Different { stage, .. }) => format!("different {stage}"),
-        Answer::Walked(walked) => match walked.answer {
+    let answer = match (answer, call) {
+        (Answer::Refused(refusal), _) => format!("refused {}", refusal.number),
+        (Answer::Settled { stage }, _) => format!("stage {stage}"),
+        (Answer::Row { entries: 0, .. }, _) => "empty".to_string(),
+        (Answer::Verdict(Verdict::Same), _) => "same".to_string(),
+        (Answer::Verdict(Verdict::Different { stage, .. }), _) => format!("different {stage}"),
+        (Answer::Walked(walked), _) => match walked.answer {
             crate::walker::Answer::Apart { .. } => "apart".to_string(),
             crate::walker::Answer::Together => "together".to_string(),
             crate::walker::Answer::Spent => "spent".to_string(),
         },
-        Answer::RowThere
-        | Answer::Row { .. }
-        | Answer::FormWritten
-        | Answer::PageWritten { .. }
-        | Answer::Numbers(_) => "done".to_string(),
+        (Answer::ShelfNumber(ShelfNumber { size, .. }), _) => format!("size {size}"),
+        (Answer::FieldWritten, Call::ShelfField { size, .. }) => format!("size {size}"),
+        (
+            Answer::RowThere
+            | Answer::Row { .. }
+            | Answer::FormWritten
+            | Answer::PageWritten { .. }
+            | Answer::Numbers(_)
+            | Answer::FieldWritten,
+            _,
+        ) => "done".to_string(),
     };
     format!("{entry}: {answer}")
 }

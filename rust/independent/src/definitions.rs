@@ -1,7 +1,8 @@
-//! Norms, stages, rows, primes, the settled stage, the round game and the walk straight from their
-//! definitions, by search. Only for small cards: nothing here is meant to be fast, and nothing here
-//! uses `base`, `filer` or `walker`.
+//! Norms, stages, rows, primes, the settled stage, the round game, the walk and the list of the fields of
+//! a size straight from their definitions, by search. Only for small cards: nothing here is meant to be
+//! fast, and nothing here uses `base`, `filer`, `walker` or `shelf`.
 
+use std::cmp::Ordering;
 use std::collections::HashMap;
 
 use crate::filer::Verdict;
@@ -319,4 +320,28 @@ pub fn walk(card: &Card, first: &Field, second: &Field, limit: u64, allowance: u
         Ok(drawn) if drawn <= allowance => Walked { answer, drawn },
         _ => Walked { answer: Answer::Spent, drawn: allowance },
     }
+}
+
+/// Which of two fields is listed first: "with the smaller count of the last kind first, then of the one
+/// before it, and so on".
+pub fn shelf_order(first: &Field, second: &Field) -> Ordering {
+    for kind in (0..first.len()).rev() {
+        if first[kind] != second[kind] {
+            return first[kind].cmp(&second[kind]);
+        }
+    }
+    Ordering::Equal
+}
+
+/// The fields of so many tokens of so many kinds, as they are listed: of all ways to give each kind a
+/// count, those with so many tokens in all.
+pub fn shelf(kinds: usize, tokens: u64) -> Vec<Field> {
+    let mut fields: Vec<Field> = vec![Vec::new()];
+    for _ in 0..kinds {
+        fields =
+            fields.iter().flat_map(|field| (0..=tokens).map(move |count| [&field[..], &[count]].concat())).collect();
+    }
+    fields.retain(|field| field.iter().sum::<u64>() == tokens);
+    fields.sort_by(shelf_order);
+    fields
 }

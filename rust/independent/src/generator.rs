@@ -4,6 +4,7 @@
 use crate::norm::{NORM_LIMIT, kind_norms};
 use crate::random::Random;
 use crate::sheet::{HEADER_BYTES, MOST_CODES, MOST_FIELDS, MOST_KINDS, MOST_LINES, read};
+use crate::shelf::MOST_TOKENS;
 
 /// A sheet as its parts, before it becomes bytes.
 #[derive(Clone, Debug)]
@@ -142,8 +143,10 @@ pub struct Sample {
 }
 
 /// Sheet number `number` of a seed. Most are small; one in 25 is at the limits; two in five are damaged.
+/// One in four has some fields of few tokens in the place of others.
 pub fn sample(seed: u64, number: u64) -> Sample {
-    let mut random = Random::new(seed ^ number.wrapping_mul(0xd134_2543_de82_ef95));
+    let state = seed ^ number.wrapping_mul(0xd134_2543_de82_ef95);
+    let mut random = Random::new(state);
     let size = match random.below(100) {
         0..=39 => Size::Tiny,
         40..=84 => Size::Small,
@@ -151,7 +154,13 @@ pub fn sample(seed: u64, number: u64) -> Sample {
         _ => Size::Limit,
     };
     let family = random.choose(&FAMILIES);
-    let mut bytes = draft(family, size, &mut random).bytes();
+    let mut draft = draft(family, size, &mut random);
+    // From numbers of their own, so that everything else of a sheet does not depend on them.
+    let mut of_few = Random::new(!state);
+    if of_few.once_in(4) {
+        put_few_tokens(&mut draft, &mut of_few);
+    }
+    let mut bytes = draft.bytes();
     let damage = match random.below(10) {
         0..=5 => Damage::None,
         6..=7 => Damage::Flipped,
@@ -589,6 +598,27 @@ fn add_fields(draft: &mut Draft, fields: usize, size: Size, random: &mut Random)
             field
         };
         draft.fields.push(field);
+    }
+}
+
+/// Puts fields of few tokens, up to two more than a field may have that has a shelf number, in the place of
+/// half of the fields. A token is in half of the cases of the kind of the one before it. One in eight of
+/// these fields has 65,535 tokens of a kind, so that it has few if its tokens are added up in 16 bits.
+fn put_few_tokens(draft: &mut Draft, random: &mut Random) {
+    for field in &mut draft.fields {
+        if random.once_in(2) {
+            field.fill(0);
+            let mut kind = random.below(draft.kinds);
+            for _ in 0..random.between(0, MOST_TOKENS as usize + 2) {
+                if random.once_in(2) {
+                    kind = random.below(draft.kinds);
+                }
+                field[kind] += 1;
+            }
+            if random.once_in(8) {
+                field[random.below(draft.kinds)] = u16::MAX;
+            }
+        }
     }
 }
 

@@ -1,7 +1,7 @@
 //! Document 01 ("Race cards, fields and their prime forms", the paper that asks for Limbatue), as
-//! request 1 of document 02 changes it, implemented a second time, from that document's definitions
+//! requests 1 and 2 of document 02 change it, implemented a second time, from that document's definitions
 //! and document 000 (Hirshfeld, Jerrum, Moller, 1996, the algorithm). It shares no code with the verified library. The tests hold the two against each other, and the measurements compare
-//! their times. Sentences in quotes are document 01's own.
+//! their times. Sentences in quotes are these documents' own.
 
 /// The decomposition base from stage to stage: document 000's algorithm.
 pub mod base;
@@ -21,5 +21,7 @@ pub mod page;
 pub mod random;
 /// The bytes of a sheet, and refusals 1 to 8.
 pub mod sheet;
+/// Shelf number and Shelf field.
+pub mod shelf;
 /// Walk and its session.
 pub mod walker;

@@ -4,7 +4,7 @@ use native.Mathlib.Omega.{arith}
 use mathlib.Core.Path.{refl}
 use Prim.Native.Nat.{_-_}
 use lib.ListN.{length}
-use Rattle.filer.proofs.Writing.{Begun, begun-none, begun-more, begun-length, begun-all}
+use Rattle.theory.proofs.Writing.{Begun, begun-none, begun-more, begun-length, begun-all}
 use Rattle.filer.proofs.form.write_counts.Statement.{statement}
 use Rattle.filer.proofs.form.write_counts.Tie as tie
 

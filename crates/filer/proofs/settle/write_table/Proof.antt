@@ -4,7 +4,8 @@ use mathlib.Core.Path.{_≡_, refl}
 use Prim.Native.Nat.{_-_, _*_, _/_, _%_, _<_}
 use Rattle.filer.specs.Settlement.{tableIn}
 use Rattle.filer.proofs.Rows.{square-most}
-use Rattle.filer.proofs.Writing.{table-long, row-under, count-under, table-entry, Begun, begun-none, begun-more, begun-length, begun-all}
+use Rattle.theory.proofs.Writing.{Begun, begun-none, begun-more, begun-length, begun-all}
+use Rattle.filer.proofs.Writing.{table-long, row-under, count-under, table-entry}
 use Rattle.filer.proofs.settle.write_table.Statement.{statement}
 use Rattle.filer.proofs.settle.write_table.Tie as tie
 

@@ -1,7 +1,8 @@
 -- What the checks come to, and what the settle loop gives where they pass.
 use borrow.Author.Needs.{needs}
 use mathlib.Core.Path.{refl}
-use Rattle.filer.proofs.Settlements.{settlement-refused, settlement-passed, acceptance-accepts}
+use Rattle.acceptance.proofs.Acceptances.{acceptance-accepts}
+use Rattle.filer.proofs.Settlements.{settlement-refused, settlement-passed}
 use Rattle.filer.proofs.settlement.settle_once.Statement.{statement}
 use Rattle.filer.proofs.settlement.settle_once.Tie as tie
 

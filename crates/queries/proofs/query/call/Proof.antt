@@ -39,6 +39,18 @@ walk-fields-requires c κs = search needs
 enum-told-6 : tie.Need-enum-told-6
 enum-told-6 c = search needs
 
+field-number-requires : tie.Need-field-number-requires
+field-number-requires c κs = search needs
+
+enum-told-7 : tie.Need-enum-told-7
+enum-told-7 c = search needs
+
+numbered-field-requires : tie.Need-numbered-field-requires
+numbered-field-requires c κs = search needs
+
+enum-told-8 : tie.Need-enum-told-8
+enum-told-8 c = search needs
+
 no-call-requires : tie.Need-no-call-requires
 no-call-requires c κs = search needs
 
@@ -77,9 +89,23 @@ returns-5 : tie.Need-returns-5
 unfolding verbTold
 returns-5 c = told-as _ (c .before .before .walk-fields .ensures) (ap (λ v. verbTold (c .before .before .before .before .before .before .before .before .before .args .s .now) v (c .before .before .before .before .before .before .before .before .before .args .numbers .now)) (sym (c .before .before .before .before .enum-told5 .given .1)))
 
+same-length-6 : tie.Need-same-length-6
+same-length-6 c = search needs
+
 returns-6 : tie.Need-returns-6
 unfolding verbTold
-returns-6 c = told-as _ (tells-nothing (c .before .before .before .before .before .before .args .out .now) (c .no-call .result) (c .no-call .ensures)) (ap (λ v. verbTold (c .before .before .before .before .before .before .args .s .now) v (c .before .before .before .before .before .before .args .numbers .now)) (sym (c .before .enum-told6 .given .1)))
+returns-6 c = told-as _ (c .before .before .field-number .ensures) (ap (λ v. verbTold (c .before .before .before .before .before .before .before .before .before .args .s .now) v (c .before .before .before .before .before .before .before .before .before .args .numbers .now)) (sym (c .before .before .before .before .enum-told6 .given .1)))
+
+same-length-7 : tie.Need-same-length-7
+same-length-7 c = search needs
+
+returns-7 : tie.Need-returns-7
+unfolding verbTold
+returns-7 c = told-as _ (c .before .before .numbered-field .ensures) (ap (λ v. verbTold (c .before .before .before .before .before .before .before .before .before .args .s .now) v (c .before .before .before .before .before .before .before .before .before .args .numbers .now)) (sym (c .before .before .before .before .enum-told7 .given .1)))
+
+returns-8 : tie.Need-returns-8
+unfolding verbTold
+returns-8 c = told-as _ (tells-nothing (c .before .before .before .before .before .before .args .out .now) (c .no-call .result) (c .no-call .ensures)) (ap (λ v. verbTold (c .before .before .before .before .before .before .args .s .now) v (c .before .before .before .before .before .before .args .numbers .now)) (sym (c .before .enum-told8 .given .1)))
 
 pub call-spec : {M : Type 1} → statement M
 call-spec =
@@ -96,6 +122,10 @@ call-spec =
     enum-told-5
     walk-fields-requires
     enum-told-6
+    field-number-requires
+    enum-told-7
+    numbered-field-requires
+    enum-told-8
     no-call-requires
     same-length
     returns
@@ -107,4 +137,8 @@ call-spec =
     returns-4
     same-length-5
     returns-5
-    returns-6)
+    same-length-6
+    returns-6
+    same-length-7
+    returns-7
+    returns-8)

@@ -1,11 +1,41 @@
 -- `verb_of`: the verbs of the table, one after another.
-use mathlib.Core.Path.{sym, _∙_}
+use mathlib.Core.Path.{_≡_, sym, _∙_}
+use lib.ListN.{drop}
 use Rattle.model.specs.Page.{bytes}
-use Rattle.queries.specs.Verb.{verbs, verbOf}
+use Rattle.queries.specs.Verb.{verbs, verbIn, verbOf}
 use Rattle.queries.proofs.Words.{verb-first, verb-later, verb-none}
 use borrow.Author.Needs.{needs}
 use Rattle.queries.proofs.table.verb_of.Statement.{statement}
 use Rattle.queries.proofs.table.verb_of.Tie as tie
+
+-- A word that is none of the first verbs is looked for among the others.
+not-settle : (c : tie.Else1) → verbIn (drop 1 verbs) (c .before .before .before .before .args .word .now) ≡ verbOf (c .before .before .before .before .args .word .now)
+unfolding verbs verbOf bytes
+not-settle c = verb-later _ _ (c .before .before .before .before .args .word .now) (sym (c .before .same-word .ensures) ∙ c .if1 .left)
+
+not-row : (c : tie.Else2) → verbIn (drop 2 verbs) (c .before .before .before .before .before .before .before .args .word .now) ≡ verbOf (c .before .before .before .before .before .before .before .args .word .now)
+unfolding verbs verbOf bytes
+not-row c = verb-later _ _ (c .before .before .before .before .before .before .before .args .word .now) (sym (c .before .same-word2 .ensures) ∙ c .if2 .left) ∙ not-settle (c .before .before .before)
+
+not-compare : (c : tie.Else3) → verbIn (drop 3 verbs) (c .before .before .before .before .before .before .before .before .before .before .args .word .now) ≡ verbOf (c .before .before .before .before .before .before .before .before .before .before .args .word .now)
+unfolding verbs verbOf bytes
+not-compare c = verb-later _ _ (c .before .before .before .before .before .before .before .before .before .before .args .word .now) (sym (c .before .same-word3 .ensures) ∙ c .if3 .left) ∙ not-row (c .before .before .before)
+
+not-form : (c : tie.Else4) → verbIn (drop 4 verbs) (c .before .before .before .before .before .before .before .before .before .before .before .before .before .args .word .now) ≡ verbOf (c .before .before .before .before .before .before .before .before .before .before .before .before .before .args .word .now)
+unfolding verbs verbOf bytes
+not-form c = verb-later _ _ (c .before .before .before .before .before .before .before .before .before .before .before .before .before .args .word .now) (sym (c .before .same-word4 .ensures) ∙ c .if4 .left) ∙ not-compare (c .before .before .before)
+
+not-walk : (c : tie.Else5) → verbIn (drop 5 verbs) (c .before .before .before .before .before .before .before .before .before .before .before .before .before .before .before .before .args .word .now) ≡ verbOf (c .before .before .before .before .before .before .before .before .before .before .before .before .before .before .before .before .args .word .now)
+unfolding verbs verbOf bytes
+not-walk c = verb-later _ _ (c .before .before .before .before .before .before .before .before .before .before .before .before .before .before .before .before .args .word .now) (sym (c .before .same-word5 .ensures) ∙ c .if5 .left) ∙ not-form (c .before .before .before)
+
+not-number : (c : tie.Else6) → verbIn (drop 6 verbs) (c .before .before .before .before .before .before .before .before .before .before .before .before .before .before .before .before .before .before .before .args .word .now) ≡ verbOf (c .before .before .before .before .before .before .before .before .before .before .before .before .before .before .before .before .before .before .before .args .word .now)
+unfolding verbs verbOf bytes
+not-number c = verb-later _ _ (c .before .before .before .before .before .before .before .before .before .before .before .before .before .before .before .before .before .before .before .args .word .now) (sym (c .before .same-word6 .ensures) ∙ c .if6 .left) ∙ not-walk (c .before .before .before)
+
+not-field : (c : tie.Else7) → verbIn (drop 7 verbs) (c .before .before .before .before .before .before .before .before .before .before .before .before .before .before .before .before .before .before .before .before .before .before .args .word .now) ≡ verbOf (c .before .before .before .before .before .before .before .before .before .before .before .before .before .before .before .before .before .before .before .before .before .before .args .word .now)
+unfolding verbs verbOf bytes
+not-field c = verb-later _ _ (c .before .before .before .before .before .before .before .before .before .before .before .before .before .before .before .before .before .before .before .before .before .before .args .word .now) (sym (c .before .same-word7 .ensures) ∙ c .if7 .left) ∙ not-number (c .before .before .before)
 
 slice-aggregate-same-word : tie.Need-slice-aggregate-same-word
 slice-aggregate-same-word c = search needs
@@ -25,7 +55,7 @@ same-word-requires-2 c κs = search needs
 
 returns-2 : tie.Need-returns-2
 unfolding verbs verbOf bytes
-returns-2 c = verb-first _ _ (c .before .before .before .before .before .before .before .args .word .now) (sym (c .before .same-word2 .ensures) ∙ c .if2 .taken) ∙ verb-later _ _ (c .before .before .before .before .before .before .before .args .word .now) (sym (c .before .before .before .before .same-word .ensures) ∙ c .before .before .before .if1 .left)
+returns-2 c = verb-first _ _ (c .before .before .before .before .before .before .before .args .word .now) (sym (c .before .same-word2 .ensures) ∙ c .if2 .taken) ∙ not-settle (c .before .before .before)
 
 slice-aggregate-same-word-3 : tie.Need-slice-aggregate-same-word-3
 slice-aggregate-same-word-3 c = search needs
@@ -35,9 +65,7 @@ same-word-requires-3 c κs = search needs
 
 returns-3 : tie.Need-returns-3
 unfolding verbs verbOf bytes
-returns-3 c =
-    verb-first _ _ (c .before .before .before .before .before .before .before .before .before .before .args .word .now) (sym (c .before .same-word3 .ensures) ∙ c .if3 .taken) ∙ verb-later _ _ (c .before .before .before .before .before .before .before .before .before .before .args .word .now) (sym (c .before .before .before .before .same-word2 .ensures) ∙ c .before .before .before .if2 .left)
-    ∙ verb-later _ _ (c .before .before .before .before .before .before .before .before .before .before .args .word .now) (sym (c .before .before .before .before .before .before .before .same-word .ensures) ∙ c .before .before .before .before .before .before .if1 .left)
+returns-3 c = verb-first _ _ (c .before .before .before .before .before .before .before .before .before .before .args .word .now) (sym (c .before .same-word3 .ensures) ∙ c .if3 .taken) ∙ not-row (c .before .before .before)
 
 slice-aggregate-same-word-4 : tie.Need-slice-aggregate-same-word-4
 slice-aggregate-same-word-4 c = search needs
@@ -47,9 +75,7 @@ same-word-requires-4 c κs = search needs
 
 returns-4 : tie.Need-returns-4
 unfolding verbs verbOf bytes
-returns-4 c =
-    verb-first _ _ (c .before .before .before .before .before .before .before .before .before .before .before .before .before .args .word .now) (sym (c .before .same-word4 .ensures) ∙ c .if4 .taken) ∙ verb-later _ _ (c .before .before .before .before .before .before .before .before .before .before .before .before .before .args .word .now) (sym (c .before .before .before .before .same-word3 .ensures) ∙ c .before .before .before .if3 .left)
-    ∙ verb-later _ _ (c .before .before .before .before .before .before .before .before .before .before .before .before .before .args .word .now) (sym (c .before .before .before .before .before .before .before .same-word2 .ensures) ∙ c .before .before .before .before .before .before .if2 .left) ∙ verb-later _ _ (c .before .before .before .before .before .before .before .before .before .before .before .before .before .args .word .now) (sym (c .before .before .before .before .before .before .before .before .before .before .same-word .ensures) ∙ c .before .before .before .before .before .before .before .before .before .if1 .left)
+returns-4 c = verb-first _ _ (c .before .before .before .before .before .before .before .before .before .before .before .before .before .args .word .now) (sym (c .before .same-word4 .ensures) ∙ c .if4 .taken) ∙ not-compare (c .before .before .before)
 
 slice-aggregate-same-word-5 : tie.Need-slice-aggregate-same-word-5
 slice-aggregate-same-word-5 c = search needs
@@ -59,17 +85,31 @@ same-word-requires-5 c κs = search needs
 
 returns-5 : tie.Need-returns-5
 unfolding verbs verbOf bytes
-returns-5 c =
-    verb-first _ _ (c .before .before .before .before .before .before .before .before .before .before .before .before .before .before .before .before .args .word .now) (sym (c .before .same-word5 .ensures) ∙ c .if5 .taken) ∙ verb-later _ _ (c .before .before .before .before .before .before .before .before .before .before .before .before .before .before .before .before .args .word .now) (sym (c .before .before .before .before .same-word4 .ensures) ∙ c .before .before .before .if4 .left)
-    ∙ verb-later _ _ (c .before .before .before .before .before .before .before .before .before .before .before .before .before .before .before .before .args .word .now) (sym (c .before .before .before .before .before .before .before .same-word3 .ensures) ∙ c .before .before .before .before .before .before .if3 .left) ∙ verb-later _ _ (c .before .before .before .before .before .before .before .before .before .before .before .before .before .before .before .before .args .word .now) (sym (c .before .before .before .before .before .before .before .before .before .before .same-word2 .ensures) ∙ c .before .before .before .before .before .before .before .before .before .if2 .left)
-    ∙ verb-later _ _ (c .before .before .before .before .before .before .before .before .before .before .before .before .before .before .before .before .args .word .now) (sym (c .before .before .before .before .before .before .before .before .before .before .before .before .before .same-word .ensures) ∙ c .before .before .before .before .before .before .before .before .before .before .before .before .if1 .left)
+returns-5 c = verb-first _ _ (c .before .before .before .before .before .before .before .before .before .before .before .before .before .before .before .before .args .word .now) (sym (c .before .same-word5 .ensures) ∙ c .if5 .taken) ∙ not-form (c .before .before .before)
+
+slice-aggregate-same-word-6 : tie.Need-slice-aggregate-same-word-6
+slice-aggregate-same-word-6 c = search needs
+
+same-word-requires-6 : tie.Need-same-word-requires-6
+same-word-requires-6 c κs = search needs
 
 returns-6 : tie.Need-returns-6
 unfolding verbs verbOf bytes
-returns-6 c =
-    verb-none (c .before .before .before .before .before .before .before .before .before .before .before .before .before .before .before .before .args .word .now) ∙ verb-later _ _ (c .before .before .before .before .before .before .before .before .before .before .before .before .before .before .before .before .args .word .now) (sym (c .before .same-word5 .ensures) ∙ c .if5 .left) ∙ verb-later _ _ (c .before .before .before .before .before .before .before .before .before .before .before .before .before .before .before .before .args .word .now) (sym (c .before .before .before .before .same-word4 .ensures) ∙ c .before .before .before .if4 .left)
-    ∙ verb-later _ _ (c .before .before .before .before .before .before .before .before .before .before .before .before .before .before .before .before .args .word .now) (sym (c .before .before .before .before .before .before .before .same-word3 .ensures) ∙ c .before .before .before .before .before .before .if3 .left) ∙ verb-later _ _ (c .before .before .before .before .before .before .before .before .before .before .before .before .before .before .before .before .args .word .now) (sym (c .before .before .before .before .before .before .before .before .before .before .same-word2 .ensures) ∙ c .before .before .before .before .before .before .before .before .before .if2 .left)
-    ∙ verb-later _ _ (c .before .before .before .before .before .before .before .before .before .before .before .before .before .before .before .before .args .word .now) (sym (c .before .before .before .before .before .before .before .before .before .before .before .before .before .same-word .ensures) ∙ c .before .before .before .before .before .before .before .before .before .before .before .before .if1 .left)
+returns-6 c = verb-first _ _ (c .before .before .before .before .before .before .before .before .before .before .before .before .before .before .before .before .before .before .before .args .word .now) (sym (c .before .same-word6 .ensures) ∙ c .if6 .taken) ∙ not-walk (c .before .before .before)
+
+slice-aggregate-same-word-7 : tie.Need-slice-aggregate-same-word-7
+slice-aggregate-same-word-7 c = search needs
+
+same-word-requires-7 : tie.Need-same-word-requires-7
+same-word-requires-7 c κs = search needs
+
+returns-7 : tie.Need-returns-7
+unfolding verbs verbOf bytes
+returns-7 c = verb-first _ _ (c .before .before .before .before .before .before .before .before .before .before .before .before .before .before .before .before .before .before .before .before .before .before .args .word .now) (sym (c .before .same-word7 .ensures) ∙ c .if7 .taken) ∙ not-number (c .before .before .before)
+
+returns-8 : tie.Need-returns-8
+unfolding verbs verbOf
+returns-8 c = verb-none (c .before .before .before .before .before .before .before .before .before .before .before .before .before .before .before .before .before .before .before .before .before .before .args .word .now) ∙ not-field c
 
 pub verb-of-spec : {M : Type 1} → statement M
 verb-of-spec =
@@ -90,4 +130,10 @@ verb-of-spec =
     slice-aggregate-same-word-5
     same-word-requires-5
     returns-5
-    returns-6)
+    slice-aggregate-same-word-6
+    same-word-requires-6
+    returns-6
+    slice-aggregate-same-word-7
+    same-word-requires-7
+    returns-7
+    returns-8)

@@ -2,7 +2,8 @@
 use mathlib.Core.Path.{sym, ap}
 use Rattle.filer.specs.Answers.{verdictOf}
 use Rattle.replies.specs.Told.{told}
-use Rattle.verbs.specs.Texts.{worded, verdictText}
+use Rattle.verbs.specs.Texts.{verdictText}
+use Rattle.replies.specs.Texts.{worded}
 use Rattle.replies.proofs.Replies.{tells-answer, told-as}
 use borrow.Author.Needs.{needs}
 use Rattle.verbs.proofs.compare.put_verdict.Statement.{statement}

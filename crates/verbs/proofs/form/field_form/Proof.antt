@@ -4,13 +4,15 @@ use Prim.Native.Nat.{_≤_}
 use native.Mathlib.Omega.{arith}
 use lib.ListN.{length, getD, take}
 use lib.Seq.{length-take-le}
-use Rattle.model.specs.Answer.{given}
+use Rattle.model.specs.Sheet.{kindCount}
+use Rattle.model.specs.Answer.{given, formOf}
 use Rattle.sheet.specs.declared.reader.Card.{Card}
 use Rattle.filer.specs.Answers.{formingOf}
 use Rattle.text.specs.Count.{countsLine}
 use Rattle.replies.specs.Told.{told}
+use Rattle.verbs.specs.Texts.{formText}
 use Rattle.verbs.specs.Calls.{formTold}
-use Rattle.verbs.proofs.Answered.{form-answered, form-refused}
+use Rattle.replies.proofs.Texts.{counts-answered, counts-refused}
 use Rattle.verbs.proofs.Sizes.{formed-few}
 use Rattle.replies.proofs.Numbers.{one-taken, one-other}
 use Rattle.replies.proofs.Replies.{tells-answer, tells-nothing, told-as}
@@ -71,7 +73,7 @@ same-length : tie.Need-same-length
 same-length c = search needs
 
 returns-2 : tie.Need-returns-2
-unfolding formTold
+unfolding formTold formText
 returns-2 c =
     let start = c .before .before .before .before .before .before .before .before .before .before .before .before .before .before .before .before .before in
     let field = getD (start .args .numbers .now) 0 0 in
@@ -79,20 +81,20 @@ returns-2 c =
     let answers = ap formingOf (sym (c .before .before .before .before .before .before .enum-told .given .1)) ∙ c .before .before .before .before .before .before .before .before .before .prime-form .ensures .0 in
     told-as _ (tells-answer (c .before .before .put-form-line .ensures))
     (ap (λ (x : Card). told (given (countsLine (take (x .kinds) form)))) (c .before .before .before .before .before .of-header .ensures)
-    ∙ ap told (form-answered (start .args .s .now) (c .before .before .before .before .before .before .before .before .before .before .before .before .form-room .result) form field (c .before .before .before .before .before .before .before .before .before .before .before .before .form-room .ensures) (c .before .before .before .before .before .before .before .before .before .prime-form .ensures .1) answers)
+    ∙ ap told (counts-answered (kindCount (start .args .s .now)) (formOf (start .args .s .now) field) (c .before .before .before .before .before .before .before .before .before .before .before .before .form-room .ensures) (c .before .before .before .before .before .before .before .before .before .prime-form .ensures .1) answers)
     ∙ one-taken _ (start .args .numbers .now) (c .before .before .before .before .before .before .before .before .before .before .before .before .before .if1 .left))
 
 same-length-2 : tie.Need-same-length-2
 same-length-2 c = search needs
 
 returns-3 : tie.Need-returns-3
-unfolding formTold
+unfolding formTold formText
 returns-3 c =
     let start = c .before .before .before .before .before .before .before .before .before .before .before .before .before .before .before .before in
     let field = getD (start .args .numbers .now) 0 0 in
     let answers = ap formingOf (sym (c .before .before .before .before .before .number .given .1)) ∙ c .before .before .before .before .before .before .before .before .prime-form .ensures .0 in
     told-as _ (c .before .before .refuse .ensures)
-    (ap told (form-refused (start .args .s .now) (c .before .before .before .before .before .before .before .before .before .before .before .form-room .result) (c .before .before .before .before .before .before .before .before .prime-form .last .1 .1 .0) field (c .before .before .before .before .before .before .before .before .before .before .before .form-room .ensures) (c .before .before .before .before .before .before .before .before .prime-form .ensures .1) _ _ answers)
+    (ap told (counts-refused (kindCount (start .args .s .now)) (formOf (start .args .s .now) field) (c .before .before .before .before .before .before .before .before .before .before .before .form-room .ensures) (c .before .before .before .before .before .before .before .before .prime-form .ensures .1) _ _ answers)
     ∙ one-taken _ (start .args .numbers .now) (c .before .before .before .before .before .before .before .before .before .before .before .before .if1 .left))
 
 pub field-form-spec : {M : Type 1} → statement M

@@ -1,0 +1,55 @@
+-- The buffer is as the crate numbering left it.
+use borrow.Author.Needs.{needs}
+use mathlib.Core.Path.{sym, _∙_, ap}
+use native.Mathlib.Omega.{arith}
+use Rattle.numbering.specs.Answers.{fieldAnswer}
+use Rattle.exports.proofs.Codes.{shelf-field-fits}
+use Rattle.exports.proofs.Outcomes.{code-is, lent-is, shelf-field-gives, shelf-field-refuses, shelf-field-kept}
+use Rattle.exports.proofs.shelf_field.limbatue_shelf_field.Statement.{statement}
+use Rattle.exports.proofs.shelf_field.limbatue_shelf_field.Tie as tie
+
+shelf-field-requires : tie.Need-shelf-field-requires
+shelf-field-requires c κs = search needs
+
+enum-told : tie.Need-enum-told
+enum-told c = search needs
+
+enum-known-number : tie.Need-enum-known-number
+enum-known-number c = search needs
+
+refusal-code-requires : tie.Need-refusal-code-requires
+refusal-code-requires c κs =
+    let a = c .before .before .before .before .before .before .before .before .before .args in
+    shelf-field-fits (a .sheet .now) (λ i. omega (arith, c .before .before .before .before .before .before .before .before .shared-slice-known .given i)) _ _ (a .size) (a .number) (a .counts .now) (sym (c .before .before .before .before .before .shelf-field .ensures .0) ∙ ap fieldAnswer (c .before .number .given .1))
+
+same-length : tie.Need-same-length
+same-length c = search needs
+
+returns : tie.Need-returns
+returns c =
+    let a = c .before .before .before .before .before .before .before .before .args in
+    let e = shelf-field-gives (a .sheet .now) (a .size) (a .number) (a .counts .now) (sym (c .before .before .before .before .shelf-field .ensures .0) ∙ ap fieldAnswer (c .enum-told .given .1)) in
+    (code-is e, c .before .before .before .before .shelf-field .ensures .1 ∙ lent-is e)
+
+same-length-2 : tie.Need-same-length-2
+same-length-2 c = search needs
+
+returns-2 : tie.Need-returns-2
+returns-2 c =
+    let a = c .before .before .before .before .before .before .before .before .before .before .args in
+    let d = sym (c .before .before .before .before .before .before .shelf-field .ensures .0) ∙ ap fieldAnswer (c .before .before .number .given .1) in
+    let e = shelf-field-refuses (a .sheet .now) (a .size) (a .number) (a .counts .now) _ _ d in
+    (c .refusal-code .ensures ∙ code-is e, c .before .before .before .before .before .before .shelf-field .ensures .1 ∙ shelf-field-kept (a .sheet .now) (a .size) (a .number) (a .counts .now) _ _ d ∙ lent-is e)
+
+pub limbatue-shelf-field-spec : {M : Type 1} → statement M
+limbatue-shelf-field-spec =
+    tie.close
+    (tie.spec
+    shelf-field-requires
+    enum-told
+    enum-known-number
+    refusal-code-requires
+    same-length
+    returns
+    same-length-2
+    returns-2)

@@ -1,0 +1,22 @@
+// Shelf number.
+ghost use mathlib.Core.Path.{_≡_};
+ghost use Rattle.exports.specs.Calls.{shelfNumberCall};
+use crate::reply::refusal_code;
+use crate::reply::reply;
+use numbering::ShelfNumber;
+use numbering::number::shelf_number;
+
+// Any bytes, and any field number.
+#[no_mangle]
+pub extern "C" fn limbatue_shelf_number(sheet: &[u8], field: usize, answer: &mut [u64]) -> u32
+    ensures { λ r. ⌜ r ≡ shelfNumberCall (now (sheet .entry)) field (now (answer .entry)) .code ⌝ }
+    ensures { λ _. ⌜ now (answer .exit) ≡ shelfNumberCall (now (sheet .entry)) field (now (answer .entry)) .values ⌝ }
+{
+    match shelf_number(sheet, field) {
+        ShelfNumber::Given { size, number } => {
+            let values = [size as u64, number];
+            reply(&values, answer)
+        }
+        ShelfNumber::Refused { number, place } => refusal_code(number, place),
+    }
+}

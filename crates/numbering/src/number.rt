@@ -1,0 +1,54 @@
+// Shelf number: "field to number".
+ghost use mathlib.Core.Path.{_≡_};
+ghost use Rattle.model.specs.Refusal.{Accepted};
+ghost use Rattle.model.specs.Answer.{shelfNumberOf};
+ghost use Rattle.sheet.specs.Reader.{Reads};
+ghost use Rattle.numbering.specs.Answers.{numberAnswer};
+use crate::answers::ShelfNumber;
+use crate::kinds::listed_kinds;
+use acceptance::accept::accept;
+use sheet::Card;
+use shelf::number::number_of;
+use validation::checks::Checked;
+use weights::fields::field_tokens;
+
+// "fields of up to 16 tokens"
+pub const TOKENS: usize = 16;
+
+// Any bytes, and any field number.
+pub fn shelf_number(s: &[u8], field: usize) -> ShelfNumber
+    ensures { λ r. ⌜ numberAnswer r ≡ shelfNumberOf (now (s .entry)) field ⌝ }
+{
+    let acceptance = accept(s);
+    let checked = acceptance.checked;
+    match checked {
+        Checked::Refused { number, place } => ShelfNumber::Refused { number, place },
+        Checked::Passed(card) => number_accepted(s, card, field),
+    }
+}
+
+// The same of a sheet that was accepted.
+fn number_accepted(s: &[u8], card: Card, field: usize) -> ShelfNumber
+    requires { ⌜ Reads (now s) card × Accepted (now s) ⌝ }
+    ensures { λ r. ⌜ numberAnswer r ≡ shelfNumberOf (now (s .entry)) field ⌝ }
+{
+    let n = card.kinds;
+    let fields = card.fields;
+    if fields <= field {
+        return ShelfNumber::Refused {
+            number: 11,
+            place: 0,
+        };
+    }
+    let counts = card.field(s, field);
+    let size = field_tokens(n, counts) as usize;
+    if TOKENS < size {
+        return ShelfNumber::Refused {
+            number: 14,
+            place: 0,
+        };
+    }
+    let kinds = listed_kinds(n);
+    let number = number_of(&kinds[..n], &counts, size);
+    ShelfNumber::Given { size, number }
+}
