@@ -1,6 +1,7 @@
 -- What each return answers, by the tests on the way, and what is written.
 use borrow.Author.Needs.{needs}
 use mathlib.Core.Path.{_≡_, _∙_}
+use native.Mathlib.Omega.{arith}
 use Rattle.model.specs.Sheet.{kindCount}
 use Rattle.theory.proofs.Told.{gives}
 use Rattle.norms.specs.Norms.{Accepts}
@@ -33,7 +34,7 @@ enum-known-checked-2 : tie.Need-enum-known-checked-2
 enum-known-checked-2 c = search needs
 
 returns : tie.Need-returns
-returns c = gives (field-over _ (accepts (c .before) .accepted) _ _ _ (c .if1 .taken))
+returns c = gives (field-over _ (accepts (c .before) .accepted) _ _ _ (omega (arith, c .if1 .taken)))
 
 entry-of-requires : tie.Need-entry-of-requires
 entry-of-requires c κs = (kinds-most (accepts (c .before) .reads), c .if1 .left)
@@ -41,7 +42,7 @@ entry-of-requires c κs = (kinds-most (accepts (c .before) .reads), c .if1 .left
 returns-2 : tie.Need-returns-2
 returns-2 c =
     let k = c .before .before .before in
-    gives (field-past _ (accepts k .accepted) _ _ _ (c .before .before .if1 .left) (rw (c .before .entry-of .ensures, kinds k) at (c .if2 .taken)))
+    gives (field-past _ (accepts k .accepted) _ _ _ (c .before .before .if1 .left) (omega (arith, rw (c .before .entry-of .ensures, kinds k) at (c .if2 .taken))))
 
 returns-3 : tie.Need-returns-3
 returns-3 c =

@@ -20,7 +20,7 @@ size-is : (c : tie.After-field-tokens) → let a = c .before .before .before .be
 size-is c = let s = c .before .before .before .before in rw (← kinds-are (s .pre .0), ← counts-are (c .before)) (c .field-tokens .ensures)
 
 returns : tie.Need-returns
-returns c = let s = c .before .before in sym (number-no-field (s .args .s .now) (s .pre .1) (s .args .field) (rw (fields-are (s .pre .0)) at (c .if1 .taken)))
+returns c = let s = c .before .before in sym (number-no-field (s .args .s .now) (s .pre .1) (s .args .field) (omega (arith, fields-are (s .pre .0), c .if1 .taken)))
 
 field-requires : tie.Need-field-requires
 field-requires c κs = search needs
@@ -37,7 +37,7 @@ field-tokens-requires c κs =
 returns-2 : tie.Need-returns-2
 returns-2 c =
     let s = c .before .before .before .before .before in
-    sym (number-over (s .args .s .now) (s .pre .1) (s .args .field) (rw (fields-are (s .pre .0)) at (c .before .before .before .if1 .left)) (rw (size-is (c .before)) at (c .if2 .taken)))
+    sym (number-over (s .args .s .now) (s .pre .1) (s .args .field) (rw (fields-are (s .pre .0)) at (c .before .before .before .if1 .left)) (omega (arith, rw (size-is (c .before)) at (c .if2 .taken))))
 
 listed-kinds-requires : tie.Need-listed-kinds-requires
 listed-kinds-requires c κs = kinds-most (c .before .before .before .before .before .pre .0)
