@@ -2,28 +2,17 @@
 use mathlib.Core.Bool.{Bool, true, false}
 use mathlib.Core.List.{List, _∷_}
 use mathlib.Core.Path.{_≡_, refl, sym, _∙_, ap}
-use Prim.Native.Nat.{ℕ, zero, suc, _+_, _-_, _*_, _<_, min}
+use Prim.Native.Nat.{ℕ, suc, _<_, min}
 use native.Mathlib.Decide.{ℕ-discrete}
-use native.Mathlib.Numerals.{add-one}
 use native.Mathlib.Omega.{arith}
 use borrow.Author.Tests.{eq-eqb, ne-eqb, le-ltb}
 use lib.Dec.{eqb, ltb}
 use Rattle.model.specs.Finite.{both, either}
-use Rattle.model.specs.Field.{Field, weigh, weighFrom}
+use Rattle.model.specs.Field.{Field, weigh}
 use Rattle.model.specs.Card.{Line}
 use Rattle.model.specs.Norm.{ready, sooner, best}
 use Rattle.model.specs.Base.{earlier}
 use Rattle.weights.specs.Value.{readValue, lesserOf}
-
--- "the norm of its first kind's tokens plus the norm of the rest"
-pub rest-none : (i m : ℕ) (w : ℕ → ℕ) (a : Field) → m ≡ 0 → weighFrom i m w a ≡ 0
-unfolding weighFrom
-rest-none i m w a e = rw e
-
-pub first-rest : (i m : ℕ) (w : ℕ → ℕ) (a : Field) → 0 < m → weighFrom i m w a ≡ a i * w i + weighFrom (i + 1) (m - 1) w a
-unfolding weighFrom
-first-rest i zero w a h = absurd (omega arith)
-first-rest i (suc m) w a h = let z : suc m - 1 ≡ m = omega arith in rw (z, add-one)
 
 -- The value of a read.
 pub read-missing : (n : ℕ) (w : ℕ → ℕ) (a : Field) → ready n w a ≡ false → readValue n w a ≡ 0

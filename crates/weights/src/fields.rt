@@ -1,7 +1,7 @@
 // The norm of a field, from the norms of the kinds; its tokens.
 ghost use mathlib.Core.Path.{_≡_};
-ghost use Prim.Native.Nat.{_+_, _≤_, _<_, _^_};
-ghost use Rattle.model.specs.Field.{weigh, weighFrom, at, tokens};
+ghost use Prim.Native.Nat.{_≤_, _<_, _^_};
+ghost use Rattle.model.specs.Field.{weigh, at, tokens};
 ghost use Rattle.model.specs.Limits.{mostKinds};
 use crate::value::wide32;
 
@@ -11,21 +11,15 @@ pub fn field_norm(kinds: usize, norms: [u32; 32], field: [u32; 32]) -> u64
     requires { ⌜ weigh kinds (at norms) (at field) < 2 ^ 64 ⌝ }
     ensures { λ r. ⌜ r ≡ weigh kinds (at norms) (at field) ⌝ }
 {
-    norm_from(0, kinds, &norms, &field)
-}
-
-// "the norm of its first kind's tokens plus the norm of the rest": of so many kinds from this kind up.
-fn norm_from(kind: usize, left: usize, norms: &[u32; 32], field: &[u32; 32]) -> u64
-    requires { ⌜ kind + left ≤ mostKinds ⌝ }
-    requires { ⌜ weighFrom kind left (at (now norms)) (at (now field)) < 2 ^ 64 ⌝ }
-    ensures { λ r. ⌜ r ≡ weighFrom kind left (at (now (norms .entry))) (at (now (field .entry))) ⌝ }
-{
-    if left == 0 {
-        return 0;
+    let mut sum: u64 = 0;
+    let mut kind = 0;
+    while kind < kinds {
+        let tokens = field[kind];
+        let norm = norms[kind];
+        sum += wide32(tokens) * wide32(norm);
+        kind += 1;
     }
-    let tokens = field[kind];
-    let norm = norms[kind];
-    wide32(tokens) * wide32(norm) + norm_from(kind + 1, left - 1, norms, field)
+    sum
 }
 
 // The tokens of a field of this many kinds: its norm where each kind's is 1.
