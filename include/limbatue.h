@@ -1,4 +1,4 @@
-/* limbatue.h: race cards, fields and their prime forms. The verified library, version 0.4.0, for C99, C++11 and whatever calls C.
+/* limbatue.h: race cards, fields and their prime forms. The verified library, version 0.5.0, for C99, C++11 and whatever calls C.
  *
  * Link liblimbatue.a. Where it is installed, `pkg-config --cflags --libs limbatue` prints the options; in the repository, tools/archive proves it and writes
  * target/lib/liblimbatue.a. It is for Linux on x86-64, for programs and shared libraries alike. docs/SHEET.md tells what the bytes of a sheet are.
@@ -7,16 +7,18 @@
  * aligned for its type; as many elements as its length says may be read (and written, where it is not const); what is written overlaps no other argument.
  *
  * WHAT IS RETURNED. 0 where the call was done, else the number of the refusal plus 256 times its place: LIMBATUE_NUMBER and LIMBATUE_PLACE take them apart.
- * A refused call leaves every buffer, the allowance and the answer array as they were. A call that was done writes what it names; elements past that keep their
+ * A refused call leaves every buffer, the session and the answer array as they were. A call that was done writes what it names; elements past that keep their
  * values.
  *
- * THREADS. Any number of threads may call at once, each with buffers of its own; a sheet, which is only read, may be shared. There is no global state, nothing is
- * allocated, and nothing is called but memcpy and memset: every call is reentrant. Every call ends by itself. Of the stack it takes what is told below.
+ * THREADS. Any number of threads may call at once, each with buffers and a session of its own; a sheet, which is only read, may be shared. There is no global
+ * state, nothing is allocated, and nothing is called but memcpy and memset: every call is reentrant. Every call ends by itself. Of the stack it takes what is told
+ * below.
  *
  * REFUSALS. The checks run in this order, and the first that applies is returned; 7 and 8 line by line, 9 for all kinds before 10 for any. P is the place.
- * An answer array counts as a buffer.
+ * An answer array counts as a buffer, and so does a session.
  *
  *   number  place  sentence
+ *   16      0      the desk is over 7
  *   1       0      the sheet has under 20 bytes
  *   2       0      the number of kinds is not from 1 to 32
  *   3       0      the number of codes is not from 1 to 64
@@ -48,8 +50,8 @@ extern "C" {
 #endif
 
 /* The version: 10000 x major + 100 x minor + patch. */
-#define LIMBATUE_VERSION 400
-#define LIMBATUE_VERSION_TEXT "0.4.0"
+#define LIMBATUE_VERSION 500
+#define LIMBATUE_VERSION_TEXT "0.5.0"
 
 /* Of what a call returned. */
 #define LIMBATUE_NUMBER(returned) ((returned) & 255u)
@@ -72,7 +74,8 @@ enum {
     LIMBATUE_REFUSED_TOO_SHORT = 12,
     LIMBATUE_REFUSED_ROUND_LIMIT = 13,
     LIMBATUE_REFUSED_SIZE = 14,
-    LIMBATUE_REFUSED_SHELF_NUMBER = 15
+    LIMBATUE_REFUSED_SHELF_NUMBER = 15,
+    LIMBATUE_REFUSED_DESK = 16
 };
 
 /* answer[0] of Compare; answer[0] of Walk. */
@@ -90,6 +93,9 @@ enum { LIMBATUE_TOGETHER = 0, LIMBATUE_APART = 1, LIMBATUE_SPENT = 2 };
 /* Tokens of the largest fields that have shelf numbers. */
 #define LIMBATUE_TOKENS_MOST 16
 
+/* Desks of a session, numbered from 0: the elements of a session array that are theirs; a shorter array is refused. */
+#define LIMBATUE_DESKS 8
+
 /* Elements that each call writes to its answer array; a shorter array is refused. */
 #define LIMBATUE_NUMBERS_ANSWER 4
 #define LIMBATUE_SETTLE_ANSWER 1
@@ -99,7 +105,7 @@ enum { LIMBATUE_TOGETHER = 0, LIMBATUE_APART = 1, LIMBATUE_SPENT = 2 };
 #define LIMBATUE_PAGE_ANSWER 1
 #define LIMBATUE_SHELF_NUMBER_ANSWER 2
 
-/* Bytes of stack that must be left where a call is made. Taken are, as measured: settle 131,064, compare 127,608, prime form 131,400, walk 79,712 at most, page
+/* Bytes of stack that must be left where a call is made. Taken are, as measured: settle 131,064, compare 127,608, prime form 131,400, walk 79,920 at most, page
  * 215,224, shelf number 6,296, shelf field 6,408, the others under 256. Stated is each with 4,096 more, for memcpy, memset and the loader, which may be asked for
  * them at a first call, and rounded up to pages of 4,096. In the repository ./stack measures the archive again, and fails where under 4,096 are left. */
 #define LIMBATUE_VERSION_STACK 8192
@@ -136,10 +142,13 @@ uint32_t limbatue_compare(const uint8_t *sheet, size_t sheet_length, size_t firs
 /* Prime form. Reads the sheet. Writes n counts. It has no answer array. Refuses 1 to 12. */
 uint32_t limbatue_prime_form(const uint8_t *sheet, size_t sheet_length, size_t field, uint64_t *counts, size_t counts_length);
 
-/* Walk, with a limit of 0 to 8 rounds. Reads the sheet and the allowance. Writes what is left of the allowance.
+/* Walk, by a desk 0 to 7, with a limit of 0 to 8 rounds. The session is a lent array of what each desk has left of its allowance, element d for desk d. It opens
+ * when the caller fills the array; each walk goes on from what the last one left. Reads the sheet and the session's first eight elements. Writes what the desk has
+ * left, session[desk] less the pairs drawn; what the other desks have left neither counts nor changes.
  * answer[0]: LIMBATUE_TOGETHER, LIMBATUE_APART or LIMBATUE_SPENT; answer[1]: the rounds that parted the pair (0 unless apart); answer[2]: the pairs drawn.
- * Refuses 1 to 8 and 11 to 13. */
-uint32_t limbatue_walk(const uint8_t *sheet, size_t sheet_length, size_t first, size_t second, uint64_t limit, uint32_t *allowance, uint64_t *answer, size_t answer_length);
+ * Refuses 16, before it looks at the sheet, then 1 to 8, 11, 13 and 12. */
+uint32_t limbatue_walk(const uint8_t *sheet, size_t sheet_length, size_t first, size_t second, uint64_t limit, size_t desk,
+                       uint32_t *session, size_t session_length, uint64_t *answer, size_t answer_length);
 
 /* The page. Reads the sheet's first 12,821 bytes. Writes the page's bytes, with no 0 byte after them. A sheet that is refused has a page too,
  * "refused NUMBER PLACE" and a newline.

@@ -16,7 +16,7 @@ static ucontext_t here, there;
 
 /* What a call is made with, and what it returned. */
 static uint8_t sheet[LIMBATUE_SHEET_MOST + 1], page[LIMBATUE_PAGE_MOST];
-static uint32_t table[LIMBATUE_TABLE_MOST], allowance, returned;
+static uint32_t table[LIMBATUE_TABLE_MOST], session[LIMBATUE_DESKS], returned;
 static uint64_t counts[LIMBATUE_COUNTS_MOST], answer[4];
 static uint16_t field[LIMBATUE_COUNTS_MOST];
 static size_t length, last;
@@ -27,7 +27,7 @@ static void settle(void) { returned = limbatue_settle(sheet, length, table, LIMB
 static void row_check(void) { returned = limbatue_row_check(table, LIMBATUE_TABLE_MOST, 32, 31, answer, LIMBATUE_ROW_CHECK_ANSWER); }
 static void compare(void) { returned = limbatue_compare(sheet, length, 0, last, answer, LIMBATUE_COMPARE_ANSWER); }
 static void prime_form(void) { returned = limbatue_prime_form(sheet, length, last, counts, LIMBATUE_COUNTS_MOST); }
-static void walk(void) { returned = limbatue_walk(sheet, length, 0, last, 8, &allowance, answer, LIMBATUE_WALK_ANSWER); }
+static void walk(void) { returned = limbatue_walk(sheet, length, 0, last, 8, 7, session, LIMBATUE_DESKS, answer, LIMBATUE_WALK_ANSWER); }
 static void write_page(void) { returned = limbatue_page(sheet, length, page, LIMBATUE_PAGE_MOST, answer, LIMBATUE_PAGE_ANSWER); }
 static void shelf_number(void) { returned = limbatue_shelf_number(sheet, length, last, answer, LIMBATUE_SHELF_NUMBER_ANSWER); }
 /* Of the fields of 16 tokens there is a number 16 where there are two kinds or more. */
@@ -92,7 +92,7 @@ static void measure(void)
 {
     size_t i, taken;
     for (i = 0; i < CALLS; i++) {
-        allowance = 4000000;
+        session[7] = 4000000;
         taken = taken_by(calls[i].call);
         calls[i].done |= returned == 0;
         if (taken > calls[i].most)

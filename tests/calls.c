@@ -9,7 +9,7 @@ static int failures = 0;
 #define REFUSED(returned, number, place) (LIMBATUE_NUMBER(returned) == (number) && LIMBATUE_PLACE(returned) == (place))
 
 static uint8_t sheet[LIMBATUE_SHEET_MOST + 1], page[LIMBATUE_PAGE_MOST];
-static uint32_t table[LIMBATUE_TABLE_MOST];
+static uint32_t table[LIMBATUE_TABLE_MOST], session[LIMBATUE_DESKS + 1];
 static uint64_t counts[LIMBATUE_COUNTS_MOST], answer[4];
 static uint16_t shelved[LIMBATUE_COUNTS_MOST + 1];
 static size_t length;
@@ -46,6 +46,7 @@ static void put_count(size_t field, size_t kind, size_t count)
 static uint32_t numbers(void) { return limbatue_numbers(sheet, length, answer, LIMBATUE_NUMBERS_ANSWER); }
 static uint32_t settle(void) { return limbatue_settle(sheet, length, table, LIMBATUE_TABLE_MOST, answer, LIMBATUE_SETTLE_ANSWER); }
 static uint32_t compare(size_t first, size_t second) { return limbatue_compare(sheet, length, first, second, answer, LIMBATUE_COMPARE_ANSWER); }
+static uint32_t walk(size_t first, size_t second, size_t desk) { return limbatue_walk(sheet, length, first, second, 8, desk, session, LIMBATUE_DESKS, answer, LIMBATUE_WALK_ANSWER); }
 static uint32_t shelf_number(size_t field) { return limbatue_shelf_number(sheet, length, field, answer, LIMBATUE_SHELF_NUMBER_ANSWER); }
 static uint32_t shelf_field(size_t size, uint64_t number) { return limbatue_shelf_field(sheet, length, size, number, shelved, LIMBATUE_COUNTS_MOST); }
 
@@ -136,18 +137,86 @@ static void test_filer(void)
     EXPECT(REFUSED(limbatue_prime_form(sheet, length, 2, counts, LIMBATUE_COUNTS_MOST - 1), LIMBATUE_REFUSED_TOO_SHORT, 0));
 }
 
+/* Opens the session: one desk is given an allowance, every other desk another. The element past the desks is nobody's. */
+static void open_session(size_t desk, uint32_t allowance, uint32_t others)
+{
+    size_t i;
+    for (i = 0; i < LIMBATUE_DESKS; i++)
+        session[i] = i == desk ? allowance : others;
+    session[LIMBATUE_DESKS] = 7;
+}
+
+/* Whether one desk has so many left, every other desk so many, and the element past the desks is as it was. */
+static int has_left(size_t desk, uint32_t left, uint32_t others)
+{
+    size_t i;
+    for (i = 0; i < LIMBATUE_DESKS; i++)
+        if (session[i] != (i == desk ? left : others))
+            return 0;
+    return session[LIMBATUE_DESKS] == 7;
+}
+
+static int answered(uint64_t found, uint64_t rounds, uint64_t drawn) { return answer[0] == found && answer[1] == rounds && answer[2] == drawn; }
+
+/* Fields 0 and 1 are together after 8 rounds and 24 pairs; fields 0 and 2 are apart after 2 rounds and 5 pairs. */
 static void test_walk(void)
 {
-    uint32_t allowance = 100;
+    size_t desk;
     make_fields();
-    EXPECT(limbatue_walk(sheet, length, 0, 1, 8, &allowance, answer, LIMBATUE_WALK_ANSWER) == LIMBATUE_DONE && answer[0] == LIMBATUE_TOGETHER && answer[1] == 0 && allowance == 100 - answer[2]);
-    allowance = 100;
-    EXPECT(limbatue_walk(sheet, length, 0, 2, 8, &allowance, answer, LIMBATUE_WALK_ANSWER) == LIMBATUE_DONE && answer[0] == LIMBATUE_APART && answer[1] == 2 && allowance == 100 - answer[2]);
-    allowance = 1;
-    EXPECT(limbatue_walk(sheet, length, 0, 2, 8, &allowance, answer, LIMBATUE_WALK_ANSWER) == LIMBATUE_DONE && answer[0] == LIMBATUE_SPENT && answer[2] == 1 && allowance == 0);
-    allowance = 100;
-    EXPECT(REFUSED(limbatue_walk(sheet, length, 0, 1, 9, &allowance, answer, 0), LIMBATUE_REFUSED_ROUND_LIMIT, 0) && allowance == 100);
-    EXPECT(REFUSED(limbatue_walk(sheet, length, 0, 1, 8, &allowance, answer, LIMBATUE_WALK_ANSWER - 1), LIMBATUE_REFUSED_TOO_SHORT, 0) && allowance == 100);
+    for (desk = 0; desk < LIMBATUE_DESKS; desk++) {
+        open_session(desk, 30, UINT32_MAX);
+        EXPECT(walk(0, 1, desk) == LIMBATUE_DONE && answered(LIMBATUE_TOGETHER, 0, 24) && has_left(desk, 6, UINT32_MAX));
+        EXPECT(walk(0, 2, desk) == LIMBATUE_DONE && answered(LIMBATUE_APART, 2, 5) && has_left(desk, 1, UINT32_MAX));
+        EXPECT(walk(0, 2, desk) == LIMBATUE_DONE && answered(LIMBATUE_SPENT, 0, 1) && has_left(desk, 0, UINT32_MAX));
+        open_session(desk, 24, 0);
+        EXPECT(walk(0, 1, desk) == LIMBATUE_DONE && answered(LIMBATUE_TOGETHER, 0, 24) && has_left(desk, 0, 0));
+    }
+    open_session(5, 100, 100);
+    EXPECT(walk(0, 1, 5) == LIMBATUE_DONE && has_left(5, 76, 100));
+    memset(answer, 7, sizeof answer); /* with one element more of each array */
+    EXPECT(limbatue_walk(sheet, length, 0, 2, 8, 5, session, LIMBATUE_DESKS + 1, answer, LIMBATUE_WALK_ANSWER + 1) == LIMBATUE_DONE && answered(LIMBATUE_APART, 2, 5) && answer[3] % 256 == 7 && has_left(5, 71, 100));
+}
+
+/* Two desks in turn: desk 2 is spent by its second walk, and desk 5 is not. */
+static void test_two_desks(void)
+{
+    make_fields();
+    open_session(2, 30, 60);
+    EXPECT(walk(0, 1, 2) == LIMBATUE_DONE && answered(LIMBATUE_TOGETHER, 0, 24) && has_left(2, 6, 60));
+    EXPECT(walk(0, 1, 5) == LIMBATUE_DONE && answered(LIMBATUE_TOGETHER, 0, 24) && session[2] == 6 && session[5] == 36);
+    EXPECT(walk(0, 1, 2) == LIMBATUE_DONE && answered(LIMBATUE_SPENT, 0, 6) && session[2] == 0 && session[5] == 36);
+    EXPECT(walk(0, 1, 5) == LIMBATUE_DONE && answered(LIMBATUE_TOGETHER, 0, 24) && session[2] == 0 && session[5] == 12);
+    EXPECT(walk(0, 1, 2) == LIMBATUE_DONE && answered(LIMBATUE_SPENT, 0, 0) && session[2] == 0 && session[5] == 12);
+    EXPECT(walk(0, 2, 5) == LIMBATUE_DONE && answered(LIMBATUE_APART, 2, 5) && session[2] == 0 && session[5] == 7);
+    session[2] = session[5] = 60; /* the other six have what they had */
+    EXPECT(has_left(2, 60, 60));
+}
+
+/* Each refusal before the next, with all that the later ones refuse given too; nothing changes. */
+static void test_refused_walks(void)
+{
+    const size_t short_session = LIMBATUE_DESKS - 1, over[] = { LIMBATUE_DESKS, LIMBATUE_DESKS + 1, 256, 261, (size_t)UINT64_C(4294967296), SIZE_MAX };
+    size_t i;
+    make_fields();
+    open_session(5, 100, 50);
+    memset(answer, 7, sizeof answer);
+    for (i = 0; i < sizeof over / sizeof over[0]; i++) {
+        EXPECT(REFUSED(limbatue_walk(sheet, 0, 3, 3, 9, over[i], session, short_session, answer, 0), LIMBATUE_REFUSED_DESK, 0));
+        EXPECT(REFUSED(walk(0, 1, over[i]), LIMBATUE_REFUSED_DESK, 0));
+    }
+    EXPECT(REFUSED(limbatue_walk(sheet, 0, 3, 3, 9, 7, session, short_session, answer, 0), LIMBATUE_REFUSED_NO_HEADER, 0));
+    EXPECT(REFUSED(limbatue_walk(sheet, length, 3, 3, 9, 7, session, short_session, answer, 0), LIMBATUE_REFUSED_NUMBER, 0));
+    EXPECT(REFUSED(limbatue_walk(sheet, length, 0, 3, 9, 7, session, short_session, answer, 0), LIMBATUE_REFUSED_NUMBER, 1));
+    EXPECT(REFUSED(limbatue_walk(sheet, length, 0, 1, 9, 7, session, short_session, answer, 0), LIMBATUE_REFUSED_ROUND_LIMIT, 0));
+    EXPECT(REFUSED(limbatue_walk(sheet, length, 0, 1, 8, 7, session, short_session, answer, LIMBATUE_WALK_ANSWER), LIMBATUE_REFUSED_TOO_SHORT, 0));
+    EXPECT(REFUSED(limbatue_walk(sheet, length, 0, 1, 8, 5, session, short_session, answer, LIMBATUE_WALK_ANSWER), LIMBATUE_REFUSED_TOO_SHORT, 0));
+    EXPECT(REFUSED(limbatue_walk(sheet, length, 0, 1, 8, 0, session, 0, answer, LIMBATUE_WALK_ANSWER), LIMBATUE_REFUSED_TOO_SHORT, 0));
+    EXPECT(REFUSED(limbatue_walk(sheet, length, 0, 1, 8, 5, session, LIMBATUE_DESKS, answer, LIMBATUE_WALK_ANSWER - 1), LIMBATUE_REFUSED_TOO_SHORT, 0));
+    /* with room for everything */
+    EXPECT(REFUSED(limbatue_walk(sheet, 0, 0, 1, 8, 5, session, LIMBATUE_DESKS, answer, LIMBATUE_WALK_ANSWER), LIMBATUE_REFUSED_NO_HEADER, 0));
+    EXPECT(REFUSED(walk(3, 1, 5), LIMBATUE_REFUSED_NUMBER, 0) && REFUSED(walk(0, 3, 5), LIMBATUE_REFUSED_NUMBER, 1));
+    EXPECT(REFUSED(limbatue_walk(sheet, length, 0, 1, 9, 5, session, LIMBATUE_DESKS, answer, LIMBATUE_WALK_ANSWER), LIMBATUE_REFUSED_ROUND_LIMIT, 0));
+    EXPECT(has_left(5, 100, 50) && answered(answer[3], answer[3], answer[3]) && answer[3] % 256 == 7);
 }
 
 static void test_page(void)
@@ -221,6 +290,8 @@ int main(void)
     test_refused_sheets();
     test_filer();
     test_walk();
+    test_two_desks();
+    test_refused_walks();
     test_page();
     test_shelf_number();
     test_shelf_field();

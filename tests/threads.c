@@ -10,7 +10,7 @@ enum { SHEETS = 16, TIMES = 50 };
 
 /* Everything that the calls answer and write, on one sheet. The field asked for has 16 tokens and the number 16, which there is with two kinds or more. */
 struct outcome {
-    uint32_t returned[8], table[LIMBATUE_TABLE_MOST], allowance;
+    uint32_t returned[8], table[LIMBATUE_TABLE_MOST], session[LIMBATUE_DESKS];
     uint64_t numbers[LIMBATUE_NUMBERS_ANSWER], stage[LIMBATUE_SETTLE_ANSWER], verdict[LIMBATUE_COMPARE_ANSWER], counts[LIMBATUE_COUNTS_MOST], walked[LIMBATUE_WALK_ANSWER], length[LIMBATUE_PAGE_ANSWER], shelved[LIMBATUE_SHELF_NUMBER_ANSWER];
     uint16_t field[LIMBATUE_COUNTS_MOST];
     uint8_t page[LIMBATUE_PAGE_MOST];
@@ -26,12 +26,12 @@ static int count;
 static void call_all(const uint8_t *sheet, size_t length, struct outcome *o)
 {
     memset(o, 0, sizeof *o);
-    o->allowance = 20000;
+    o->session[5] = 20000;
     o->returned[0] = limbatue_numbers(sheet, length, o->numbers, LIMBATUE_NUMBERS_ANSWER);
     o->returned[1] = limbatue_settle(sheet, length, o->table, LIMBATUE_TABLE_MOST, o->stage, LIMBATUE_SETTLE_ANSWER);
     o->returned[2] = limbatue_compare(sheet, length, 0, 1, o->verdict, LIMBATUE_COMPARE_ANSWER);
     o->returned[3] = limbatue_prime_form(sheet, length, 1, o->counts, LIMBATUE_COUNTS_MOST);
-    o->returned[4] = limbatue_walk(sheet, length, 0, 1, 8, &o->allowance, o->walked, LIMBATUE_WALK_ANSWER);
+    o->returned[4] = limbatue_walk(sheet, length, 0, 1, 8, 5, o->session, LIMBATUE_DESKS, o->walked, LIMBATUE_WALK_ANSWER);
     o->returned[5] = limbatue_page(sheet, length, o->page, LIMBATUE_PAGE_MOST, o->length, LIMBATUE_PAGE_ANSWER);
     o->returned[6] = limbatue_shelf_number(sheet, length, 1, o->shelved, LIMBATUE_SHELF_NUMBER_ANSWER);
     o->returned[7] = limbatue_shelf_field(sheet, length, LIMBATUE_TOKENS_MOST, 16, o->field, LIMBATUE_COUNTS_MOST);

@@ -64,13 +64,14 @@ fn growth(sheets: impl Iterator<Item = Vec<u8>>) -> String {
 fn walk_times(sheet: &[u8]) -> (u32, Duration, Duration) {
     let (mut drawn, mut other) = (0, 0);
     let library = least_time(|| {
-        let mut session = limbatue::Session::new(1_000_000);
-        black_box(limbatue::walk(black_box(sheet), 0, 0, 8, &mut session)).expect("a well-formed sheet");
-        drawn = 1_000_000 - session.allowance();
+        let mut session = limbatue::Session::open([1_000_000; 8]);
+        black_box(limbatue::walk(black_box(sheet), 0, 0, 8, 0, &mut session)).expect("a well-formed sheet");
+        drawn = 1_000_000 - session.allowances()[0];
     });
     let independent = least_time(|| {
-        let mut session = independent::walker::Session { allowance: 1_000_000 };
-        other = independent::walker::walk(black_box(sheet), 0, 0, 8, &mut session).expect("a well-formed sheet").drawn;
+        let mut session = independent::walker::Session { allowances: [1_000_000; 8] };
+        let walked = independent::walker::walk(black_box(sheet), 0, 0, 8, 0, &mut session);
+        other = walked.expect("a well-formed sheet").drawn;
     });
     assert_eq!(drawn, other);
     (drawn, library, independent)

@@ -42,7 +42,9 @@ unsafe extern "C" {
         first: usize,
         second: usize,
         limit: u64,
-        allowance: *mut u32,
+        desk: usize,
+        session: *mut u32,
+        session_length: usize,
         answer: *mut u64,
         answer_length: usize,
     ) -> u32;

@@ -110,6 +110,20 @@ pub const PAGE_MOST: usize = 73_319;
 /// ```
 pub const TOKENS_MOST: usize = 16;
 
+/// The desks of a session, numbered from 0.
+///
+/// ```
+/// use limbatue::{DESKS, Reason, Session};
+///
+/// let sheet = std::fs::read("testdata/page36.sheet")?;
+/// let mut session = Session::open([100; DESKS]);
+/// assert!(limbatue::walk(&sheet, 0, 1, 4, DESKS - 1, &mut session).is_ok());
+/// let refusal = limbatue::walk(&sheet, 0, 1, 4, DESKS, &mut session).unwrap_err();
+/// assert_eq!(refusal.reason, Reason::Desk);
+/// # Ok::<(), std::io::Error>(())
+/// ```
+pub const DESKS: usize = 8;
+
 /// A sheet's numbers of kinds, codes, lines and fields. [`numbers`] gives them.
 ///
 /// ```

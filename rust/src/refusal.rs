@@ -12,7 +12,8 @@ use std::fmt;
 ///
 /// // A library that is newer than this crate may know more reasons, so a `match` needs an arm for those.
 /// let is_about_the_call = match refusal.reason {
-///     Reason::Number | Reason::RoundLimit | Reason::Size | Reason::ShelfNumber | Reason::TooShort => true,
+///     Reason::Desk | Reason::Number | Reason::RoundLimit => true,
+///     Reason::Size | Reason::ShelfNumber | Reason::TooShort => true,
 ///     _ => false,
 /// };
 /// assert!(!is_about_the_call);
@@ -20,6 +21,8 @@ use std::fmt;
 #[non_exhaustive]
 #[derive(Clone, Copy, Debug, PartialEq, Eq, Hash)]
 pub enum Reason {
+    /// 16: the desk is over 7.
+    Desk,
     /// 1: the sheet has under 20 bytes.
     NoHeader,
     /// 2: the number of kinds is not from 1 to 32.
@@ -108,6 +111,7 @@ impl Refusal {
             Reason::RoundLimit => 13,
             Reason::Size => 14,
             Reason::ShelfNumber => 15,
+            Reason::Desk => 16,
             Reason::Other(number) => number,
         }
     }
@@ -130,6 +134,7 @@ impl Refusal {
             13 => Reason::RoundLimit,
             14 => Reason::Size,
             15 => Reason::ShelfNumber,
+            16 => Reason::Desk,
             number => Reason::Other(number),
         };
         Refusal { reason, place: returned / 256 }
@@ -141,6 +146,7 @@ impl fmt::Display for Refusal {
     fn fmt(&self, f: &mut fmt::Formatter<'_>) -> fmt::Result {
         let place = self.place;
         match (self.reason, place) {
+            (Reason::Desk, _) => f.write_str("the desk is over 7"),
             (Reason::NoHeader, _) => f.write_str("the sheet has under 20 bytes"),
             (Reason::Kinds, _) => f.write_str("the number of kinds is not from 1 to 32"),
             (Reason::Codes, _) => f.write_str("the number of codes is not from 1 to 64"),

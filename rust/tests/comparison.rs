@@ -1,15 +1,20 @@
-//! The library against the independent implementation: every answer, every buffer, what stands before and past it, and every session. The comparison itself is tried
-//! too: it finds each kind of difference.
+//! The library against the independent implementation: every answer, every buffer, what stands before and past it, and every session after each of its walks; and what is promised of the desks
+//! of a session, over whole days, on both. The comparison and the days are tried themselves too: they find each kind of difference, and each broken promise.
 
 use std::collections::BTreeSet;
+use std::fmt::Debug;
 
-use independent::calls::{Answer, Call, Comparison, Lent, Margined, compare_implementations, independent, row_place};
+use independent::calls::{
+    Answer, Call, Comparison, Implementation, Lent, Margined, Walk, compare_implementations, independent,
+    independent_walk, row_place,
+};
+use independent::days::{Promise, play_days};
 use independent::filer::Verdict;
 use independent::generator::sample;
 use independent::page::page;
 use independent::sheet::{Numbers, Refusal};
 use independent::shelf::ShelfNumber;
-use independent::walker::{Answer as Found, Walked};
+use independent::walker::{Answer as Found, DESKS, Walked, walk_lent};
 
 /// The crate's own declarations of the C functions.
 #[path = "../src/ffi.rs"]
@@ -23,21 +28,24 @@ fn answer_array(entries: usize) -> Margined<u64> {
 }
 
 /// The refusal that a returned number says.
-fn refusal(code: u32) -> Answer {
-    Answer::Refused(Refusal { number: code % 256, place: code / 256 })
+fn refusal(code: u32) -> Refusal {
+    Refusal { number: code % 256, place: code / 256 }
 }
+
+/// The refusal of a buffer that is too short.
+const TOO_SHORT: Refusal = Refusal { number: 12, place: 0 };
 
 /// A sheet's numbers as an answer.
 fn numbers(kinds: usize, codes: usize, lines: usize, fields: usize) -> Answer {
     Answer::Numbers(Numbers { kinds, codes, lines, fields })
 }
 
-/// Makes a call on the library's C functions, with an answer array of so many entries: the returned number, and the array.
+/// Makes a call other than a day on the library's C functions, with an answer array of so many entries: the returned number, and the array.
 fn call_library(call: &Call, lent: &mut Lent, entries: usize) -> (u32, Margined<u64>) {
     let mut array = answer_array(entries);
     let answer = array.lent_mut();
     let (values, room) = (answer.as_mut_ptr(), answer.len());
-    let (sheet, bytes) = (lent.sheet.lent().as_ptr(), lent.sheet.lent().len());
+    let (sheet, bytes) = (lent.sheets[0].lent().as_ptr(), lent.sheets[0].lent().len());
     // SAFETY: what is lent are slices, and those that are written overlap nothing.
     let code = unsafe {
         match *call {
@@ -54,9 +62,7 @@ fn call_library(call: &Call, lent: &mut Lent, entries: usize) -> (u32, Margined<
                 let counts = lent.counts.lent_mut();
                 ffi::limbatue_prime_form(sheet, bytes, field, counts.as_mut_ptr(), counts.len())
             }
-            Call::Walk { first, second, limit, .. } => {
-                ffi::limbatue_walk(sheet, bytes, first, second, limit, &mut lent.session.allowance, values, room)
-            }
+            Call::Day(_) => panic!("a day is several calls"),
             Call::Page { .. } => {
                 let page = lent.page.lent_mut();
                 ffi::limbatue_page(sheet, bytes, page.as_mut_ptr(), page.len(), values, room)
@@ -72,29 +78,77 @@ fn call_library(call: &Call, lent: &mut Lent, entries: usize) -> (u32, Margined<
     (code, array)
 }
 
-/// How many values the answer of a call has.
+/// Makes a walk of a day on the library's C function, with an answer array of so many entries: the returned number, and the array.
+fn call_walk(walk: &Walk, lent: &mut Lent, entries: usize) -> (u32, Margined<u64>) {
+    let mut array = answer_array(entries);
+    let (sheet, session, answer) = (lent.sheets[walk.sheet].lent(), lent.session.lent_mut(), array.lent_mut());
+    // SAFETY: three slices, none of which overlaps one that is written.
+    let code = unsafe {
+        ffi::limbatue_walk(
+            sheet.as_ptr(),
+            sheet.len(),
+            walk.first,
+            walk.second,
+            walk.limit,
+            walk.desk,
+            session.as_mut_ptr(),
+            session.len(),
+            answer.as_mut_ptr(),
+            answer.len(),
+        )
+    };
+    (code, array)
+}
+
+/// How many values the answer of a call has; of a day, that of each walk.
 fn values_of(call: &Call) -> usize {
     match call {
         Call::Settle { .. } | Call::Page { .. } => 1,
         Call::RowCheck { .. } | Call::Row { .. } | Call::ShelfNumber { .. } => 2,
-        Call::Compare { .. } | Call::Walk { .. } => 3,
+        Call::Compare { .. } | Call::Day(_) => 3,
         Call::Numbers => 4,
         Call::PrimeForm { .. } | Call::ShelfField { .. } => 0,
     }
 }
 
-/// The library's side: the answer array has one entry more than the values, and what is past them must be as it was; so must all of it where the call is refused.
-fn library(call: &Call, lent: &mut Lent) -> Answer {
-    let named = values_of(call);
-    let (code, array) = call_library(call, lent, named + 1);
+/// Asserts that of an answer array, one entry longer than the values named, what is past them is as it was; so must be all of it where the call was refused.
+fn assert_kept(call: &dyn Debug, code: u32, array: &Margined<u64>, named: usize) {
     let written = if code == 0 { named } else { 0 };
     let mut kept = answer_array(named + 1);
     kept.lent_mut()[..written].copy_from_slice(&array.lent()[..written]);
-    assert!(kept == array, "{call:?}: values past those named were written");
+    assert!(kept == *array, "{call:?}: values past those named were written");
+}
+
+/// A walk of a day on the library's side, whose answer has so many values.
+fn library_walk(walk: &Walk, lent: &mut Lent, named: usize) -> Result<Walked, Refusal> {
+    let (code, array) = call_walk(walk, lent, named + 1);
+    assert_kept(walk, code, &array, named);
+    if code != 0 {
+        return Err(refusal(code));
+    }
+    let values = array.lent();
+    let answer = match (values[0], values[1]) {
+        (0, 0) => Found::Together,
+        (1, rounds) => Found::Apart { rounds },
+        (2, 0) => Found::Spent,
+        other => panic!("{walk:?}: no answer of a walk is {other:?}"),
+    };
+    Ok(Walked { answer, drawn: values[2].try_into().expect("at most what was left") })
+}
+
+/// The library's side.
+fn library(call: &Call, lent: &mut Lent) -> Answer {
+    let named = values_of(call);
+    if let Call::Day(day) = call {
+        return day.make(lent, |walk, lent| library_walk(walk, lent, named));
+    }
+    let (code, array) = call_library(call, lent, named + 1);
+    assert_kept(call, code, &array, named);
     let values = array.lent();
     match *call {
         Call::Row { .. } if code != 0 => row_place(lent.table.lent(), &[]),
-        _ if code != 0 => refusal(code),
+        _ if code != 0 => Answer::Refused(refusal(code)),
+        Call::Day(_) => panic!("a day is several calls"),
         Call::Settle { .. } => Answer::Settled { stage: values[0] as u32 },
         Call::RowCheck { .. } => Answer::RowThere,
         Call::Row { .. } => Answer::Row { start: values[0] as usize, entries: values[1] as usize },
@@ -104,15 +158,6 @@ fn library(call: &Call, lent: &mut Lent) -> Answer {
             Answer::Verdict(Verdict::Different { stage: values[1] as _, rounds: values[2] })
         }
         Call::PrimeForm { .. } => Answer::FormWritten,
-        Call::Walk { .. } => {
-            let answer = match (values[0], values[1]) {
-                (0, 0) => Found::Together,
-                (1, rounds) => Found::Apart { rounds: rounds as _ },
-                (2, 0) => Found::Spent,
-                other => panic!("{call:?}: no answer of a walk is {other:?}"),
-            };
-            Answer::Walked(Walked { answer, drawn: values[2] as _ })
-        }
         Call::Page { .. } => Answer::PageWritten { bytes: values[0] as usize },
         Call::Numbers => numbers(values[0] as _, values[1] as _, values[2] as _, values[3] as _),
         Call::ShelfNumber { .. } => Answer::ShelfNumber(ShelfNumber { size: values[0], number: values[1] }),
@@ -123,37 +168,67 @@ fn library(call: &Call, lent: &mut Lent) -> Answer {
 /// With an answer array that is one entry too short, a call is refused as it was before, else with 12 at place 0; nothing lent is written.
 fn library_short(call: &Call, lent: &mut Lent) -> Answer {
     let named = values_of(call);
+    if let Call::Day(day) = call {
+        return day.make(lent, |walk, lent| {
+            let (code, array) = call_walk(walk, lent, named - 1);
+            assert!(array == answer_array(named - 1), "{walk:?}: a short answer array was written");
+            Err(refusal(code))
+        });
+    }
     if named == 0 {
         return independent(call, lent);
     }
     let (code, array) = call_library(call, lent, named - 1);
     assert!(array == answer_array(named - 1), "{call:?}: a short answer array was written");
-    refusal(code)
+    Answer::Refused(refusal(code))
 }
 
 /// What the independent side would answer there.
 fn independent_short(call: &Call, lent: &mut Lent) -> Answer {
+    if let Call::Day(day) = call {
+        return day.make(lent, |walk, lent| Err(independent_walk(walk, &mut lent.clone()).err().unwrap_or(TOO_SHORT)));
+    }
     if values_of(call) == 0 {
         return independent(call, lent);
     }
     let tried = match *call {
         Call::Row { kinds, kind, entries } => Call::RowCheck { kinds, kind, entries },
-        other => other,
+        ref other => other.clone(),
     };
     match independent(&tried, &mut lent.clone()) {
         refused @ Answer::Refused(_) => refused,
-        _ => Answer::Refused(Refusal { number: 12, place: 0 }),
+        _ => Answer::Refused(TOO_SHORT),
     }
 }
 
 /// A refusal of the safe wrappers.
+fn refusal_of(refusal: limbatue::Refusal) -> Refusal {
+    Refusal { number: refusal.number(), place: refusal.place }
+}
+
+/// A refusal of the safe wrappers as an answer.
 fn refused(refusal: limbatue::Refusal) -> Answer {
-    Answer::Refused(Refusal { number: refusal.number(), place: refusal.place })
+    Answer::Refused(refusal_of(refusal))
+}
+
+/// A walk of a day through the safe wrapper, on a session that its walks share. A session array that is too short is refused, as where it is lent to the library.
+fn wrapped_walk(walk: &Walk, lent: &mut Lent, session: &mut limbatue::Session) -> Result<Walked, Refusal> {
+    let sheet = lent.sheets[walk.sheet].lent();
+    let walked = limbatue::walk(sheet, walk.first, walk.second, walk.limit, walk.desk, session);
+    let room = lent.session.lent_mut().first_chunk_mut().map(|left| *left = session.allowances());
+    let walked = walked.map_err(refusal_of)?;
+    room.ok_or(TOO_SHORT)?;
+    let (answer, drawn) = match walked {
+        limbatue::Walked::Together { drawn } => (Found::Together, drawn),
+        limbatue::Walked::Apart { rounds, drawn } => (Found::Apart { rounds: rounds.into() }, drawn),
+        limbatue::Walked::Spent { drawn } => (Found::Spent, drawn),
+    };
+    Ok(Walked { answer, drawn })
 }
 
 /// The library's side through the safe wrappers, those that write into what is lent.
 fn wrappers(call: &Call, lent: &mut Lent) -> Answer {
-    let sheet = lent.sheet.lent();
+    let sheet = lent.sheets[0].lent();
     match *call {
         Call::Settle { .. } => {
             limbatue::settle_into(sheet, lent.table.lent_mut()).map_or_else(refused, |stage| Answer::Settled { stage })
@@ -172,18 +247,9 @@ fn wrappers(call: &Call, lent: &mut Lent) -> Answer {
         }),
         Call::PrimeForm { field, .. } => limbatue::prime_form_into(sheet, field, lent.counts.lent_mut())
             .map_or_else(refused, |()| Answer::FormWritten),
-        Call::Walk { first, second, limit, allowance } => {
-            let mut session = limbatue::Session::new(allowance);
-            let walked = limbatue::walk(sheet, first, second, limit, &mut session);
-            lent.session.allowance = session.allowance();
-            walked.map_or_else(refused, |walked| {
-                let (answer, drawn) = match walked {
-                    limbatue::Walked::Together { drawn } => (Found::Together, drawn),
-                    limbatue::Walked::Apart { rounds, drawn } => (Found::Apart { rounds: rounds as _ }, drawn),
-                    limbatue::Walked::Spent { drawn } => (Found::Spent, drawn),
-                };
-                Answer::Walked(Walked { answer, drawn })
-            })
+        Call::Day(ref day) => {
+            let mut session = limbatue::Session::open(day.allowances);
+            day.make(lent, |walk, lent| wrapped_walk(walk, lent, &mut session))
         }
         Call::Page { .. } => {
             limbatue::page_into(sheet, lent.page.lent_mut()).map_or_else(refused, |bytes| Answer::PageWritten { bytes })
@@ -205,13 +271,13 @@ fn written<T: Copy>(given: &[T], lent: &mut [T], answer: Answer) -> Answer {
             part.copy_from_slice(given);
             answer
         }
-        None => Answer::Refused(Refusal { number: 12, place: 0 }),
+        None => Answer::Refused(TOO_SHORT),
     }
 }
 
 /// The library's side through the owned forms, where there is one.
 fn owned_forms(call: &Call, lent: &mut Lent) -> Answer {
-    let sheet = lent.sheet.lent();
+    let sheet = lent.sheets[0].lent();
     match *call {
         Call::Settle { .. } => limbatue::settle(sheet).map_or_else(refused, |settled| {
             written(settled.table(), lent.table.lent_mut(), Answer::Settled { stage: settled.stage() })
@@ -230,7 +296,8 @@ fn owned_forms(call: &Call, lent: &mut Lent) -> Answer {
 
 /// Asserts that two implementations do not differ, and says what was tried.
 fn assert_equal(name: &str, comparison: Comparison) {
-    println!("{name}: {} sheets, {} calls", comparison.sheets, comparison.calls);
+    let Comparison { sheets, calls, days, .. } = comparison;
+    println!("{name}: {sheets} sheets, {calls} calls, {days} days");
     for (answer, times) in &comparison.answers {
         println!("  {answer}: {times}");
     }
@@ -303,7 +370,7 @@ fn the_version_is_that_of_the_crate() {
 }
 
 /// Compares an implementation with the independent one on some sheets.
-fn differences(other: fn(&Call, &mut Lent) -> Answer) -> Comparison {
+fn differences(other: Implementation) -> Comparison {
     compare_implementations(7, 0..400, independent, other)
 }
 
@@ -331,7 +398,7 @@ fn another_answer_is_found() {
 fn a_write_past_the_named_entries_is_found() {
     let comparison = differences(|call, lent| {
         let answer = independent(call, lent);
-        if let (Call::PrimeForm { .. }, Answer::FormWritten) = (call, answer) {
+        if let (Call::PrimeForm { .. }, Answer::FormWritten) = (call, &answer) {
             if let Some(last) = lent.counts.lent_mut().last_mut() {
                 *last = 0;
             }
@@ -346,7 +413,7 @@ fn a_write_on_refusal_is_found() {
     let comparison = differences(|call, lent| {
         let answer = independent(call, lent);
         if let (Call::Settle { .. }, Answer::Refused(_), Some(first)) =
-            (call, answer, lent.table.lent_mut().first_mut())
+            (call, &answer, lent.table.lent_mut().first_mut())
         {
             *first = 0;
         }
@@ -371,7 +438,7 @@ fn another_shelf_number_is_found() {
 fn a_write_to_the_buffer_of_a_field_is_found() {
     let comparison = differences(|call, lent| {
         let answer = independent(call, lent);
-        match (answer, lent.field.lent_mut()) {
+        match (&answer, lent.field.lent_mut()) {
             (Answer::FieldWritten, [.., last]) => *last ^= 1,
             (Answer::Refused(_), [first, ..]) => *first = 0,
             _ => {}
@@ -389,20 +456,131 @@ fn a_write_to_the_buffer_of_a_field_is_found() {
     assert!([0, 9, 12, 14, 15].iter().all(|number| found.contains(number)), "{found:?}");
 }
 
+/// Makes a walk on its sheet and a session array.
+type Walker = fn(&[u8], &Walk, &mut [u32]) -> Result<Walked, Refusal>;
+
+/// Makes the walks of a day by a walker, and all other calls on the independent side.
+fn with_walker(call: &Call, lent: &mut Lent, walker: Walker) -> Answer {
+    match call {
+        Call::Day(day) => {
+            day.make(lent, |walk, lent| walker(lent.sheets[walk.sheet].lent(), walk, lent.session.lent_mut()))
+        }
+        _ => independent(call, lent),
+    }
+}
+
+/// The walker that does what is asked.
+fn right(sheet: &[u8], walk: &Walk, session: &mut [u32]) -> Result<Walked, Refusal> {
+    walk_lent(sheet, walk.first, walk.second, walk.limit, walk.desk, session)
+}
+
+/// Draws from desk 0, whoever walks.
+fn draws_from_desk_0(call: &Call, lent: &mut Lent) -> Answer {
+    with_walker(call, lent, |sheet, walk, session| {
+        let walked = right(sheet, walk, &mut session.to_vec())?;
+        session[0] = session[0].saturating_sub(walked.drawn);
+        Ok(walked)
+    })
+}
+
+/// Walks with what all desks have left together, and draws from the desk that walks.
+fn reads_the_sum(call: &Call, lent: &mut Lent) -> Answer {
+    with_walker(call, lent, |sheet, walk, session| {
+        let sum = session.iter().take(DESKS).sum();
+        let mut all_have = vec![sum; session.len()];
+        let walked = right(sheet, walk, &mut all_have)?;
+        session[walk.desk] = session[walk.desk].saturating_sub(walked.drawn);
+        Ok(walked)
+    })
+}
+
+/// Empties the desk that walks where its walk is refused, and tells no draw.
+fn empties_on_refusal(call: &Call, lent: &mut Lent) -> Answer {
+    with_walker(call, lent, |sheet, walk, session| {
+        let walked = right(sheet, walk, session);
+        if walked.is_err() && walk.desk < session.len().min(DESKS) {
+            session[walk.desk] = 0;
+        }
+        walked
+    })
+}
+
+/// Empties the next desk where a walk is spent.
+fn empties_the_next(call: &Call, lent: &mut Lent) -> Answer {
+    with_walker(call, lent, |sheet, walk, session| {
+        let walked = right(sheet, walk, session)?;
+        if walked.answer == Found::Spent {
+            session[(walk.desk + 1) % DESKS] = 0;
+        }
+        Ok(walked)
+    })
+}
+
+/// Writes past the eighth entry of the session array, where it has one more.
+fn writes_past_the_desks(call: &Call, lent: &mut Lent) -> Answer {
+    with_walker(call, lent, |sheet, walk, session| {
+        let walked = right(sheet, walk, session)?;
+        if let Some(past) = session.get_mut(DESKS) {
+            *past ^= 1;
+        }
+        Ok(walked)
+    })
+}
+
 #[test]
 fn an_altered_session_is_found() {
+    for wrong in [draws_from_desk_0, empties_on_refusal, empties_the_next, writes_past_the_desks] {
+        let comparison = differences(wrong);
+        assert!(comparison.differences.iter().all(|difference| matches!(difference.call, Call::Day(_))));
+        assert!(comparison.differences.iter().any(|difference| difference.lent_differs));
+    }
+}
+
+#[test]
+fn an_answer_by_another_allowance_is_found() {
+    let comparison = differences(reads_the_sum);
+    assert!(comparison.differences.iter().all(|difference| difference.answers[0] != difference.answers[1]));
+    assert!(!comparison.differences.is_empty());
+}
+
+/// A session that is altered after one walk and as it was after the next is equal at the end of the day.
+#[test]
+fn a_session_is_compared_after_each_walk() {
     let comparison = differences(|call, lent| {
-        let answer = independent(call, lent);
-        if let (Call::Walk { .. }, Answer::Refused(_)) = (call, answer) {
-            lent.session.allowance = 0;
+        let mut answer = independent(call, lent);
+        if let Answer::Day(made) = &mut answer {
+            if let [first, _, ..] = &mut made[..] {
+                first.session.lent_mut().iter_mut().for_each(|left| *left ^= 1);
+            }
         }
         answer
     });
-    assert!(
-        comparison
-            .differences
-            .iter()
-            .all(|difference| difference.lent_differs && matches!(difference.call, Call::Walk { .. }))
-    );
+    assert!(comparison.differences.iter().all(|difference| !difference.lent_differs));
     assert!(!comparison.differences.is_empty());
+}
+
+#[test]
+fn the_promises_of_the_desks_are_kept() {
+    for (name, implementation) in
+        [("independent", independent as Implementation), ("library", library), ("wrappers", wrappers)]
+    {
+        let played = play_days(SEED, 0..10_000, implementation);
+        println!("{name}: {played:?}");
+        assert!(played.broken.is_empty(), "{name}: {played:?}");
+        assert!(played.days == 10_000 && played.walks > 40_000 && played.beside_others > 10_000, "{name}: {played:?}");
+    }
+}
+
+#[test]
+fn a_broken_promise_is_found() {
+    for (name, wrong, promises) in [
+        ("draws from desk 0", draws_from_desk_0 as Implementation, &[Promise::Loss, Promise::Alone][..]),
+        ("reads the sum", reads_the_sum, &[Promise::Loss, Promise::Alone]),
+        ("empties on refusal", empties_on_refusal, &[Promise::Loss]),
+        ("empties the next", empties_the_next, &[Promise::Loss, Promise::Alone]),
+    ] {
+        let played = play_days(SEED, 0..1_000, wrong);
+        println!("{name}: {played:?}");
+        assert!(promises.iter().eq(played.broken.keys()), "{name}: {played:?}");
+    }
 }

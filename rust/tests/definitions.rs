@@ -10,7 +10,7 @@ use independent::norm::{NormedCard, accept, kind_norms};
 use independent::random::Random;
 use independent::sheet::{MOST_FIELDS, MOST_KINDS, Refusal, read};
 use independent::shelf::{Entries, MOST_TOKENS, ShelfNumber, field_of, number_of, shelf_field, shelf_number};
-use independent::walker::{Session, walk};
+use independent::walker::{DESKS, Session, walk};
 
 /// The greatest norm of a kind that is searched.
 const MOST_NORM: u64 = 6;
@@ -150,6 +150,7 @@ fn compare_verdicts(
     Ok(())
 }
 
+/// A walk by any desk is that of the definition on what this desk has left, whatever the others have.
 #[test]
 fn walks_and_their_counts() {
     let mut compared = 0;
@@ -162,15 +163,17 @@ fn walks_and_their_counts() {
             let limit = random.between(0, 3) as u64;
             let full = walk_by_definition(&card, &card.field(first), &card.field(second), limit, u32::MAX);
             for allowance in [full.drawn, full.drawn.saturating_sub(1), full.drawn + 1, random.below(50) as u32] {
-                let mut session = Session { allowance };
+                let desk = random.below(DESKS);
+                let mut session = Session { allowances: [0; DESKS].map(|_| random.below(50) as u32) };
+                session.allowances[desk] = allowance;
+                let mut after = session;
                 let expected = walk_by_definition(&card, &card.field(first), &card.field(second), limit, allowance);
-                let given = walk(&bytes, first, second, limit, &mut session);
-                assert_eq!(
-                    given,
-                    Ok(expected),
-                    "sheet {number} fields {first} {second} limit {limit} allowance {allowance}"
-                );
-                assert_eq!(session.allowance, allowance - expected.drawn);
+                let given = walk(&bytes, first, second, limit, desk, &mut session);
+                let context =
+                    format!("sheet {number} fields {first} {second} limit {limit} desk {desk} allowance {allowance}");
+                assert_eq!(given, Ok(expected), "{context}");
+                after.allowances[desk] -= expected.drawn;
+                assert_eq!(session, after, "{context}");
                 compared += 1;
             }
         }

@@ -3,7 +3,7 @@
 use std::fs;
 use std::path::Path;
 
-use limbatue::{Refusal, Session};
+use limbatue::{DESKS, Refusal, Session};
 
 /// The text of a file of the repository.
 fn document(path: &str) -> String {
@@ -41,7 +41,9 @@ fn compare(first: usize, second: usize, place: &'static str, sentence: &'static 
 /// The table of refusals, in the order of the checks.
 fn table() -> Vec<Row> {
     let accepted = sheet("page36");
+    let walk = |limit, desk| limbatue::walk(&accepted, 0, 1, limit, desk, &mut Session::open([1; DESKS]));
     vec![
+        Row { number: 16, place: "0", sentence: "the desk is over 7", refusal: walk(9, 8).expect_err("desk eight") },
         settle("nineteen", 1, "0", "the sheet has under 20 bytes"),
         settle("bad_kinds33", 2, "0", "the number of kinds is not from 1 to 32"),
         settle("bad_codes65", 3, "0", "the number of codes is not from 1 to 64"),
@@ -61,7 +63,7 @@ fn table() -> Vec<Row> {
             number: 13,
             place: "0",
             sentence: "the round limit is over 8",
-            refusal: limbatue::walk(&accepted, 0, 1, 9, &mut Session::new(1)).expect_err("nine rounds"),
+            refusal: walk(9, 7).expect_err("nine rounds"),
         },
         Row {
             number: 14,
@@ -144,5 +146,6 @@ fn the_constants_are_the_header_s() {
     assert_eq!(limbatue::COUNTS_MOST, defined("LIMBATUE_COUNTS_MOST"));
     assert_eq!(limbatue::PAGE_MOST, defined("LIMBATUE_PAGE_MOST"));
     assert_eq!(limbatue::TOKENS_MOST, defined("LIMBATUE_TOKENS_MOST"));
+    assert_eq!(limbatue::DESKS, defined("LIMBATUE_DESKS"));
     assert_eq!(limbatue::version() as usize, defined("LIMBATUE_VERSION"));
 }

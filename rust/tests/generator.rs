@@ -1,15 +1,16 @@
 //! The generator and the independent implementation on the generator's sheets, by themselves.
 
-use std::collections::BTreeMap;
+use std::collections::{BTreeMap, BTreeSet};
 
 use independent::base::{Base, Refinement};
-use independent::calls::{compare_implementations, independent};
+use independent::calls::{Answer, Call, Lent, compare_implementations, day, independent, sheets};
 use independent::generator::{COSTLY, Damage, FAMILIES, Family, Size, apply, draft, measured, sample};
 use independent::norm::{NORM_LIMIT, NormedCard, accept};
 use independent::page::page;
 use independent::random::Random;
 use independent::sheet::{MOST_BYTES, MOST_KINDS, Refusal};
 use independent::shelf::{MOST_TOKENS, tokens_of};
+use independent::walker::{Answer as Found, Walked};
 
 const SEED: u64 = 20_261_115;
 
@@ -31,11 +32,7 @@ fn every_refusal_and_every_answer_is_met() {
     for number in 1..=12 {
         met(&format!("settle: refused {number}").replace("settle: refused 11", "compare: refused 11"));
     }
-    for name in
-        ["walk: refused 11", "walk: refused 13", "walk: apart", "walk: together", "walk: spent", "compare: same"]
-    {
-        met(name);
-    }
+    met("compare: same");
     for name in [
         "row: empty",
         "row: done",
@@ -56,8 +53,14 @@ fn every_refusal_and_every_answer_is_met() {
     }
     met("settle: stage 32");
     assert_eq!(comparison.differences.len(), 0);
-    // Of the two calls on shelf numbers each answer is met often.
+    // Of walks and of the two calls on shelf numbers each answer is met often.
     let often = |name: &str| assert!(comparison.answers.get(name).is_some_and(|&count| count > 100), "{name}");
+    for name in ["apart", "together", "spent"] {
+        often(&format!("walk: {name}"));
+    }
+    for number in [16, 1, 2, 3, 4, 5, 6, 7, 8, 11, 13, 12] {
+        often(&format!("walk: refused {number}"));
+    }
     for size in 0..=16 {
         often(&format!("shelf number: size {size}"));
         often(&format!("shelf field: size {size}"));
@@ -71,6 +74,54 @@ fn every_refusal_and_every_answer_is_met() {
     {
         often(&format!("shelf {name}"));
     }
+}
+
+/// What comes up in a day, given the desk and the answer of each walk: refusals beside walks that are not refused, and what several desks are answered.
+fn met_in_a_day(walks: &[(usize, Result<Walked, Refusal>)]) -> BTreeSet<String> {
+    let desks = |wanted: fn(Found) -> bool| -> Vec<usize> {
+        let answered = walks.iter().filter(|(_, answer)| answer.is_ok_and(|walked| wanted(walked.answer)));
+        answered.map(|&(desk, _)| desk).collect()
+    };
+    let spent = desks(|answer| answer == Found::Spent);
+    let apart = desks(|answer| matches!(answer, Found::Apart { .. }));
+    let together = desks(|answer| answer == Found::Together);
+    let unspent: BTreeSet<usize> = apart.iter().chain(&together).copied().collect();
+    let mut met = BTreeSet::new();
+    if walks.iter().any(|(_, answer)| answer.is_ok()) {
+        met.extend(walks.iter().filter_map(|(_, answer)| Some(format!("refused {}", answer.err()?.number))));
+    }
+    let every = !met.is_empty() && !spent.is_empty() && !apart.is_empty() && !together.is_empty();
+    let others = [
+        ("every answer and a refusal", every),
+        ("three desks that are not spent", unspent.len() > 2),
+        ("a desk that is spent twice", spent.iter().collect::<BTreeSet<_>>().len() < spent.len()),
+        (
+            "a desk that is spent beside one that is not",
+            spent.iter().any(|desk| unspent.iter().any(|other| other != desk)),
+        ),
+    ];
+    met.extend(others.into_iter().filter(|&(_, there)| there).map(|(name, _)| name.to_string()));
+    met
+}
+
+/// What comes up within single days.
+#[test]
+fn days_of_several_desks() {
+    let mut days: BTreeMap<String, u64> = BTreeMap::new();
+    for number in 0..20_000 {
+        let sheets = sheets(SEED, number);
+        let day = day(&sheets, &mut Random::new(number));
+        let desks: Vec<usize> = day.walks.iter().map(|walk| walk.desk).collect();
+        let call = Call::Day(day);
+        let Answer::Day(made) = independent(&call, &mut Lent::new(&call, &sheets)) else { panic!("no day") };
+        let walks: Vec<_> = desks.into_iter().zip(made.into_iter().map(|made| made.answer)).collect();
+        for name in met_in_a_day(&walks) {
+            *days.entry(name).or_default() += 1;
+        }
+    }
+    println!("{days:?}");
+    // 16, 1 to 8, 11 and 13, and what several desks are answered.
+    assert!(days.len() == 11 + 4 && days.values().all(|&count| count > 100), "{days:?}");
 }
 
 /// What the comparison with the library meets near the greatest size that has shelf numbers, at the greatest

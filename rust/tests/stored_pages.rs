@@ -7,7 +7,7 @@ use independent::filer::{Verdict, compare, row, settle};
 use independent::page::page;
 use independent::sheet::{Refusal, numbers};
 use independent::shelf::{shelf_field, shelf_number};
-use independent::walker::{Answer, Session, walk};
+use independent::walker::{Answer, DESKS, Session, walk, walk_lent};
 
 /// The folder of the stored sheets, pages, walks and shelf numbers.
 fn stored() -> PathBuf {
@@ -33,27 +33,32 @@ fn pages_agree() {
     assert_eq!(compared, 77);
 }
 
+/// The stored walks, each by desk 0 where the others have none, and by another desk where the others have as much as any can.
 #[test]
 fn walks_agree() {
     let text = fs::read_to_string(stored().join("walks.txt")).expect("walks.txt");
-    for line in text.lines() {
+    for (place, line) in text.lines().enumerate() {
         let (call, expected) = line.split_once(" = ").expect("a call and its answer");
         let words: Vec<&str> = call.split(' ').collect();
         let number = |place: usize| words[place].parse::<usize>().expect("a number");
-        let allowance = number(4) as u32;
-        let mut session = Session { allowance };
-        let given = match walk(&sheet(words[0]), number(1), number(2), number(3) as u64, &mut session) {
-            Err(refusal) => format!("refused {} {}", refusal.number, refusal.place),
-            Ok(walked) => {
-                assert_eq!(session.allowance, allowance - walked.drawn, "{line}");
-                match walked.answer {
-                    Answer::Apart { rounds } => format!("apart {rounds} drawn {}", walked.drawn),
-                    Answer::Together => format!("together drawn {}", walked.drawn),
-                    Answer::Spent => format!("spent drawn {}", walked.drawn),
+        for (desk, others) in [(0, 0), (1 + place % (DESKS - 1), u32::MAX)] {
+            let mut session = Session { allowances: [others; DESKS] };
+            session.allowances[desk] = number(4) as u32;
+            let mut after = session;
+            let given = match walk(&sheet(words[0]), number(1), number(2), number(3) as u64, desk, &mut session) {
+                Err(refusal) => format!("refused {} {}", refusal.number, refusal.place),
+                Ok(walked) => {
+                    after.allowances[desk] -= walked.drawn;
+                    match walked.answer {
+                        Answer::Apart { rounds } => format!("apart {rounds} drawn {}", walked.drawn),
+                        Answer::Together => format!("together drawn {}", walked.drawn),
+                        Answer::Spent => format!("spent drawn {}", walked.drawn),
+                    }
                 }
-            }
-        };
-        assert_eq!(given, expected, "{line}");
+            };
+            assert_eq!(given, expected, "{line}, by desk {desk}");
+            assert_eq!(session, after, "{line}, by desk {desk}");
+        }
     }
     assert!(text.lines().count() > 100);
 }
@@ -93,9 +98,26 @@ fn refused_calls_alter_nothing() {
     let mut table = [7; 3];
     let refusal = settle(&sheet("page36"), &mut table).expect_err("a table of three entries is too short");
     assert_eq!((refusal.number, refusal.place, table), (12, 0, [7; 3]));
-    let mut session = Session { allowance: 5 };
-    walk(&sheet("page36"), 0, 0, 9, &mut session).expect_err("a limit of nine");
-    assert_eq!(session.allowance, 5);
+    // 16 comes before everything else, on no bytes too; 12 comes last.
+    let mut session = Session { allowances: [5; DESKS] };
+    let mut short = [5; DESKS - 1];
+    let (no_sheet, accepted) = (sheet("empty"), sheet("page36"));
+    for (sheet, second, limit, desk, refused) in [
+        (&no_sheet, 2, 9, 8, 16),
+        (&no_sheet, 2, 9, usize::MAX, 16),
+        (&no_sheet, 2, 9, 7, 1),
+        (&accepted, 2, 9, 8, 16),
+        (&accepted, 2, 9, 7, 11),
+        (&accepted, 0, 9, 7, 13),
+        (&accepted, 0, 8, 6, 12),
+    ] {
+        let refusal = walk_lent(sheet, 0, second, limit, desk, &mut short).expect_err("a session of seven desks");
+        assert_eq!((refusal.number, short), (refused, [5; DESKS - 1]));
+        if refused != 12 {
+            assert_eq!(walk(sheet, 0, second, limit, desk, &mut session), Err(refusal));
+            assert_eq!(session.allowances, [5; DESKS]);
+        }
+    }
     // 14 comes before 15, and both before 12: two counts are needed, and two tokens of two kinds are numbered 0 to 2.
     for (size, number, refused) in [(17, u64::MAX, 14), (2, 3, 15), (2, 2, 12)] {
         let mut counts = [7; 1];

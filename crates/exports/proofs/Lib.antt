@@ -1,5 +1,4 @@
-pub mod Replies
-pub mod Codes
 pub mod Outcomes
+pub mod WalkOutcomes
 pub mod PageOutcomes
 pub mod Versions

@@ -1,33 +1,22 @@
 -- What each call comes to, from what the library's function answered.
 use mathlib.Core.Bool.{Bool, true, false}
 use mathlib.Core.List.{List, [], _∷_}
-use mathlib.Core.Path.{_≡_, refl, sym, _∙_, ap}
+use mathlib.Core.Path.{_≡_, refl, sym, ap}
 use Prim.Native.Nat.{ℕ, _*_, _≤_, _<_}
 use native.Mathlib.Omega.{arith}
 use lib.Dec.{ltb}
 use lib.ListN.{length}
 use Rattle.model.specs.Sheet.{kindCount, cardOf}
 use Rattle.model.specs.Base.{settledStage}
-use Rattle.model.specs.Walk.{WalkAnswer}
 use Rattle.model.specs.Refusal.{Finding, clear, refusal, check, firstOf, sheetChecks, acceptChecks, settleChecks, formChecks, shelfFieldChecks}
-use Rattle.model.specs.Answer.{Answer, refused, given, Lent, written, Verdict, Walked, Shelved, tableOf, primeForm, shelfCounts, rowCheckOf, settleOf, compareOf, formOf, walkOf, shelfNumberOf, shelfFieldOf}
+use Rattle.model.specs.Answer.{Answer, refused, given, Lent, written, Verdict, Shelved, tableOf, primeForm, shelfCounts, rowCheckOf, settleOf, compareOf, formOf, shelfNumberOf, shelfFieldOf}
 use Rattle.theory.proofs.Checks.{first-left, first-right}
 use Rattle.sheet.specs.declared.reader.Card.{Card}
 use Rattle.sheet.specs.Reader.{Reads}
-use Rattle.exports.specs.Reply.{Reply, codeOf, refusing, replyOf, laidOut, valuesReply}
-use Rattle.exports.specs.Calls.{rowValues, foundOr, rowCall, numberValues, numbersCall, walkValues, walkCall, stageValues, settleCall, shortCodeBy, shortCode, verdictValues, compareCall, noValues, formCall, shelvedValues, shelfNumberCall, shelfFieldCall}
-use Rattle.exports.proofs.Replies.{reply-refuses, reply-short, reply-gives}
-
--- The parts of a call that comes to y.
-module _ {B : Type 0} {x y : Reply B} (e : x ≡ y) where
-  pub code-is : y .code ≡ x .code
-  code-is = ap (λ (z : Reply B). z .code) (sym e)
-
-  pub lent-is : y .lent ≡ x .lent
-  lent-is = ap (λ (z : Reply B). z .lent) (sym e)
-
-  pub values-are : y .values ≡ x .values
-  values-are = ap (λ (z : Reply B). z .values) (sym e)
+use Rattle.arrays.specs.Reply.{codeOf, refusing, replyOf, laidOut, valuesReply}
+use Rattle.arrays.specs.Session.{shortCodeBy}
+use Rattle.exports.specs.Calls.{rowValues, foundOr, rowCall, numberValues, numbersCall, stageValues, settleCall, shortCode, verdictValues, compareCall, noValues, formCall, shelvedValues, shelfNumberCall, shelfFieldCall}
+use Rattle.arrays.proofs.Replies.{reply-refuses, reply-short, reply-gives}
 
 -- A call that gives the same values wherever its checks find nothing.
 module _ (values : List ℕ) (f : Finding) (array : List ℕ) where
@@ -56,18 +45,6 @@ module _ (s array : List ℕ) where
   pub numbers-gives : (c : Card) → Reads s c → numbersCall s array ≡ valuesReply (c .kinds ∷ c .codes ∷ c .lines ∷ c .fields ∷ []) array
   unfolding numbersCall
   numbers-gives c h = rw (h .header) (found-gives (numberValues s) (firstOf (sheetChecks s)) array (h .passed))
-
--- Walk.
-module _ (s : List ℕ) (i j limit v : ℕ) (array : List ℕ) (w : Walked) (e : w ≡ walkOf s i j limit (record { left = v })) where
-  replied : walkCall s i j limit v array ≡ replyOf (laidOut (walkValues (w .drawn)) (w .answer)) v (w .after .left) array
-  unfolding walkCall
-  replied = ap (λ (x : Walked). replyOf (laidOut (walkValues (x .drawn)) (x .answer)) v (x .after .left) array) (sym e)
-
-  pub walk-refuses : (k p : ℕ) → w .answer ≡ refused k p → walkCall s i j limit v array ≡ refusing k p v array
-  walk-refuses k p d = replied ∙ reply-refuses v (w .after .left) array _ k p (ap (laidOut (walkValues (w .drawn))) d)
-
-  pub walk-gives : (a : WalkAnswer) → w .answer ≡ given a → walkCall s i j limit v array ≡ replyOf (given (walkValues (w .drawn) a)) v (w .after .left) array
-  walk-gives a d = replied ∙ ap (λ (y : Answer WalkAnswer). replyOf (laidOut (walkValues (w .drawn)) y) v (w .after .left) array) d
 
 -- Compare.
 module _ (s : List ℕ) (i j : ℕ) (array : List ℕ) where

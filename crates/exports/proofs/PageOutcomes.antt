@@ -6,12 +6,12 @@ use Prim.Native.Nat.{ℕ, _^_, _≤_, _<_}
 use native.Mathlib.Omega.{arith}
 use lib.Dec.{ltb}
 use lib.ListN.{length}
-use Rattle.model.specs.Answer.{Answer, refused, given, Lent, written}
+use Rattle.model.specs.Answer.{refused, given, Lent, written}
 use Rattle.model.specs.Page.{printed}
 use Rattle.page.specs.Writing.{writePageOf}
-use Rattle.exports.specs.Reply.{Reply, codeOf, refusing, replyOf, laidOut}
+use Rattle.arrays.specs.Reply.{codeOf, refusing, replyOf, laidOut}
 use Rattle.exports.specs.Calls.{lengthValues, pageCall}
-use Rattle.exports.proofs.Replies.{reply-refuses, reply-short, reply-gives}
+use Rattle.arrays.proofs.Replies.{reply-refuses, reply-short, reply-gives}
 
 module _ (s buffer : List ℕ) where
   -- By whether the buffer is too short.

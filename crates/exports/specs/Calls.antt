@@ -1,12 +1,16 @@
 -- The calls from C, each from the model's own answer; the layout of each answer array.
+use mathlib.Core.Bool.{true, false}
 use mathlib.Core.List.{List, [], _∷_}
 use Prim.Native.Nat.{ℕ, _*_}
+use lib.Dec.{ltb}
+use lib.ListN.{length, take}
 use Rattle.model.specs.Sheet.{kindCount, codeCount, lineCount, fieldCount}
 use Rattle.model.specs.Refusal.{Finding, clear, refusal, firstOf, sheetChecks, acceptChecks}
 use Rattle.model.specs.Walk.{WalkAnswer, apart, together, spent}
-use Rattle.model.specs.Answer.{Answer, refused, given, Verdict, same, different, Shelved, rowCheckOf, walkOf, settleOf, compareOf, formOf, shelfNumberOf, shelfFieldOf}
+use Rattle.model.specs.Answer.{Answer, refused, given, Verdict, same, different, Shelved, Session, written, rowCheckOf, walkOf, settleOf, compareOf, formOf, shelfNumberOf, shelfFieldOf}
 use Rattle.page.specs.Writing.{writePageOf}
-use Rattle.exports.specs.Reply.{Reply, codeOf, replyOf, laidOut}
+use Rattle.arrays.specs.Reply.{Reply, replyOf, laidOut}
+use Rattle.arrays.specs.Session.{desks, shortCodeBy}
 
 -- Row's check: where the row starts in the table, and how many entries it has.
 abbrev pub rowValues : ℕ → ℕ → List ℕ
@@ -27,18 +31,6 @@ numberValues s = kindCount s ∷ codeCount s ∷ lineCount s ∷ fieldCount s �
 unfoldable pub numbersCall : List ℕ → List ℕ → Reply (Unit {0})
 numbersCall s array = replyOf (foundOr (numberValues s) (firstOf (sheetChecks s))) tt tt array
 
--- Walk: 0 together, 1 apart, 2 spent; the rounds that part the pair, 0 where none did; the pairs drawn from the allowance.
-abbrev pub walkValues : ℕ → WalkAnswer → List ℕ
-walkValues drawn together = 0 ∷ 0 ∷ drawn ∷ []
-walkValues drawn (apart rounds) = 1 ∷ rounds ∷ drawn ∷ []
-walkValues drawn spent = 2 ∷ 0 ∷ drawn ∷ []
-
--- The allowance is lent: what is left of it stands there afterwards.
-unfoldable pub walkCall : List ℕ → ℕ → ℕ → ℕ → ℕ → List ℕ → Reply ℕ
-walkCall s i j limit allowance array =
-    let w = walkOf s i j limit (record { left = allowance }) in
-    replyOf (laidOut (walkValues (w .drawn)) (w .answer)) allowance (w .after .left) array
-
 -- Settle: the settled stage. The table is lent.
 abbrev pub stageValues : ℕ → List ℕ
 stageValues stage = stage ∷ []
@@ -47,12 +39,29 @@ unfoldable pub settleCall : List ℕ → List ℕ → List ℕ → Reply (List �
 settleCall s table array = let x = settleOf s table in replyOf (laidOut stageValues (x .answer)) table (x .lent) array
 
 -- What Settle returns where the answer array has no room: the sheet's own refusal, else that of a short buffer.
-abbrev pub shortCodeBy : Finding → ℕ
-shortCodeBy clear = codeOf 12 0
-shortCodeBy (refusal number place) = codeOf number place
-
 abbrev pub shortCode : List ℕ → ℕ
 shortCode s = shortCodeBy (firstOf (acceptChecks s))
+
+-- Walk: 0 together, 1 apart, 2 spent; the rounds that part the pair, 0 where none did; the pairs drawn from the desk's allowance.
+abbrev pub walkValues : ℕ → WalkAnswer → List ℕ
+walkValues drawn together = 0 ∷ 0 ∷ drawn ∷ []
+walkValues drawn (apart rounds) = 1 ∷ rounds ∷ drawn ∷ []
+walkValues drawn spent = 2 ∷ 0 ∷ drawn ∷ []
+
+-- The session is lent as an array: its first eight elements are what the desks have left.
+abbrev pub lentSession : List ℕ → Session
+lentSession session = record { left = take desks session }
+
+-- An array with no room for eight desks is refused as "buffer or table too short", after the other checks.
+unfoldable pub ofDesks : List ℕ → Answer (List ℕ) → Answer (List ℕ)
+ofDesks session (refused number place) = refused number place
+ofDesks session (given values) = elim (ltb (length session) desks) [ true ↦ refused 12 0 | false ↦ given values ]
+
+-- What the desks have left stands there afterwards.
+unfoldable pub walkCall : List ℕ → ℕ → ℕ → ℕ → ℕ → List ℕ → List ℕ → Reply (List ℕ)
+walkCall s i j limit d session array =
+    let w = walkOf s i j limit d (lentSession session) in
+    replyOf (ofDesks session (laidOut (walkValues (w .drawn)) (w .answer))) session (written (w .after .left) session) array
 
 -- Compare: 0 same, 1 different; the stage and the rounds, 0 and 0 where the fields are the same.
 abbrev pub verdictValues : Verdict → List ℕ

@@ -1,8 +1,8 @@
 // Compare.
 ghost use mathlib.Core.Path.{_≡_};
 ghost use Rattle.exports.specs.Calls.{compareCall};
-use crate::reply::refusal_code;
-use crate::reply::reply;
+use arrays::reply::refusal_code;
+use arrays::reply::reply;
 use filer::Verdict;
 use filer::compare::compare;
 

@@ -1,7 +1,7 @@
 // Prime form.
 ghost use mathlib.Core.Path.{_≡_};
 ghost use Rattle.exports.specs.Calls.{formCall};
-use crate::reply::refusal_code;
+use arrays::reply::refusal_code;
 use filer::Forming;
 use filer::form::prime_form;
 

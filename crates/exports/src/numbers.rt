@@ -1,8 +1,8 @@
 // A sheet's numbers of kinds, codes, lines and fields.
 ghost use mathlib.Core.Path.{_≡_};
 ghost use Rattle.exports.specs.Calls.{numbersCall};
-use crate::reply::refusal_code;
-use crate::reply::reply;
+use arrays::reply::refusal_code;
+use arrays::reply::reply;
 use validation::checks::Checked;
 use validation::checks::check_sheet;
 

@@ -1,8 +1,8 @@
 // The page of a sheet. A refused sheet has a page too, so that only a buffer that is too short is refused.
 ghost use mathlib.Core.Path.{_≡_};
 ghost use Rattle.exports.specs.Calls.{pageCall};
-use crate::reply::refusal_code;
-use crate::reply::reply;
+use arrays::reply::refusal_code;
+use arrays::reply::reply;
 use page::Writing;
 use page::write_page;
 

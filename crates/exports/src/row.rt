@@ -1,8 +1,8 @@
 // Row's check. C cannot be handed a part of a table: the answer says where the row stands.
 ghost use mathlib.Core.Path.{_≡_};
 ghost use Rattle.exports.specs.Calls.{rowCall};
-use crate::reply::refusal_code;
-use crate::reply::reply;
+use arrays::reply::refusal_code;
+use arrays::reply::reply;
 use filer::RowCheck;
 use filer::row::row_check;
 

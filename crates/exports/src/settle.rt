@@ -1,9 +1,9 @@
 // Settle.
 ghost use mathlib.Core.Path.{_≡_};
 ghost use Rattle.exports.specs.Calls.{settleCall, shortCode};
-use crate::reply::refusal_code;
-use crate::reply::reply;
 use acceptance::accept::accept;
+use arrays::reply::refusal_code;
+use arrays::reply::reply;
 use filer::Settling;
 use filer::settle::settle_sheet;
 use validation::checks::Checked;

@@ -1,7 +1,7 @@
 // Shelf field.
 ghost use mathlib.Core.Path.{_≡_};
 ghost use Rattle.exports.specs.Calls.{shelfFieldCall};
-use crate::reply::refusal_code;
+use arrays::reply::refusal_code;
 use numbering::ShelfField;
 use numbering::field::shelf_field;
 

@@ -1,8 +1,8 @@
 // Shelf number.
 ghost use mathlib.Core.Path.{_≡_};
 ghost use Rattle.exports.specs.Calls.{shelfNumberCall};
-use crate::reply::refusal_code;
-use crate::reply::reply;
+use arrays::reply::refusal_code;
+use arrays::reply::reply;
 use numbering::ShelfNumber;
 use numbering::number::shelf_number;
 

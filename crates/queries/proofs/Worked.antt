@@ -23,13 +23,15 @@ use Rattle.words.specs.Word.{digitOf, valueFrom, some, numberOf}
 use Rattle.words.specs.Words.{firstWord, startedBy, wordsOf, sameWord, saidAfter, numbersOf}
 use Rattle.words.specs.Statements.{ended}
 use Rattle.replies.specs.Told.{Told, told, noCall}
-use Rattle.replies.specs.Numbers.{withNone, withOne, withTwo, withFour}
+use Rattle.replies.specs.Numbers.{withNone, withOne, withTwo, withFourOrFive}
 use Rattle.replies.specs.declared.reply.Outcome.{Outcome}
 use Rattle.replies.specs.declared.reply.Outcome.the-variants.{Answered, Refused, NoCall}
 use Rattle.replies.specs.Texts.{worded, countsText}
-use Rattle.verbs.specs.Texts.{tableRoom, formRoom, stagesLine, rowLines, settleText, rowIn, rowAfter, rowText, verdictText, compareText, formText, walkText}
+use Rattle.verbs.specs.Texts.{tableRoom, formRoom, stagesLine, rowLines, settleText, rowIn, rowAfter, rowText, verdictText, compareText, formText}
+use Rattle.walk_verb.specs.Texts.{givenTo, walkText}
 use Rattle.shelf_verbs.specs.Texts.{shelfRoom, shelvedLine, shelvedText, numberText, fieldText}
-use Rattle.verbs.specs.Calls.{settleTold, rowTold, compareTold, formTold, allowanceTold, walkTold}
+use Rattle.verbs.specs.Calls.{settleTold, rowTold, compareTold, formTold}
+use Rattle.walk_verb.specs.Calls.{allowanceTold, walkTold}
 use Rattle.shelf_verbs.specs.Calls.{numberTold, fieldTold}
 use Rattle.queries.specs.Verb.{verbs, verbIn, verbOf}
 use Rattle.queries.specs.Query.{verbTold, saidTold, wordsTold, queryOf}
@@ -58,6 +60,11 @@ examples =
     ∷ asks chain ("walk" ∷ "0" ∷ "1" ∷ "2" ∷ "10" ∷ []) Answered "apart 2 drawn 10\n"
     ∷ asks chain ("walk" ∷ "0" ∷ "1" ∷ "2" ∷ "9" ∷ []) Answered "spent drawn 9\n"
     ∷ asks chain ("walk" ∷ "0" ∷ "0" ∷ "0" ∷ "4294967295" ∷ []) Answered "together drawn 0\n"
+    ∷ asks chain ("walk" ∷ "0" ∷ "1" ∷ "2" ∷ "10" ∷ "7" ∷ []) Answered "apart 2 drawn 10\n"
+    ∷ asks chain ("walk" ∷ "0" ∷ "1" ∷ "2" ∷ "9" ∷ "3" ∷ []) Answered "spent drawn 9\n"
+    ∷ asks chain ("walk" ∷ "0" ∷ "1" ∷ "2" ∷ "10" ∷ "8" ∷ []) (Refused 16 0) "refused 16 0\n"
+    ∷ asks [] ("walk" ∷ "0" ∷ "1" ∷ "2" ∷ "10" ∷ "8" ∷ []) (Refused 16 0) "refused 16 0\n"
+    ∷ asks [] ("walk" ∷ "0" ∷ "1" ∷ "2" ∷ "10" ∷ "7" ∷ []) (Refused 1 0) "refused 1 0\n"
     ∷ asks chain ("number" ∷ "1" ∷ []) Answered "size 1 number 2\n"
     ∷ asks chain ("number" ∷ "2" ∷ []) (Refused 11 0) "refused 11 0\n"
     ∷ asks crowded ("number" ∷ "0" ∷ []) (Refused 14 0) "refused 14 0\n"
@@ -67,6 +74,8 @@ examples =
     ∷ asks chain ("field" ∷ "17" ∷ "0" ∷ []) (Refused 14 0) "refused 14 0\n"
     ∷ asks [] ("settle" ∷ []) (Refused 1 0) "refused 1 0\n"
     ∷ asks [] ("walk" ∷ "0" ∷ "0" ∷ "0" ∷ "4294967296" ∷ []) NoCall ""
+    ∷ asks [] ("walk" ∷ "0" ∷ "0" ∷ "0" ∷ []) NoCall ""
+    ∷ asks [] ("walk" ∷ "0" ∷ "0" ∷ "0" ∷ "0" ∷ "8" ∷ "0" ∷ []) NoCall ""
     ∷ asks [] ("settle" ∷ "0" ∷ []) NoCall ""
     ∷ asks [] ("row" ∷ []) NoCall ""
     ∷ asks [] ("number" ∷ []) NoCall ""
@@ -82,5 +91,5 @@ examples =
     ∷ []
 
 pub worked : map (λ (x : Example). queryOf (x .sheet) (ended (map bytes (x .words)))) examples ≡ map (λ (x : Example). x .told) examples
-unfolding any all keep pick concat listFrom below leastFrom bit unit ℕ-discrete weigh ready best sweeps kindNorm gainOf simulates expands lowering equalNorm falling refined stageFrom stage fieldsOfNorm earlier atom row passes firstSettled formAt partingStage roundsFor roundsAt tryReplies tryChallenges examine walk entry listed agree placeOf shelfNumber shelfField fieldsOffset totalOf counts lineOf cardOf fieldOf firstOf headerChecks lineChecks normChecks sheetChecks settleChecks compareChecks formChecks walkChecks rowChecks shelfNumberChecks shelfFieldChecks bytes digits number newline wordOf refusedLine written tableOf settleOf verdict compareOf primeForm formOf within fullWalk walkOf rowOf rowCheckOf shelfNumberOf shelfCounts shelfFieldOf countText countTexts countsLine drawnText foundText digitOf valueFrom some numberOf firstWord startedBy wordsOf sameWord saidAfter numbersOf ended told noCall withNone withOne withTwo withFour worded tableRoom formRoom shelfRoom stagesLine rowLines settleText rowIn rowAfter rowText verdictText compareText countsText formText walkText shelvedLine shelvedText numberText fieldText settleTold rowTold compareTold formTold allowanceTold walkTold numberTold fieldTold verbs verbIn verbOf verbTold saidTold wordsTold queryOf
+unfolding any all keep pick concat listFrom below leastFrom bit unit ℕ-discrete weigh ready best sweeps kindNorm gainOf simulates expands lowering equalNorm falling refined stageFrom stage fieldsOfNorm earlier atom row passes firstSettled formAt partingStage roundsFor roundsAt tryReplies tryChallenges examine walk entry listed agree placeOf shelfNumber shelfField fieldsOffset totalOf counts lineOf cardOf fieldOf firstOf headerChecks lineChecks normChecks sheetChecks settleChecks compareChecks formChecks walkChecks rowChecks shelfNumberChecks shelfFieldChecks bytes digits number newline wordOf refusedLine written tableOf settleOf verdict compareOf primeForm formOf within fullWalk walkOf rowOf rowCheckOf shelfNumberOf shelfCounts shelfFieldOf countText countTexts countsLine drawnText foundText digitOf valueFrom some numberOf firstWord startedBy wordsOf sameWord saidAfter numbersOf ended told noCall withNone withOne withTwo withFourOrFive worded tableRoom formRoom shelfRoom stagesLine rowLines settleText rowIn rowAfter rowText verdictText compareText countsText formText givenTo walkText shelvedLine shelvedText numberText fieldText settleTold rowTold compareTold formTold allowanceTold walkTold numberTold fieldTold verbs verbIn verbOf verbTold saidTold wordsTold queryOf
 worked = refl

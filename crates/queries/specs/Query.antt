@@ -3,7 +3,8 @@ use mathlib.Core.List.{List, [], _∷_}
 use Prim.Native.Nat.{ℕ}
 use Rattle.words.specs.Words.{Said, numbers, nothing, numbersOf, wordsOf}
 use Rattle.replies.specs.Told.{Told, noCall}
-use Rattle.verbs.specs.Calls.{settleTold, rowTold, compareTold, formTold, walkTold}
+use Rattle.verbs.specs.Calls.{settleTold, rowTold, compareTold, formTold}
+use Rattle.walk_verb.specs.Calls.{walkTold}
 use Rattle.shelf_verbs.specs.Calls.{numberTold, fieldTold}
 use Rattle.queries.specs.Verb.{verbOf}
 use Rattle.queries.specs.declared.table.Verb.{Verb}
@@ -27,7 +28,7 @@ saidTold s verb nothing = noCall
 
 -- The numbers that a call takes at most.
 abbrev pub mostNumbers : ℕ
-mostNumbers = 4
+mostNumbers = 5
 
 -- The words: a verb, and then numbers of 64 bits.
 unfoldable pub wordsTold : List ℕ → List (List ℕ) → Told

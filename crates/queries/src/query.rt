@@ -9,7 +9,7 @@ use verbs::compare::compare_fields;
 use verbs::form::field_form;
 use verbs::settle::settle;
 use verbs::settle::settled_row;
-use verbs::walk::walk_fields;
+use walk_verb::walk::walk_fields;
 use words::Count;
 use words::numbers_in;
 use words::word_end;
@@ -23,7 +23,7 @@ ghost use Rattle.queries.specs.Query.{verbTold, queryOf};
 pub const TEXT: usize = 21564;
 
 // The numbers that a call takes at most.
-const NUMBERS: usize = 4;
+const NUMBERS: usize = 5;
 
 // The call of a verb with its numbers.
 fn call(s: &[u8], verb: Verb, numbers: &[u64], out: &mut [u8]) -> Reply

@@ -1,4 +1,4 @@
-// query VERB NUMBERS..: the call that its words ask for, of the sheet on standard input. crates/verbs says which calls there are, and what they answer.
+// query VERB NUMBERS..: the call that its words ask for, of the sheet on standard input. crates/queries says which calls there are, and what they answer.
 use console::Reading;
 use console::Words;
 use libc::STDERR_FILENO;
@@ -8,7 +8,7 @@ use replies::Outcome;
 fn usage() {
     io::write_all(
         STDERR_FILENO,
-        b"usage: query settle | row K | compare I J | form I | walk I J LIMIT ALLOWANCE | number I | field SIZE NUMBER < SHEET (numbers in decimal; ALLOWANCE of 32 bits, the others of 64)\n",
+        b"usage: query settle | row K | compare I J | form I | walk I J LIMIT ALLOWANCE [DESK] | number I | field SIZE NUMBER < SHEET (numbers in decimal; ALLOWANCE of 32 bits, the others of 64)\n",
     );
 }
 

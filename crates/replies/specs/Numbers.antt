@@ -19,10 +19,12 @@ withTwo call [] = noCall
 withTwo call (_ ∷ []) = noCall
 withTwo call (_ ∷ _ ∷ _ ∷ _) = noCall
 
-unfoldable pub withFour : (ℕ → ℕ → ℕ → ℕ → Told) → List ℕ → Told
-withFour call (x ∷ y ∷ z ∷ w ∷ []) = call x y z w
-withFour call [] = noCall
-withFour call (_ ∷ []) = noCall
-withFour call (_ ∷ _ ∷ []) = noCall
-withFour call (_ ∷ _ ∷ _ ∷ []) = noCall
-withFour call (_ ∷ _ ∷ _ ∷ _ ∷ _ ∷ _) = noCall
+-- A call with four numbers and a fifth that may be left out, and is 0 then.
+unfoldable pub withFourOrFive : (ℕ → ℕ → ℕ → ℕ → ℕ → Told) → List ℕ → Told
+withFourOrFive call (x ∷ y ∷ z ∷ w ∷ []) = call x y z w 0
+withFourOrFive call (x ∷ y ∷ z ∷ w ∷ v ∷ []) = call x y z w v
+withFourOrFive call [] = noCall
+withFourOrFive call (_ ∷ []) = noCall
+withFourOrFive call (_ ∷ _ ∷ []) = noCall
+withFourOrFive call (_ ∷ _ ∷ _ ∷ []) = noCall
+withFourOrFive call (_ ∷ _ ∷ _ ∷ _ ∷ _ ∷ _ ∷ _) = noCall

@@ -82,7 +82,7 @@ every =
       row = λ n k size. first-said (rowChecks n k size) (omega arith, (omega arith, (omega arith, tt)));
       compare = λ s i j. first-said (compareChecks s i j) (each-both (acceptChecks s) _ (accept-each s) (omega arith, (omega arith, tt)));
       form = λ s i size. first-said (formChecks s i size) (each-both (acceptChecks s) _ (accept-each s) (omega arith, (omega arith, tt)));
-      walk = λ s i j limit. first-said (walkChecks s i j limit) (each-both (sheetChecks s) _ (sheet-each s) (omega arith, (omega arith, (omega arith, tt))));
+      walk = λ s i j limit d. first-said (walkChecks s i j limit d) (omega arith, each-both (sheetChecks s) _ (sheet-each s) (omega arith, (omega arith, (omega arith, tt))));
       number = λ s i. first-said (shelfNumberChecks s i) (each-both (acceptChecks s) _ (accept-each s) (omega arith, (omega arith, tt)));
       field = λ s t x size. first-said (shelfFieldChecks s t x size) (each-both (acceptChecks s) _ (accept-each s) (omega arith, (omega arith, (omega arith, tt))));
     }

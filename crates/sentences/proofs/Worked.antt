@@ -7,7 +7,7 @@ use Prim.Native.String.{String}
 use lib.Dec.{eqb, ltb}
 use lib.ListN.{length}
 use Rattle.model.specs.Finite.{both, pick}
-use Rattle.model.specs.Limits.{mostKinds, mostCodes, mostLines, mostFields, normLimit, mostRounds, mostTokens}
+use Rattle.model.specs.Limits.{mostKinds, mostCodes, mostLines, mostFields, normLimit, mostRounds, mostTokens, lastDesk}
 use Rattle.model.specs.Page.{bytes, digits, number, newline}
 use Rattle.model.specs.Sheet.{linesOffset}
 use Rattle.sentences.specs.Sentence.{sentences, among, has, named, sentenceOf}
@@ -35,12 +35,14 @@ examples =
     ∷ at 13 0 "the round limit is over 8\n"
     ∷ at 14 0 "the field or the size is over 16 tokens\n"
     ∷ at 15 0 "no field of this size has so large a number\n"
+    ∷ at 16 0 "the desk is over 7\n"
     ∷ at 0 0 ""
     ∷ at 1 1 ""
     ∷ at 6 4 ""
     ∷ at 14 1 ""
     ∷ at 15 1 ""
-    ∷ at 16 0 ""
+    ∷ at 16 1 ""
+    ∷ at 17 0 ""
     ∷ []
 
 pub worked : map (λ (e : Example). sentenceOf (e .number) (e .place)) examples ≡ map (λ (e : Example). bytes (e .text)) examples
@@ -54,9 +56,10 @@ grouped (d ∷ ds) = d ∷ elim (both (ltb 0 (length ds)) (eqb (length ds % 3) 0
 
 -- Each limit in a sentence is the model's.
 pub limits-said
-    : map (λ (k : ℕ). sentenceOf k 0) (1 ∷ 2 ∷ 3 ∷ 4 ∷ 5 ∷ 6 ∷ 10 ∷ 13 ∷ 14 ∷ [])
+    : map (λ (k : ℕ). sentenceOf k 0) (16 ∷ 1 ∷ 2 ∷ 3 ∷ 4 ∷ 5 ∷ 6 ∷ 10 ∷ 13 ∷ 14 ∷ [])
     ≡ map (λ (t : List ℕ). t ++ newline) (
-    (bytes "the sheet has under " ++ number linesOffset ++ bytes " bytes")
+    (bytes "the desk is over " ++ number lastDesk)
+    ∷ (bytes "the sheet has under " ++ number linesOffset ++ bytes " bytes")
     ∷ (bytes "the number of kinds is not from 1 to " ++ number mostKinds)
     ∷ (bytes "the number of codes is not from 1 to " ++ number mostCodes)
     ∷ (bytes "there are over " ++ number mostLines ++ bytes " lines")

@@ -17,6 +17,6 @@ pub record Every : Type 0 where
   pub row : (n k size : ℕ) → Said (rowChecks n k size)
   pub compare : (s : List ℕ) (i j : ℕ) → Said (compareChecks s i j)
   pub form : (s : List ℕ) (i size : ℕ) → Said (formChecks s i size)
-  pub walk : (s : List ℕ) (i j limit : ℕ) → Said (walkChecks s i j limit)
+  pub walk : (s : List ℕ) (i j limit d : ℕ) → Said (walkChecks s i j limit d)
   pub number : (s : List ℕ) (i : ℕ) → Said (shelfNumberChecks s i)
   pub field : (s : List ℕ) (t x size : ℕ) → Said (shelfFieldChecks s t x size)

@@ -21,7 +21,8 @@ row k q words = record { number = k; places = q; words = bytes words ++ newline 
 -- The table. The limits in it are the model's (`proofs/Worked`, `limits-said`).
 unfoldable pub sentences : List Sentence
 sentences =
-    row 1 (Only 0) "the sheet has under 20 bytes"
+    row 16 (Only 0) "the desk is over 7"
+    ∷ row 1 (Only 0) "the sheet has under 20 bytes"
     ∷ row 2 (Only 0) "the number of kinds is not from 1 to 32"
     ∷ row 3 (Only 0) "the number of codes is not from 1 to 64"
     ∷ row 4 (Only 0) "there are over 256 lines"

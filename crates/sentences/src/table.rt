@@ -22,9 +22,15 @@ pub struct Row {
     pub words: [u8; 52],
 }
 
-const ROWS: usize = 19;
+const ROWS: usize = 20;
 
 const TABLE: [Row; ROWS] = [
+    Row {
+        number: 16,
+        places: Place::Only(0),
+        count: 19,
+        words: *b"the desk is over 7\n                                 ",
+    },
     Row {
         number: 1,
         places: Place::Only(0),

@@ -8,8 +8,8 @@ use native.Mathlib.Decide.{decLt}
 use native.Mathlib.Nat.{mul-le-mul-right}
 use native.Mathlib.Omega.{arith}
 use lib.Dec.{ltb}
-use lib.ListN.{length, take, drop, getD, length-take, length-drop, List·getD-append}
-use lib.Seq.{getD-append-add}
+use lib.ListN.{length, take, drop, getD, set, length-set, length-take, length-drop, List·getD-append}
+use lib.Seq.{getD-append-add, getD-set-other}
 use Rattle.theory.proofs.Lists.{length-from, getD-from}
 use Rattle.model.specs.Finite.{concat, listFrom}
 use Rattle.model.specs.Norm.{kindNorm}
@@ -17,16 +17,16 @@ use Rattle.model.specs.Base.{roundsAt, settledStage, settledRow}
 use Rattle.model.specs.Field.{at, tokens}
 use Rattle.model.specs.Card.{liveCount}
 use Rattle.model.specs.Shelf.{entry, shelfField}
-use Rattle.model.specs.Walk.{spent, Walk}
+use Rattle.model.specs.Walk.{WalkAnswer, spent, Walk}
 use Rattle.model.specs.Sheet.{kindCount, fieldCount, cardOf, fieldOf}
-use Rattle.model.specs.Limits.{mostKinds, mostRounds, mostTokens, Limits}
+use Rattle.model.specs.Limits.{mostKinds, mostRounds, mostTokens, lastDesk, Limits}
 use Rattle.model.specs.Refusal.{Check, check, Finding, clear, refusal, firstOf, sheetChecks, normChecks, acceptChecks, Accepted, settleChecks, compareChecks, formChecks, walkChecks, rowChecks, shelfNumberChecks, shelfFieldChecks}
-use Rattle.model.specs.Answer.{Answer, Lent, tableOf, primeForm, refused, given, Session, Walked, same, different, settleOf, rowCheckOf, rowOf, verdict, written, compareOf, formOf, within, fullWalk, walkOf, shelfNumberOf, shelfCounts, shelfFieldOf}
+use Rattle.model.specs.Answer.{Answer, Lent, tableOf, primeForm, refused, given, Session, Walked, same, different, settleOf, rowCheckOf, rowOf, verdict, written, compareOf, formOf, drawing, within, fullWalk, walkOf, shelfNumberOf, shelfCounts, shelfFieldOf}
 use Rattle.theory.specs.Demands.{Demand1}
 use Rattle.model.proofs.Plain.{plain}
 use Rattle.theory.proofs.Exec.{Tells, tells-lt}
 use Rattle.theory.proofs.Sheets.{never, first-append, then-clear, certified, clear-cons, clear-nil, clear-none, small, not-small, not-less, call-checks}
-use Rattle.theory.proofs.Checks.{cons-none, not-outside, from-outside, from-less, first-right}
+use Rattle.theory.proofs.Checks.{cons-none, not-outside, from-outside, from-less, first-right, first-here}
 use Rattle.theory.proofs.Limits.{limits-accepted, accepted-limits}
 use Rattle.theory.proofs.Plain.{settled, verdict-cases}
 use Rattle.theory.proofs.Walks.{walk-not-spent}
@@ -44,6 +44,12 @@ module _ {A : Type 0} (x : A) (r : ℕ → ℕ → A) where
   call-refused : (f : Finding) (k p : ℕ) → f ≡ refusal k p → Call f ≡ r k p
   call-refused clear k p e = never k p e
   call-refused (refusal j q) k p e = let i : j ≡ k = cc in let h : q ≡ p = cc in cc
+
+-- An entry of a list that is lowered; one that the list does not have is 0, and stays so.
+pub set-lowered : (xs : List ℕ) (d n : ℕ) → at (set xs d (at xs d - n)) d ≡ at xs d - n
+set-lowered [] d n = omega arith
+set-lowered (x ∷ xs) zero n = refl
+set-lowered (x ∷ xs) (suc d) n = set-lowered xs d n
 
 -- A table written row by row: entry j of row k.
 module _ (f : ℕ → ℕ → ℕ) (n : ℕ) where
@@ -100,46 +106,38 @@ module _ (s : List ℕ) where
   unfolding fullWalk
   not-spent i j limit = walk-not-spent (cardOf s .lines) (fieldOf s i) (fieldOf s j) limit 1
 
-  module _ (v : Session) (u : Walk) where
-    Drawn : Bool → Walked
-    Drawn b =
-        elim b [
-          | true ↦ record { answer = given spent; drawn = v .left; after = record { left = 0 } }
-          | false ↦ record { answer = given (u .found); drawn = u .count; after = record { left = v .left - u .count } }
-        ]
+  module _ (left : ℕ) (u : Walk) where
+    Cut : Bool → Walk
+    Cut b = elim b [ true ↦ record { found = spent; count = left } | false ↦ u ]
 
-    within-is : within v u ≡ Drawn (ltb (v .left) (u .count))
-    unfolding within Drawn
+    within-is : within left u ≡ Cut (ltb left (u .count))
+    unfolding within Cut
     within-is = refl
 
-    within-spent : ¬ (u .found ≡ spent) → (within v u .answer ≡ given spent) ↔ (v .left < u .count)
-    unfolding Drawn
-    within-spent n = rw within-is (go (ltb (v .left) (u .count)) (tells-lt (v .left) (u .count)))
+    within-spent : ¬ (u .found ≡ spent) → (within left u .found ≡ spent) ↔ (left < u .count)
+    unfolding Cut
+    within-spent n = rw within-is (go (ltb left (u .count)) (tells-lt left (u .count)))
       where
-        go : (b : Bool) → Tells b (v .left < u .count) → (Drawn b .answer ≡ given spent) ↔ (v .left < u .count)
+        go : (b : Bool) → Tells b (left < u .count) → (Cut b .found ≡ spent) ↔ (left < u .count)
         go true t = ((λ _. t .fact tt), (λ _. refl))
-        go false t = ((λ e. absurd (n (given-out e))), (λ h. absurd (t .test h)))
-          where
-            given-out : given (u .found) ≡ given spent → u .found ≡ spent
-            given-out e = cc
+        go false t = ((λ e. absurd (n e)), (λ h. absurd (t .test h)))
 
-    within-found : ¬ (v .left < u .count) → within v u .answer ≡ given (u .found)
-    unfolding Drawn
-    within-found n = rw within-is (go (ltb (v .left) (u .count)) (tells-lt (v .left) (u .count)))
+    within-found : ¬ (left < u .count) → within left u ≡ u
+    unfolding Cut
+    within-found n = within-is ∙ go (ltb left (u .count)) (tells-lt left (u .count))
       where
-        go : (b : Bool) → Tells b (v .left < u .count) → Drawn b .answer ≡ given (u .found)
+        go : (b : Bool) → Tells b (left < u .count) → Cut b ≡ u
         go true t = absurd (n (t .fact tt))
         go false t = refl
 
-    within-draws : (within v u .drawn ≡ min (u .count) (v .left)) × (within v u .after .left + within v u .drawn ≡ v .left)
-    unfolding Drawn
-    within-draws = rw within-is (go (ltb (v .left) (u .count)) (tells-lt (v .left) (u .count)) (decLt (v .left) (u .count)))
+    within-draws : within left u .count ≡ min (u .count) left
+    unfolding Cut
+    within-draws = rw within-is (go (ltb left (u .count)) (tells-lt left (u .count)) (decLt left (u .count)))
       where
-        go : (b : Bool) → Tells b (v .left < u .count) → Dec (v .left < u .count)
-            → (Drawn b .drawn ≡ min (u .count) (v .left)) × (Drawn b .after .left + Drawn b .drawn ≡ v .left)
-        go true t d = (omega (arith, t .fact tt), omega arith)
+        go : (b : Bool) → Tells b (left < u .count) → Dec (left < u .count) → Cut b .count ≡ min (u .count) left
+        go true t d = omega (arith, t .fact tt)
         go false t (yes h) = absurd (t .test h)
-        go false t (no h) = (omega arith, omega arith)
+        go false t (no h) = omega arith
 
   row-part : (n k : ℕ) (table : List ℕ) → 0 < n → k < n → n * n ≤ length table → ¬ (take n (drop (k * n) table) ≡ [])
   row-part n k table p h i e =
@@ -194,35 +192,73 @@ module _ (s : List ℕ) where
   unfolding tableOf Rows
   table-row k j h l = let z : 0 + k ≡ k = omega arith in rw z at (rows-at (settledRow (cardOf s)) (kindCount s) 0 (kindCount s) k j h l)
 
-  walk-taken : (i j limit : ℕ) → (firstOf (walkChecks s i j limit) ≡ clear)
-      ↔ ((firstOf (sheetChecks s) ≡ clear) × (i < fieldCount s) × (j < fieldCount s) × (limit ≤ mostRounds))
+  walk-taken : (i j limit d : ℕ) → (firstOf (walkChecks s i j limit d) ≡ clear)
+      ↔ ((d ≤ lastDesk) × (firstOf (sheetChecks s) ≡ clear) × (i < fieldCount s) × (j < fieldCount s) × (limit ≤ mostRounds))
   unfolding walkChecks
-  walk-taken i j limit = (
+  walk-taken i j limit d = (
     (λ e.
-        let p = then-clear (firstOf (sheetChecks s)) _ (sym (first-append (sheetChecks s) _) ∙ e) in
+        let w = cons-none 16 0 _ _ e in
+        let p = then-clear (firstOf (sheetChecks s)) _ (sym (first-append (sheetChecks s) _) ∙ w .1) in
         let x = cons-none 11 0 _ _ (p .1) in
         let y = cons-none 11 1 _ _ (x .1) in
         let z = cons-none 13 0 _ _ (y .1) in
-        (p .0, small i (fieldCount s) (x .0), small j (fieldCount s) (y .0), from-less mostRounds limit (z .0))),
-    (λ p. first-right (sheetChecks s) _ (p .0)
-        ∙ clear-cons 11 0 _ _ (not-small i (fieldCount s) (p .1))
-        (clear-cons 11 1 _ _ (not-small j (fieldCount s) (p .2)) (clear-cons 13 0 _ [] (not-less mostRounds limit (p .3)) clear-nil))),
+        (from-less lastDesk d (w .0), p .0, small i (fieldCount s) (x .0), small j (fieldCount s) (y .0), from-less mostRounds limit (z .0))),
+    (λ p. clear-cons 16 0 _ _ (not-less lastDesk d (p .0))
+        (first-right (sheetChecks s) _ (p .1)
+        ∙ clear-cons 11 0 _ _ (not-small i (fieldCount s) (p .2))
+        (clear-cons 11 1 _ _ (not-small j (fieldCount s) (p .3)) (clear-cons 13 0 _ [] (not-less mostRounds limit (p .4)) clear-nil)))),
   )
 
-  walk-clear : (i j limit : ℕ) (v : Session) → firstOf (walkChecks s i j limit) ≡ clear → walkOf s i j limit v ≡ within v (fullWalk s i j limit)
-  unfolding walkOf
-  walk-clear i j limit v e = call-clear _ _ (firstOf (walkChecks s i j limit)) e
+  walk-desk : (i j limit d : ℕ) → lastDesk < d → firstOf (walkChecks s i j limit d) ≡ refusal 16 0
+  unfolding walkChecks
+  walk-desk i j limit d h = first-here (check 16 0 (ltb lastDesk d)) _ (tells-lt lastDesk d .test h)
 
-  walk-loses : (i j limit : ℕ) (v : Session) → walkOf s i j limit v .after .left + walkOf s i j limit v .drawn ≡ v .left
-  unfolding walkOf
-  walk-loses i j limit v = go (firstOf (walkChecks s i j limit))
-    where
-      after : Finding → Walked
-      after f = elim f [ clear ↦ within v (fullWalk s i j limit) | refusal k p ↦ record { answer = refused k p; drawn = 0; after = v } ]
+  module _ (i j limit d : ℕ) (v : Session) where
+    -- A walk that is not refused, within what its desk has left.
+    abbrev pub own : Walk
+    own = within (at (v .left) d) (fullWalk s i j limit)
 
-      go : (f : Finding) → after f .after .left + after f .drawn ≡ v .left
-      go clear = within-draws v (fullWalk s i j limit) .1
-      go (refusal k p) = omega arith
+    pub walk-clear : firstOf (walkChecks s i j limit d) ≡ clear
+        → walkOf s i j limit d v ≡ record { answer = given (own .found); drawn = own .count; after = drawing v d (own .count) }
+    unfolding walkOf
+    walk-clear e = call-clear _ _ (firstOf (walkChecks s i j limit d)) e
+
+    walk-refused : (k p : ℕ) → firstOf (walkChecks s i j limit d) ≡ refusal k p → walkOf s i j limit d v ≡ record { answer = refused k p; drawn = 0; after = v }
+    unfolding walkOf
+    walk-refused k p e = call-refused _ _ (firstOf (walkChecks s i j limit d)) k p e
+
+    walk-spent : firstOf (walkChecks s i j limit d) ≡ clear → (walkOf s i j limit d v .answer ≡ given spent) ↔ (at (v .left) d < fullWalk s i j limit .count)
+    walk-spent e =
+        let w = within-spent (at (v .left) d) (fullWalk s i j limit) (not-spent i j limit) in
+        rw (walk-clear e) ((λ g. w .0 (given-out (own .found) g)), (λ h. ap given (w .1 h)))
+      where
+        given-out : (x : WalkAnswer) → given x ≡ given spent → x ≡ spent
+        given-out x e = cc
+
+    walk-found : firstOf (walkChecks s i j limit d) ≡ clear → ¬ (at (v .left) d < fullWalk s i j limit .count) → walkOf s i j limit d v .answer ≡ given (fullWalk s i j limit .found)
+    walk-found e n = rw (walk-clear e) (ap (λ (w : Walk). given (w .found)) (within-found (at (v .left) d) (fullWalk s i j limit) n))
+
+    walk-draws : firstOf (walkChecks s i j limit d) ≡ clear → walkOf s i j limit d v .drawn ≡ min (fullWalk s i j limit .count) (at (v .left) d)
+    walk-draws e = rw (walk-clear e) (within-draws (at (v .left) d) (fullWalk s i j limit))
+
+    -- What the call leaves, whatever it answers.
+    abbrev Leaves : Walked → Type 0
+    Leaves w = (at (w .after .left) d + w .drawn ≡ at (v .left) d) × ((e : ℕ) → ¬ (e ≡ d) → at (w .after .left) e ≡ at (v .left) e) × (length (w .after .left) ≡ length (v .left))
+
+    walk-leaves : Leaves (walkOf s i j limit d v)
+    walk-leaves = go (firstOf (walkChecks s i j limit d)) refl
+      where
+        lowered : Leaves (record { answer = given (own .found); drawn = own .count; after = drawing v d (own .count) })
+        lowered =
+            let n = within-draws (at (v .left) d) (fullWalk s i j limit) in (
+              omega (arith, n, set-lowered (v .left) d (own .count)),
+              (λ e h. getD-set-other (v .left) d e (at (v .left) d - own .count) 0 h),
+              length-set (v .left) d (at (v .left) d - own .count),
+            )
+
+        go : (f : Finding) → firstOf (walkChecks s i j limit d) ≡ f → Leaves (walkOf s i j limit d v)
+        go clear e = rw (walk-clear e) lowered
+        go (refusal k p) e = rw (walk-refused k p e) (omega arith, (λ e h. refl), refl)
 
   -- The checks of a call after those of the sheet.
   sheet-then : (xs : List Check) → firstOf (acceptChecks s ++ xs) ≡ clear → Limits s × (firstOf xs ≡ clear)
@@ -263,7 +299,7 @@ module _ (s : List ℕ) where
   shelf-counts t x k h = let z : 0 + k ≡ k = omega arith in getD-from (shelfField (cardOf s) t x) 0 (kindCount s) k 0 h ∙ ap (shelfField (cardOf s) t x) z
 
   pub demand1 : Demand1 s
-  unfolding settleOf compareOf formOf walkOf rowOf shelfNumberOf shelfFieldOf
+  unfolding settleOf compareOf formOf rowOf shelfNumberOf shelfFieldOf
   demand1 = record {
     accepted = (accepted-limits s, limits-accepted s);
     settled = λ L table h. call-clear _ _ (firstOf (settleChecks s (length table))) (settle-clear (limits-accepted s L) (length table) h);
@@ -283,12 +319,15 @@ module _ (s : List ℕ) where
     settle-refused = λ table k p e. call-refused _ _ (firstOf (settleChecks s (length table))) k p e;
     compare-refused = λ i j k p e. call-refused _ _ (firstOf (compareChecks s i j)) k p e;
     form-refused = λ i buffer k p e. call-refused _ _ (firstOf (formChecks s i (length buffer))) k p e;
-    walk-refused = λ i j limit v k p e. call-refused _ _ (firstOf (walkChecks s i j limit)) k p e;
+    walk-refused = walk-refused;
+    walk-desk = walk-desk;
     walk-taken = walk-taken;
-    walk-spent = λ i j limit v e. rw (walk-clear i j limit v e) (within-spent v (fullWalk s i j limit) (not-spent i j limit));
-    walk-found = λ i j limit v e n. rw (walk-clear i j limit v e) (within-found v (fullWalk s i j limit) n);
-    walk-draws = λ i j limit v e. rw (walk-clear i j limit v e) (within-draws v (fullWalk s i j limit) .0);
-    walk-session = walk-loses;
+    walk-spent = walk-spent;
+    walk-found = walk-found;
+    walk-draws = walk-draws;
+    walk-loses = λ i j limit d v. walk-leaves i j limit d v .0;
+    walk-others = λ i j limit d v. walk-leaves i j limit d v .1;
+    walk-desks = λ i j limit d v. walk-leaves i j limit d v .2;
     row-taken = row-taken;
     row-part = λ n k table e. call-clear _ _ (rowCheckOf n k table) e;
     row-refused = row-refuses;

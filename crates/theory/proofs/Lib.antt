@@ -45,6 +45,7 @@ pub mod Headers
 pub mod Verdicts
 pub mod Walks
 pub mod Answers
+pub mod Days
 pub mod Settling
 pub mod Program
 pub mod Widths

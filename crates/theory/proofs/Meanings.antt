@@ -14,6 +14,7 @@ use Rattle.theory.proofs.Gain.{sheet-norms}
 use Rattle.theory.proofs.Headers.{headers}
 use Rattle.theory.proofs.Places.{sheet-places}
 use Rattle.theory.proofs.Walks.{walks}
+use Rattle.theory.proofs.Days.{days}
 use Rattle.theory.proofs.Decimals.{decimals}
 use Rattle.theory.proofs.Pages.{pages}
 use Rattle.theory.proofs.Widths.{widths}
@@ -55,4 +56,4 @@ steps L R = (
 )
 
 pub meanings {ℓ} : Meanings {ℓ}
-meanings = record { firsts = firsts; headers = headers; places = sheet-places; norms = sheet-norms; steps = steps; games = games; walks = walks; settles = sheet-settles; primes = λ s ok. sheet-primes s ok; decimals = decimals; pages = pages; widths = widths; shelves = shelves; entries-fit = entries-fit }
+meanings = record { firsts = firsts; headers = headers; places = sheet-places; norms = sheet-norms; steps = steps; games = games; walks = walks; settles = sheet-settles; primes = λ s ok. sheet-primes s ok; decimals = decimals; pages = pages; widths = widths; days = days; shelves = shelves; entries-fit = entries-fit }

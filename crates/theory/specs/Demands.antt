@@ -13,7 +13,7 @@ use Rattle.theory.specs.Game.{Holds, Always, Parting, Parted, Strategy, 
 use Rattle.model.specs.Shelf.{entry, shelfNumber, shelfField}
 use Rattle.model.specs.Walk.{spent}
 use Rattle.model.specs.Sheet.{kindCount, fieldCount, cardOf, fieldOf}
-use Rattle.model.specs.Limits.{mostKinds, mostRounds, mostTokens, Limits}
+use Rattle.model.specs.Limits.{mostKinds, mostRounds, mostTokens, lastDesk, Limits}
 use Rattle.model.specs.Refusal.{Accepted, clear, refusal, firstOf, sheetChecks, settleChecks, compareChecks, formChecks, walkChecks, shelfNumberChecks, shelfFieldChecks}
 use Rattle.theory.specs.Terms.{OfKinds, IsGain, Stage, Prime}
 use Rattle.model.specs.Answer.{refused, given, Session, same, different, settleOf, compareOf, formOf, walkOf, rowOf, rowCheckOf, tableOf, primeForm, written, fullWalk, shelfNumberOf, shelfCounts, shelfFieldOf}
@@ -47,20 +47,25 @@ pub record Demand1 (s : List ℕ) : Type 0 where
   pub compare-refused : (i j k p : ℕ) → firstOf (compareChecks s i j) ≡ refusal k p → compareOf s i j ≡ refused k p
   pub form-refused : (i : ℕ) (buffer : List ℕ) (k p : ℕ) → firstOf (formChecks s i (length buffer)) ≡ refusal k p
       → formOf s i buffer ≡ record { answer = refused k p; lent = buffer }
-  pub walk-refused : (i j limit : ℕ) (v : Session) (k p : ℕ) → firstOf (walkChecks s i j limit) ≡ refusal k p
-      → walkOf s i j limit v ≡ record { answer = refused k p; drawn = 0; after = v }
-  -- Walk: "two fields, a round limit 0 to 8 .. It takes cards without norms": it is not refused just when the sheet passes 1 to 8 and the three numbers are such.
-  pub walk-taken : (i j limit : ℕ) → (firstOf (walkChecks s i j limit) ≡ clear)
-      ↔ ((firstOf (sheetChecks s) ≡ clear) × (i < fieldCount s) × (j < fieldCount s) × (limit ≤ mostRounds))
-  -- "The walker's spent is given when its counted pairs pass the allowance, and not otherwise."
-  pub walk-spent : (i j limit : ℕ) (v : Session) → firstOf (walkChecks s i j limit) ≡ clear
-      → (walkOf s i j limit v .answer ≡ given spent) ↔ (v .left < fullWalk s i j limit .count)
-  pub walk-found : (i j limit : ℕ) (v : Session) → firstOf (walkChecks s i j limit) ≡ clear → ¬ (v .left < fullWalk s i j limit .count)
-      → walkOf s i j limit v .answer ≡ given (fullWalk s i j limit .found)
-  pub walk-draws : (i j limit : ℕ) (v : Session) → firstOf (walkChecks s i j limit) ≡ clear
-      → walkOf s i j limit v .drawn ≡ min (fullWalk s i j limit .count) (v .left)
-  -- What is drawn is what the session loses, refused or not.
-  pub walk-session : (i j limit : ℕ) (v : Session) → walkOf s i j limit v .after .left + walkOf s i j limit v .drawn ≡ v .left
+  -- Walk (with request 4 of document 02): the same of a desk that there is not. "16 a desk over 7, place 0, before the header is looked at": whatever the bytes, the fields and the limit are.
+  pub walk-refused : (i j limit d : ℕ) (v : Session) (k p : ℕ) → firstOf (walkChecks s i j limit d) ≡ refusal k p
+      → walkOf s i j limit d v ≡ record { answer = refused k p; drawn = 0; after = v }
+  pub walk-desk : (i j limit d : ℕ) → lastDesk < d → firstOf (walkChecks s i j limit d) ≡ refusal 16 0
+  -- "two fields, a round limit 0 to 8 .. It takes cards without norms", and "a walk names its desk": it is not refused just when the desk is one of the eight, the sheet passes 1 to 8 and
+  -- the three other numbers are such.
+  pub walk-taken : (i j limit d : ℕ) → (firstOf (walkChecks s i j limit d) ≡ clear)
+      ↔ ((d ≤ lastDesk) × (firstOf (sheetChecks s) ≡ clear) × (i < fieldCount s) × (j < fieldCount s) × (limit ≤ mostRounds))
+  -- "The walker's spent is given when its counted pairs pass the allowance, and not otherwise": "The walk's count and its spent rule read the named desk's allowance."
+  pub walk-spent : (i j limit d : ℕ) (v : Session) → firstOf (walkChecks s i j limit d) ≡ clear
+      → (walkOf s i j limit d v .answer ≡ given spent) ↔ (at (v .left) d < fullWalk s i j limit .count)
+  pub walk-found : (i j limit d : ℕ) (v : Session) → firstOf (walkChecks s i j limit d) ≡ clear → ¬ (at (v .left) d < fullWalk s i j limit .count)
+      → walkOf s i j limit d v .answer ≡ given (fullWalk s i j limit .found)
+  pub walk-draws : (i j limit d : ℕ) (v : Session) → firstOf (walkChecks s i j limit d) ≡ clear
+      → walkOf s i j limit d v .drawn ≡ min (fullWalk s i j limit .count) (at (v .left) d)
+  -- What is drawn is what the desk loses, refused or not. No other desk loses anything, and there are as many desks as before.
+  pub walk-loses : (i j limit d : ℕ) (v : Session) → at (walkOf s i j limit d v .after .left) d + walkOf s i j limit d v .drawn ≡ at (v .left) d
+  pub walk-others : (i j limit d : ℕ) (v : Session) (e : ℕ) → ¬ (e ≡ d) → at (walkOf s i j limit d v .after .left) e ≡ at (v .left) e
+  pub walk-desks : (i j limit d : ℕ) (v : Session) → length (walkOf s i j limit d v .after .left) ≡ length (v .left)
   -- Row, of which the sheet is no part: "that part of the lent table" that begins at k × n, and "the part is empty just when that check refuses".
   -- It is not refused just when n is 1 to 32, the kind is under n, and the table has n × n entries.
   pub row-taken : (n k : ℕ) (table : List ℕ) → (rowCheckOf n k table ≡ clear) ↔ ((1 ≤ n) × (n ≤ mostKinds) × (k < n) × (n * n ≤ length table))

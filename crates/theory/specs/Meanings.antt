@@ -17,11 +17,13 @@ use Rattle.model.specs.Walk.{apart, together}
 use Rattle.model.specs.Sheet.{linesOffset, kindCount, codeCount, lineCount, fieldCount, lineOf, cardOf, fieldOf}
 use Rattle.model.specs.Limits.{mostKinds, mostLines, mostFields, normLimit, mostInput}
 use Rattle.model.specs.Refusal.{Check, check, clear, refusal, firstOf, headerChecks, sheetChecks, acceptChecks, Accepted}
-use Rattle.model.specs.Answer.{tableOf, rowOf, fullWalk}
+use Rattle.model.specs.Answer.{tableOf, rowOf, Session, fullWalk}
+use Rattle.model.specs.Days.{WalkCall}
 use Rattle.model.specs.Plain.{headerBytes}
 use Rattle.theory.specs.Widths.{Bytes, Widths}
 use Rattle.model.specs.Page.{number, itself, refusedLine, pageOf, printed}
 use Rattle.theory.specs.Shelves.{Shelves, EntriesFit}
+use Rattle.theory.specs.Days.{Day}
 use Rattle.theory.specs.Terms.{IsGain, Stage, BaseOf, Prime, Settled}
 
 -- "the first that applies is given with its place"
@@ -127,5 +129,7 @@ pub record Meanings {ℓ} : Type (ℓ + 1) where
   pub decimals : (x : ℕ) → Decimal x
   pub pages : (s : List ℕ) → Pages {ℓ} s
   pub widths : (s : List ℕ) → Bytes s → Accepted s → Widths s
+  -- The desks of a session, of every list of walks.
+  pub days : (calls : List WalkCall) (v : Session) (d : ℕ) → Day calls v d
   pub shelves : (c : Card) (t : ℕ) → Shelves c t
   pub entries-fit : EntriesFit

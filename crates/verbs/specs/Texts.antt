@@ -5,10 +5,9 @@ use lib.ListN.{replicate}
 use Rattle.model.specs.Finite.{concat, listFrom}
 use Rattle.model.specs.Sheet.{kindCount}
 use Rattle.model.specs.Refusal.{Finding, clear, refusal}
-use Rattle.model.specs.Answer.{Answer, refused, given, Verdict, settleOf, rowOf, rowCheckOf, compareOf, formOf, walkOf}
+use Rattle.model.specs.Answer.{Answer, refused, given, Verdict, settleOf, rowOf, rowCheckOf, compareOf, formOf}
 use Rattle.model.specs.Page.{bytes, number, newline, wordOf}
 use Rattle.text.specs.Count.{countsLine}
-use Rattle.walkline.specs.Line.{drawnText, foundText}
 use Rattle.replies.specs.Texts.{worded, countsText}
 
 -- The room that is lent: a table and a form of any card.
@@ -51,8 +50,3 @@ compareText s i j = verdictText (compareOf s i j)
 -- form I: the counts of the prime form.
 unfoldable pub formText : List ℕ → ℕ → Answer (List ℕ)
 formText s i = countsText (kindCount s) (formOf s i formRoom)
-
--- walk I J LIMIT ALLOWANCE: `apart R drawn D`, `together drawn D` or `spent drawn D`.
-unfoldable pub walkText : List ℕ → ℕ → ℕ → ℕ → ℕ → Answer (List ℕ)
-walkText s i j limit allowance =
-    let w = walkOf s i j limit (record { left = allowance }) in worded (λ found. foundText found ++ drawnText (w .drawn)) (w .answer)

@@ -1,5 +1,4 @@
-// Calls in words, one function a verb: the numbers that it takes, and the text of what it answers.
+// Calls in words of the filer, one function a verb: the numbers that it takes, and the text of what it answers.
 pub mod compare; // compare I J
 pub mod form; // form I
 pub mod settle; // settle, row K
-pub mod walk; // walk I J LIMIT ALLOWANCE

@@ -1,9 +1,11 @@
 -- The walk's answer and session as the model has them: what each case of the enum stands for.
+use mathlib.Core.Path.{_≡_}
 use Prim.Native.Nat.{ℕ}
-use Rattle.model.specs.Walk.{WalkAnswer, apart, together, spent}
+use Rattle.model.specs.Walk.{WalkAnswer, apart, together, spent, Walk}
 use Rattle.model.specs.Answer as model
 use Rattle.walker.specs.declared.entry.Answer.{Answer}
 use Rattle.walker.specs.declared.entry.Answer.the-variants.{Apart, Together, Spent, Refused}
+use Rattle.walker.specs.declared.entry.Played.{Played}
 use Rattle.walker.specs.declared.entry.Session.{Session}
 use Rattle.walker.specs.declared.entry.Walked.{Walked}
 
@@ -14,6 +16,7 @@ answerOf Together = model.given together
 answerOf Spent = model.given spent
 answerOf (Refused number place) = model.refused number place
 
+-- What each desk has left.
 abbrev pub sessionOf : Session → model.Session
 sessionOf v = record { left = v .left }
 
@@ -25,6 +28,14 @@ walkedOf w = record { answer = answerOf (w .answer); drawn = w .drawn; after = s
 abbrev pub refusedOf : ℕ → ℕ → model.Session → model.Walked
 refusedOf number place v = record { answer = model.refused number place; drawn = 0; after = v }
 
+-- An answer for which a desk drew so many pairs.
+abbrev pub drawnOf : model.Answer WalkAnswer → ℕ → ℕ → model.Session → model.Walked
+drawnOf answer drawn desk v = record { answer = answer; drawn = drawn; after = model.drawing v desk drawn }
+
 -- "Spent .. draws all of it": of the allowance left.
-abbrev pub spentOf : ℕ → model.Walked
-spentOf left = record { answer = model.given spent; drawn = left; after = record { left = 0 } }
+abbrev pub spentOf : ℕ → Walk
+spentOf left = record { found = spent; count = left }
+
+-- A walk that is not refused found this, and draws its count.
+abbrev pub Plays : Played → Walk → Type 0
+Plays r w = (answerOf (r .answer) ≡ model.given (w .found)) × (r .drawn ≡ w .count)

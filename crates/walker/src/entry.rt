@@ -9,25 +9,29 @@ use validation::check_sheet;
 ghost use mathlib.Core.Path.{_≡_};
 ghost use Prim.Native.Nat.{_≤_, _<_};
 ghost use Rattle.model.specs.Field.{at};
-ghost use Rattle.model.specs.Limits.{mostRounds};
+ghost use Rattle.model.specs.Limits.{mostRounds, lastDesk};
 ghost use Rattle.model.specs.Sheet.{cardOf};
 ghost use Rattle.model.specs.Walk as model;
 ghost use Rattle.model.specs.Answer.{within, walkOf};
 ghost use Rattle.sheet.specs.Reader.{Reads};
 ghost use Rattle.moves.specs.Lines.{Bounded};
 ghost use Rattle.moves.specs.Following.{Follows};
-ghost use Rattle.walker.specs.Answers.{sessionOf, walkedOf, refusedOf, spentOf};
+ghost use Rattle.walker.specs.Answers.{answerOf, sessionOf, walkedOf, refusedOf, drawnOf, spentOf, Plays};
 
-// "the allowance, 32 bits for all callers together, [belongs] to the session": what is left of it.
+// "eight desks, 0 to 7"
+pub const DESKS: usize = 8;
+
+// "A session now has eight desks": what each of them has left of its allowance.
 pub struct Session {
-    pub left: u32,
+    pub left: [u32; DESKS],
 }
 
 impl Session {
-    pub fn new(allowance: u32) -> Session
-        ensures { λ r. ⌜ r .left ≡ allowance ⌝ }
+    // "each given an allowance of its own once, when the session opens"
+    pub fn open(allowances: [u32; DESKS]) -> Session
+        ensures { λ r. ⌜ r .left ≡ allowances ⌝ }
     {
-        Session { left: allowance }
+        Session { left: allowances }
     }
 }
 
@@ -39,11 +43,17 @@ pub enum Answer {
     Refused { number: usize, place: usize },
 }
 
-// The answer, the pairs drawn from the allowance, and the session afterwards.
+// The answer, the pairs drawn from the desk's allowance, and the session afterwards.
 pub struct Walked {
     pub answer: Answer,
     pub drawn: u32,
     pub session: Session,
+}
+
+// The answer of a walk that is not refused, and the pairs that it draws.
+struct Played {
+    answer: Answer,
+    drawn: u32,
 }
 
 // "a round limit 0 to 8"
@@ -60,14 +70,39 @@ fn refuse(number: usize, place: usize, session: Session) -> Walked
     }
 }
 
-// "Spent .. draws all of it": of the allowance left.
-fn spend(allowance: u32) -> Walked
-    ensures { λ r. ⌜ walkedOf r ≡ spentOf allowance ⌝ }
+// "The walk's count and its spent rule read the named desk's allowance": what is left of it.
+fn left_of(desk: usize, session: Session) -> u32
+    requires { ⌜ desk ≤ lastDesk ⌝ }
+    ensures { λ r. ⌜ r ≡ at (session .left) desk ⌝ }
 {
+    let allowances = session.left;
+    allowances[desk]
+}
+
+// "A walk draws its count": of its desk's allowance, and of no other.
+fn draw(played: Played, desk: usize, session: Session) -> Walked
+    requires { ⌜ desk ≤ lastDesk ⌝ }
+    requires { ⌜ played .drawn ≤ at (session .left) desk ⌝ }
+    ensures { λ r. ⌜ walkedOf r ≡ drawnOf (answerOf (played .answer)) (played .drawn) desk (sessionOf session) ⌝ }
+{
+    let answer = played.answer;
+    let drawn = played.drawn;
+    let mut left = session.left;
+    left[desk] = left[desk] - drawn;
     Walked {
+        answer,
+        drawn,
+        session: Session { left },
+    }
+}
+
+// "Spent .. draws all of it": of the allowance left.
+fn spend(allowance: u32) -> Played
+    ensures { λ r. ⌜ Plays r (spentOf allowance) ⌝ }
+{
+    Played {
         answer: Answer::Spent,
         drawn: allowance,
-        session: Session { left: 0 },
     }
 }
 
@@ -79,15 +114,14 @@ fn try_rounds(
     a: &[u32; 32],
     b: &[u32; 32],
     limit: u64,
-    session: Session,
-) -> Walked
+    allowance: u32,
+) -> Played
     requires { ⌜ Reads (now s) card × Follows (now s) (now t) ⌝ }
     requires { ⌜ limit ≤ mostRounds ⌝ }
     requires { ⌜ Bounded mostRounds (now a) × Bounded mostRounds (now b) ⌝ }
     ensures { λ r. ⌜
-        walkedOf r ≡ within (sessionOf session) (model.walk (cardOf (now (s .entry)) .lines) (at (now (a .entry))) (at (now (b .entry))) 1 limit) ⌝ }
+        Plays r (within allowance (model.walk (cardOf (now (s .entry)) .lines) (at (now (a .entry))) (at (now (b .entry))) 1 limit)) ⌝ }
 {
-    let allowance = session.left;
     let challenges = 2 * card.lines;
     let mut left = allowance;
     let mut rounds: u64 = 1;
@@ -100,34 +134,34 @@ fn try_rounds(
                 left = rest;
             }
             Examined::Fails(rest) => {
-                return Walked {
+                return Played {
                     answer: Answer::Apart { rounds },
                     drawn: allowance - rest,
-                    session: Session { left: rest },
                 };
             }
             Examined::Spent => return spend(allowance),
         }
         rounds += 1;
     }
-    Walked {
+    Played {
         answer: Answer::Together,
         drawn: allowance - left,
-        session: Session { left },
     }
 }
 
-// The walk on a card that was read: 11 and 13 are checked, the fields are read, and the table of the lines that follow is made, 33 KB in this frame.
+// The walk on a card that was read, by a desk that there is: 11 and 13 are checked, the fields are read, and the table of the lines that follow is made, 33 KB in this frame.
 fn walk_card(
     card: Card,
     s: &[u8],
     first: usize,
     second: usize,
     limit: u64,
+    desk: usize,
     session: Session,
 ) -> Walked
     requires { ⌜ Reads (now s) card ⌝ }
-    ensures { λ r. ⌜ walkedOf r ≡ walkOf (now (s .entry)) first second limit (sessionOf session) ⌝ }
+    requires { ⌜ desk ≤ lastDesk ⌝ }
+    ensures { λ r. ⌜ walkedOf r ≡ walkOf (now (s .entry)) first second limit desk (sessionOf session) ⌝ }
 {
     let fields = card.fields;
     if fields <= first {
@@ -143,15 +177,27 @@ fn walk_card(
     let b = card.field(s, second);
     let mut t = [0u16; ENTRIES];
     fill_table(card, s, &mut t);
-    try_rounds(card, s, &t, &a, &b, limit, session)
+    let allowance = left_of(desk, session);
+    let played = try_rounds(card, s, &t, &a, &b, limit, allowance);
+    draw(played, desk, session)
 }
 
-// Walk: "two fields, a round limit 0 to 8, a session".
-pub fn walk(s: &[u8], first: usize, second: usize, limit: u64, session: Session) -> Walked
-    ensures { λ r. ⌜ walkedOf r ≡ walkOf (now (s .entry)) first second limit (sessionOf session) ⌝ }
+// Walk: "two fields, a round limit 0 to 8, a session", and its desk: "16 a desk over 7, place 0, before the header is looked at".
+pub fn walk(
+    s: &[u8],
+    first: usize,
+    second: usize,
+    limit: u64,
+    desk: usize,
+    session: Session,
+) -> Walked
+    ensures { λ r. ⌜ walkedOf r ≡ walkOf (now (s .entry)) first second limit desk (sessionOf session) ⌝ }
 {
+    if DESKS <= desk {
+        return refuse(16, 0, session);
+    }
     match check_sheet(s) {
-        Checked::Passed(card) => walk_card(card, s, first, second, limit, session),
+        Checked::Passed(card) => walk_card(card, s, first, second, limit, desk, session),
         Checked::Refused { number, place } => refuse(number, place, session),
     }
 }

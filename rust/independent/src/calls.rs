@@ -1,8 +1,11 @@
 //! Calls as values, and what two implementations do with one.
 //!
-//! An implementation is a function `fn(&Call, &mut Lent) -> Answer`: it makes the call with what is lent
-//! and answers. Two of them agree on a call when the answers are equal and everything lent is equal
-//! afterwards: the sheet, each buffer, what stands before and past it, and the session.
+//! An implementation is a function: it makes the call with what is lent and answers. Two of them agree on a
+//! call when the answers are equal and everything lent is equal afterwards: the sheets, each buffer, what
+//! stands before and past it, and the session.
+//!
+//! Walks are made in days: a session is opened, and several desks walk, each walk on the session that the
+//! last one left. An answer to a day has the answer of each walk and the session after it.
 
 use std::collections::BTreeMap;
 
@@ -12,25 +15,69 @@ use crate::page::{page, write_page};
 use crate::random::Random;
 use crate::sheet::{MOST_KINDS, Numbers, Refusal, numbers};
 use crate::shelf::{Entries, MOST_TOKENS, ShelfNumber, shelf_field, shelf_number};
-use crate::walker::{Session, Walked, walk};
+use crate::walker::{self, DESKS, Walked, walk_lent};
+
+/// Makes a call with what is lent, and answers.
+pub type Implementation = fn(&Call, &mut Lent) -> Answer;
 
 /// A call, with the numbers that it gives and the lengths of the buffers that it lends.
-#[derive(Clone, Copy, Debug, PartialEq, Eq)]
+#[derive(Clone, Debug, PartialEq, Eq)]
 pub enum Call {
     Settle { entries: usize },
     RowCheck { kinds: usize, kind: usize, entries: usize },
     Row { kinds: usize, kind: usize, entries: usize },
     Compare { first: usize, second: usize },
     PrimeForm { field: usize, entries: usize },
-    Walk { first: usize, second: usize, limit: u64, allowance: u32 },
+    Day(Day),
     Page { bytes: usize },
     Numbers,
     ShelfNumber { field: usize },
     ShelfField { size: usize, number: u64, entries: usize },
 }
 
-/// What a call answers.
+/// A day: a session from its opening to its last walk.
+#[derive(Clone, Debug, PartialEq, Eq)]
+pub struct Day {
+    /// What each desk is given when the session opens.
+    pub allowances: [u32; DESKS],
+    /// The length of the session array that is lent.
+    pub entries: usize,
+    /// The walks in their order, each on the session that the last one left.
+    pub walks: Vec<Walk>,
+}
+
+/// A walk of a day.
 #[derive(Clone, Copy, Debug, PartialEq, Eq)]
+pub struct Walk {
+    /// Which of the lent sheets.
+    pub sheet: usize,
+    pub first: usize,
+    pub second: usize,
+    pub limit: u64,
+    pub desk: usize,
+}
+
+/// A walk that was made.
+#[derive(Clone, Debug, PartialEq, Eq)]
+pub struct Made {
+    pub answer: Result<Walked, Refusal>,
+    /// The session array after the walk.
+    pub session: Margined<u32>,
+}
+
+impl Day {
+    /// Makes the walks one after another, each by a function, on what is lent.
+    pub fn make(&self, lent: &mut Lent, mut walk: impl FnMut(&Walk, &mut Lent) -> Result<Walked, Refusal>) -> Answer {
+        let made = self.walks.iter().map(|asked| {
+            let answer = walk(asked, lent);
+            Made { answer, session: lent.session.clone() }
+        });
+        Answer::Day(made.collect())
+    }
+}
+
+/// What a call answers.
+#[derive(Clone, Debug, PartialEq, Eq)]
 pub enum Answer {
     Refused(Refusal),
     /// Settle, with the settled stage.
@@ -48,8 +95,8 @@ pub enum Answer {
     Verdict(Verdict),
     /// Prime form.
     FormWritten,
-    /// Walk.
-    Walked(Walked),
+    /// A day, with its walks in their order.
+    Day(Vec<Made>),
     /// The page, with its length.
     PageWritten {
         bytes: usize,
@@ -92,7 +139,8 @@ impl<T: Copy> Margined<T> {
 /// Everything that a call lends.
 #[derive(Clone, Debug, PartialEq, Eq)]
 pub struct Lent {
-    pub sheet: Margined<u8>,
+    /// The sheets of a day; of any other call the one that it reads.
+    pub sheets: Vec<Margined<u8>>,
     /// The table of Settle and Row.
     pub table: Margined<u32>,
     /// The buffer of Prime form.
@@ -101,13 +149,14 @@ pub struct Lent {
     pub page: Margined<u8>,
     /// The buffer of Shelf field.
     pub field: Margined<u16>,
-    pub session: Session,
+    /// The session array of a day: what each desk has left, and entries that are nobody's.
+    pub session: Margined<u32>,
 }
 
 impl Lent {
-    /// What a call on a sheet lends: buffers of the lengths that it says, with contents that no call
-    /// writes by chance.
-    pub fn new(call: &Call, sheet: &[u8]) -> Lent {
+    /// What a call lends: all the sheets for a day, else the first, and buffers of the lengths that it says,
+    /// with contents that no call writes by chance.
+    pub fn new(call: &Call, sheets: &[Vec<u8>]) -> Lent {
         let table = match *call {
             Call::Settle { entries } | Call::RowCheck { entries, .. } | Call::Row { entries, .. } => entries,
             _ => 0,
@@ -115,32 +164,37 @@ impl Lent {
         let counts = if let Call::PrimeForm { entries, .. } = *call { entries } else { 0 };
         let page = if let Call::Page { bytes } = *call { bytes } else { 0 };
         let field = if let Call::ShelfField { entries, .. } = *call { entries } else { 0 };
-        let allowance = if let Call::Walk { allowance, .. } = *call { allowance } else { 0 };
+        // The allowances that a short session array has no room for stand past it, where a call must not read them.
+        let (read, session, allowances) = match call {
+            Call::Day(day) => (sheets, day.entries, &day.allowances[..]),
+            _ => (&sheets[..1], 0, &[][..]),
+        };
         Lent {
-            sheet: Margined::new(sheet.len(), |index| {
-                index.checked_sub(MARGIN).and_then(|place| sheet.get(place)).copied().unwrap_or(0xa5)
-            }),
+            sheets: read.iter().map(|sheet| Margined::new(sheet.len(), or_else(sheet, |_| 0xa5))).collect(),
             table: Margined::new(table, |index| 0xa5a5_0000 + index as u32),
             counts: Margined::new(counts, |index| 0xa5a5_a5a5_0000_0000 + index as u64),
             page: Margined::new(page, |index| 0x80 | index as u8),
             field: Margined::new(field, |index| 0xa500 + index as u16),
-            session: Session { allowance },
+            session: Margined::new(session, or_else(allowances, |index| 0x5a5a_0000 + index as u32)),
         }
     }
 }
 
+/// Fills a buffer from its first entry on with what is given, and all else by number.
+fn or_else<T: Copy>(given: &[T], fill: impl Fn(usize) -> T) -> impl Fn(usize) -> T {
+    move |index| index.checked_sub(MARGIN).and_then(|place| given.get(place)).copied().unwrap_or_else(|| fill(index))
+}
+
 /// Makes a call on the independent implementation.
 pub fn independent(call: &Call, lent: &mut Lent) -> Answer {
-    let sheet = lent.sheet.lent();
+    let sheet = lent.sheets[0].lent();
     let answer = match *call {
         Call::Settle { .. } => settle(sheet, lent.table.lent_mut()).map(|stage| Answer::Settled { stage }),
         Call::RowCheck { kinds, kind, .. } => row_check(lent.table.lent(), kinds, kind).map(|()| Answer::RowThere),
         Call::Row { kinds, kind, .. } => Ok(row_place(lent.table.lent(), row(lent.table.lent(), kinds, kind))),
         Call::Compare { first, second } => compare(sheet, first, second).map(Answer::Verdict),
         Call::PrimeForm { field, .. } => prime_form(sheet, field, lent.counts.lent_mut()).map(|()| Answer::FormWritten),
-        Call::Walk { first, second, limit, .. } => {
-            walk(sheet, first, second, limit, &mut lent.session).map(Answer::Walked)
-        }
+        Call::Day(ref day) => Ok(day.make(lent, independent_walk)),
         Call::Page { .. } => write_page(sheet, lent.page.lent_mut()).map(|bytes| Answer::PageWritten { bytes }),
         Call::Numbers => numbers(sheet).map(Answer::Numbers),
         Call::ShelfNumber { field } => shelf_number(sheet, field).map(Answer::ShelfNumber),
@@ -151,17 +205,34 @@ pub fn independent(call: &Call, lent: &mut Lent) -> Answer {
     answer.unwrap_or_else(Answer::Refused)
 }
 
+/// Makes a walk of a day on the independent implementation.
+pub fn independent_walk(walk: &Walk, lent: &mut Lent) -> Result<Walked, Refusal> {
+    let Walk { sheet, first, second, limit, desk } = *walk;
+    walk_lent(lent.sheets[sheet].lent(), first, second, limit, desk, lent.session.lent_mut())
+}
+
 /// Where a part of a table lies in it.
 pub fn row_place(table: &[u32], part: &[u32]) -> Answer {
     let start = if part.is_empty() { 0 } else { (part.as_ptr() as usize - table.as_ptr() as usize) / size_of::<u32>() };
     Answer::Row { start, entries: part.len() }
 }
 
-/// The calls that are tried on a sheet: each entry with buffers that are too short, just long enough or
-/// longer, and with numbers in range and out of it.
-pub fn calls(sheet: &[u8], random: &mut Random) -> Vec<Call> {
-    let header = |place: usize| usize::from(*sheet.get(place).unwrap_or(&0));
-    let (kinds, fields) = (header(0).min(40), header(6));
+/// The sheets that the calls of a number are made on: the sheet of that number, and beside it those of the two
+/// next numbers, which only the walks of its day read.
+pub fn sheets(seed: u64, number: u64) -> Vec<Vec<u8>> {
+    (number..number + 3).map(|number| sample(seed, number).bytes).collect()
+}
+
+/// A byte of a sheet's header, or 0 where the sheet has none there.
+fn header(sheet: &[u8], place: usize) -> usize {
+    usize::from(*sheet.get(place).unwrap_or(&0))
+}
+
+/// The calls that are tried on a sheet, the first of some: each entry with buffers that are too short, just
+/// long enough or longer, and with numbers in range and out of it; and a day on all of them.
+pub fn calls(sheets: &[Vec<u8>], random: &mut Random) -> Vec<Call> {
+    let sheet = &sheets[0];
+    let (kinds, fields) = (header(sheet, 0).min(40), header(sheet, 6));
     let mut calls = vec![Call::Settle { entries: around(kinds * kinds, random) }];
     for _ in 0..2 {
         let (kinds, kind) =
@@ -175,16 +246,7 @@ pub fn calls(sheet: &[u8], random: &mut Random) -> Vec<Call> {
         calls.push(Call::Compare { first, second });
     }
     calls.push(Call::PrimeForm { field: number_near(fields, random), entries: around(kinds, random) });
-    for _ in 0..2 {
-        let allowance = match random.below(4) {
-            0 => random.below(20),
-            1 => random.below(500),
-            2 => random.below(20_000),
-            _ => random.below(100_000),
-        };
-        let (first, second) = pair_near(fields, random);
-        calls.push(Call::Walk { first, second, limit: number_near(9, random) as u64, allowance: allowance as u32 });
-    }
+    calls.push(Call::Day(day(sheets, random)));
     calls.push(Call::Page { bytes: around(page(sheet).len(), random) });
     calls.push(Call::Numbers);
     for _ in 0..2 {
@@ -194,6 +256,38 @@ pub fn calls(sheet: &[u8], random: &mut Random) -> Vec<Call> {
         calls.push(Call::ShelfField { size, number, entries: around(kinds, random) });
     }
     calls
+}
+
+/// A day on some sheets: walks by up to four of the desks and, at times, by one that there is not. Often a
+/// walk is asked for once more, by any of them, so that it may be spent for one and answered for another. All
+/// eight allowances are small, so that a walk ends soon whichever of them it reads.
+pub fn day(sheets: &[Vec<u8>], random: &mut Random) -> Day {
+    let allowances = [0; DESKS].map(|_| {
+        let bound = if random.once_in(10) { 100_000 } else { random.choose(&[20, 200, 2_000, 20_000]) };
+        random.below(bound) as u32
+    });
+    let desks: Vec<usize> = (0..random.between(1, 4)).map(|_| random.below(DESKS)).collect();
+    let mut walks: Vec<Walk> = Vec::new();
+    for _ in 0..random.between(2, 10) {
+        let mut desk = random.choose(&desks);
+        if random.once_in(8) {
+            desk = random.choose(&[DESKS, DESKS + 1, 255, 256 + desk, (1 << 16) + desk, (1 << 32) + desk, usize::MAX]);
+        }
+        walks.push(match walks.last() {
+            Some(&last) if random.once_in(3) => Walk { desk, ..last },
+            _ => {
+                let sheet = random.below(sheets.len());
+                let (first, second) = pair_near(header(&sheets[sheet], 6), random);
+                Walk { sheet, first, second, limit: number_near(9, random) as u64, desk }
+            }
+        });
+    }
+    let entries = match random.below(8) {
+        0 => random.below(DESKS),
+        1..=2 => DESKS + random.below(20),
+        _ => DESKS,
+    };
+    Day { allowances, entries, walks }
 }
 
 /// How many fields of 16 tokens of 32 kinds there are: no entry is greater.
@@ -258,7 +352,9 @@ pub struct Difference {
 #[derive(Clone, Debug, Default)]
 pub struct Comparison {
     pub sheets: u64,
+    /// The calls that were made; of a day its walks are counted.
     pub calls: u64,
+    pub days: u64,
     /// How often each answer was given by the first implementation, by its name and number.
     pub answers: BTreeMap<String, u64>,
     pub differences: Vec<Difference>,
@@ -268,20 +364,23 @@ pub struct Comparison {
 pub fn compare_implementations(
     seed: u64,
     numbers: std::ops::Range<u64>,
-    first: fn(&Call, &mut Lent) -> Answer,
-    second: fn(&Call, &mut Lent) -> Answer,
+    first: Implementation,
+    second: Implementation,
 ) -> Comparison {
     let mut comparison = Comparison::default();
     for number in numbers {
-        let sheet = sample(seed, number).bytes;
+        let sheets = sheets(seed, number);
         let mut random = Random::new(seed.rotate_left(32) ^ number);
         comparison.sheets += 1;
-        for call in calls(&sheet, &mut random) {
-            let mut lent = [Lent::new(&call, &sheet), Lent::new(&call, &sheet)];
+        for call in calls(&sheets, &mut random) {
+            let mut lent = [Lent::new(&call, &sheets), Lent::new(&call, &sheets)];
             let answers = [first(&call, &mut lent[0]), second(&call, &mut lent[1])];
             let lent_differs = lent[0] != lent[1];
-            comparison.calls += 1;
-            *comparison.answers.entry(name(&call, &answers[0])).or_default() += 1;
+            comparison.days += u64::from(matches!(call, Call::Day(_)));
+            for name in names(&call, &answers[0]) {
+                comparison.calls += 1;
+                *comparison.answers.entry(name).or_default() += 1;
+            }
             if answers[0] != answers[1] || lent_differs {
                 comparison.differences.push(Difference { number, call, answers, lent_differs });
             }
@@ -290,31 +389,30 @@ pub fn compare_implementations(
     comparison
 }
 
-/// The name of a call's entry and of its answer; of Shelf number and Shelf field the size is the answer.
-fn name(call: &Call, answer: &Answer) -> String {
+/// The name of a call's entry and of its answer, for a day those of each walk; of Shelf number and Shelf field
+/// the size is the answer.
+fn names(call: &Call, answer: &Answer) -> Vec<String> {
     let entry = match call {
         Call::Settle { .. } => "settle",
         Call::RowCheck { .. } => "row check",
         Call::Row { .. } => "row",
         Call::Compare { .. } => "compare",
         Call::PrimeForm { .. } => "prime form",
-        Call::Walk { .. } => "walk",
+        Call::Day(_) => "walk",
         Call::Page { .. } => "page",
         Call::Numbers => "numbers",
         Call::ShelfNumber { .. } => "shelf number",
         Call::ShelfField { .. } => "shelf field",
     };
     let answer = match (answer, call) {
+        (Answer::Day(made), _) => {
+            return made.iter().map(|made| format!("{entry}: {}", walk_name(made.answer))).collect();
+        }
         (Answer::Refused(refusal), _) => format!("refused {}", refusal.number),
         (Answer::Settled { stage }, _) => format!("stage {stage}"),
         (Answer::Row { entries: 0, .. }, _) => "empty".to_string(),
         (Answer::Verdict(Verdict::Same), _) => "same".to_string(),
         (Answer::Verdict(Verdict::Different { stage, .. }), _) => format!("different {stage}"),
-        (Answer::Walked(walked), _) => match walked.answer {
-            crate::walker::Answer::Apart { .. } => "apart".to_string(),
-            crate::walker::Answer::Together => "together".to_string(),
-            crate::walker::Answer::Spent => "spent".to_string(),
-        },
         (Answer::ShelfNumber(ShelfNumber { size, .. }), _) => format!("size {size}"),
         (Answer::FieldWritten, Call::ShelfField { size, .. }) => format!("size {size}"),
         (
@@ -327,5 +425,15 @@ fn name(call: &Call, answer: &Answer) -> String {
             _,
         ) => "done".to_string(),
     };
-    format!("{entry}: {answer}")
+    vec![format!("{entry}: {answer}")]
+}
+
+/// The name of a walk's answer.
+fn walk_name(answer: Result<Walked, Refusal>) -> String {
+    match answer.map(|walked| walked.answer) {
+        Err(refusal) => format!("refused {}", refusal.number),
+        Ok(walker::Answer::Apart { .. }) => "apart".to_string(),
+        Ok(walker::Answer::Together) => "together".to_string(),
+        Ok(walker::Answer::Spent) => "spent".to_string(),
+    }
 }

@@ -1,5 +1,5 @@
 //! Document 01 ("Race cards, fields and their prime forms", the paper that asks for Limbatue), as
-//! requests 1 and 2 of document 02 change it, implemented a second time, from that document's definitions
+//! requests 1, 2 and 4 of document 02 change it, implemented a second time, from that document's definitions
 //! and document 000 (Hirshfeld, Jerrum, Moller, 1996, the algorithm). It shares no code with the verified library. The tests hold the two against each other, and the measurements compare
 //! their times. Sentences in quotes are these documents' own.
 
@@ -7,6 +7,8 @@
 pub mod base;
 /// Calls as values, the buffers that they lend, and one call after another on two implementations.
 pub mod calls;
+/// What is promised of the desks of a session, over whole days.
+pub mod days;
 /// Stages, rows, primes and the round game straight from their definitions, for small cards.
 pub mod definitions;
 /// Settle, Row, Compare and Prime form.

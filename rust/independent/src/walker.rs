@@ -1,14 +1,17 @@
-//! Walk: "two fields, a round limit 0 to 8, a session".
+//! Walk: "two fields, a round limit 0 to 8, a session", and a desk of the session, whose allowance it reads.
 
 use crate::sheet::{Card, MOST_CODES, MOST_KINDS, Refusal, read, refused};
 
 /// The greatest round limit.
 pub const MOST_ROUNDS: u64 = 8;
 
-/// "The allowance, 32 bits for all callers together", as what is left of it.
+/// "Eight desks, 0 to 7."
+pub const DESKS: usize = 8;
+
+/// A session: "each given an allowance of its own once, when the session opens", as what each desk has left.
 #[derive(Clone, Copy, Debug, PartialEq, Eq)]
 pub struct Session {
-    pub allowance: u32,
+    pub allowances: [u32; DESKS],
 }
 
 /// What a walk answers.
@@ -23,28 +26,66 @@ pub enum Answer {
     Spent,
 }
 
-/// A walk's answer and what it drew from the session.
+/// A walk's answer and what it drew from its desk's allowance.
 #[derive(Clone, Copy, Debug, PartialEq, Eq)]
 pub struct Walked {
     pub answer: Answer,
     pub drawn: u32,
 }
 
-/// Walk: "tries 1, 2, up to the limit". It checks 1 to 8, 11 and 13.
-pub fn walk(sheet: &[u8], first: usize, second: usize, limit: u64, session: &mut Session) -> Result<Walked, Refusal> {
+/// Walk: "tries 1, 2, up to the limit". It checks 16, 1 to 8, 11 and 13.
+pub fn walk(
+    sheet: &[u8],
+    first: usize,
+    second: usize,
+    limit: u64,
+    desk: usize,
+    session: &mut Session,
+) -> Result<Walked, Refusal> {
+    let card = check(sheet, first, second, limit, desk)?;
+    Ok(draw(&card, first, second, limit, &mut session.allowances[desk]))
+}
+
+/// Walk on a session that is lent as an array, an entry for each desk. After the checks of Walk it checks 12:
+/// the array has under eight entries. Entries past the eighth are nobody's.
+pub fn walk_lent(
+    sheet: &[u8],
+    first: usize,
+    second: usize,
+    limit: u64,
+    desk: usize,
+    session: &mut [u32],
+) -> Result<Walked, Refusal> {
+    let card = check(sheet, first, second, limit, desk)?;
+    if session.len() < DESKS {
+        return refused(12, 0);
+    }
+    Ok(draw(&card, first, second, limit, &mut session[desk]))
+}
+
+/// The checks of Walk in their order: "16 a desk over 7, place 0, before the header is looked at", 1 to 8, 11 and 13.
+fn check(sheet: &[u8], first: usize, second: usize, limit: u64, desk: usize) -> Result<Card<'_>, Refusal> {
+    if desk >= DESKS {
+        return refused(16, 0);
+    }
     let card = read(sheet)?;
     card.check_fields(&[first, second])?;
     if limit > MOST_ROUNDS {
         return refused(13, 0);
     }
-    let mut game = Game::new(&card, first, second, session.allowance);
+    Ok(card)
+}
+
+/// Plays within what a desk has left of its allowance, and draws from that.
+fn draw(card: &Card, first: usize, second: usize, limit: u64, left: &mut u32) -> Walked {
+    let mut game = Game::new(card, first, second, *left);
     let answer = game.play(limit);
     let drawn = match answer {
-        Answer::Spent => session.allowance,
+        Answer::Spent => *left,
         _ => game.examined as u32,
     };
-    session.allowance -= drawn;
-    Ok(Walked { answer, drawn })
+    *left -= drawn;
+    Walked { answer, drawn }
 }
 
 /// The count of pairs has passed the allowance.

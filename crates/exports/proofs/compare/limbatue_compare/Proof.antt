@@ -4,8 +4,9 @@ use mathlib.Core.Path.{sym, _∙_, ap}
 use native.Mathlib.Omega.{arith}
 use Rattle.model.specs.Answer.{same, different}
 use Rattle.filer.specs.Answers.{verdictOf}
-use Rattle.exports.proofs.Codes.{compare-fits}
-use Rattle.exports.proofs.Outcomes.{code-is, values-are, compare-gives, compare-refuses}
+use Rattle.arrays.proofs.Codes.{compare-fits}
+use Rattle.arrays.proofs.Replies.{code-is, values-are}
+use Rattle.exports.proofs.Outcomes.{compare-gives, compare-refuses}
 use Rattle.exports.proofs.compare.limbatue_compare.Statement.{statement}
 use Rattle.exports.proofs.compare.limbatue_compare.Tie as tie
 

@@ -3,8 +3,9 @@ use borrow.Author.Needs.{needs}
 use mathlib.Core.Path.{sym, _∙_, ap}
 use native.Mathlib.Omega.{arith}
 use Rattle.filer.specs.Answers.{formingOf}
-use Rattle.exports.proofs.Codes.{form-fits}
-use Rattle.exports.proofs.Outcomes.{code-is, lent-is, form-gives, form-refuses, form-kept}
+use Rattle.arrays.proofs.Codes.{form-fits}
+use Rattle.arrays.proofs.Replies.{code-is, lent-is}
+use Rattle.exports.proofs.Outcomes.{form-gives, form-refuses, form-kept}
 use Rattle.exports.proofs.form.limbatue_prime_form.Statement.{statement}
 use Rattle.exports.proofs.form.limbatue_prime_form.Tie as tie
 

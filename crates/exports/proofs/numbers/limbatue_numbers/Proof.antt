@@ -3,8 +3,9 @@ use borrow.Author.Needs.{needs}
 use mathlib.Core.Path.{sym, _∙_}
 use native.Mathlib.Omega.{arith}
 use Rattle.validation.proofs.Checking.{checked-reads, checked-refused}
-use Rattle.exports.proofs.Codes.{found-fits, sheet-small}
-use Rattle.exports.proofs.Outcomes.{code-is, values-are, numbers-gives, numbers-refuses}
+use Rattle.arrays.proofs.Codes.{found-fits, sheet-small}
+use Rattle.arrays.proofs.Replies.{code-is, values-are}
+use Rattle.exports.proofs.Outcomes.{numbers-gives, numbers-refuses}
 use Rattle.exports.proofs.numbers.limbatue_numbers.Statement.{statement}
 use Rattle.exports.proofs.numbers.limbatue_numbers.Tie as tie
 

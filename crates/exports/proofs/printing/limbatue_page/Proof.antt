@@ -4,8 +4,7 @@ use mathlib.Core.Path.{refl, sym, _∙_, ap}
 use Rattle.model.specs.Answer.{given}
 use Rattle.page.specs.Writing.{writingOf}
 use Rattle.exports.specs.Calls.{lengthValues}
-use Rattle.exports.proofs.Replies.{reply-gives}
-use Rattle.exports.proofs.Outcomes.{code-is, lent-is, values-are}
+use Rattle.arrays.proofs.Replies.{code-is, lent-is, values-are, reply-gives}
 use Rattle.exports.proofs.PageOutcomes.{page-short, page-gives, page-refuses, page-kept, page-fits}
 use Rattle.exports.proofs.printing.limbatue_page.Statement.{statement}
 use Rattle.exports.proofs.printing.limbatue_page.Tie as tie

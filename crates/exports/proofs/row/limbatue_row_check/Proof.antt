@@ -4,8 +4,9 @@ use mathlib.Core.Path.{sym, _∙_, ap}
 use native.Mathlib.Omega.{arith}
 use Rattle.filer.specs.Answers.{findingOf}
 use Rattle.filer.proofs.Rows.{row-inside, whole}
-use Rattle.exports.proofs.Codes.{row-fits}
-use Rattle.exports.proofs.Outcomes.{code-is, values-are, row-gives, row-refuses}
+use Rattle.arrays.proofs.Codes.{row-fits}
+use Rattle.arrays.proofs.Replies.{code-is, values-are}
+use Rattle.exports.proofs.Outcomes.{row-gives, row-refuses}
 use Rattle.exports.proofs.row.limbatue_row_check.Statement.{statement}
 use Rattle.exports.proofs.row.limbatue_row_check.Tie as tie
 

@@ -5,9 +5,9 @@ use native.Mathlib.Omega.{arith}
 use Rattle.model.specs.Answer.{given}
 use Rattle.filer.specs.Answers.{settlingOf}
 use Rattle.exports.specs.Calls.{stageValues}
-use Rattle.exports.proofs.Replies.{reply-gives}
-use Rattle.exports.proofs.Codes.{settle-fits}
-use Rattle.exports.proofs.Outcomes.{code-is, lent-is, values-are, settle-short, settle-gives, settle-refuses, settle-kept}
+use Rattle.arrays.proofs.Replies.{code-is, lent-is, values-are, reply-gives}
+use Rattle.arrays.proofs.Codes.{settle-fits}
+use Rattle.exports.proofs.Outcomes.{settle-short, settle-gives, settle-refuses, settle-kept}
 use Rattle.exports.proofs.settle.limbatue_settle.Statement.{statement}
 use Rattle.exports.proofs.settle.limbatue_settle.Tie as tie
 

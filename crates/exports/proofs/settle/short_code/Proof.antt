@@ -5,7 +5,7 @@ use native.Mathlib.Omega.{arith}
 use Rattle.model.specs.Refusal.{Accepted}
 use Rattle.acceptance.specs.declared.accept.Acceptance.{Acceptance}
 use Rattle.acceptance.proofs.Acceptances.{accepts, refused}
-use Rattle.exports.proofs.Codes.{found-fits, accept-small}
+use Rattle.arrays.proofs.Codes.{found-fits, accept-small}
 use Rattle.exports.proofs.Outcomes.{short-clear, short-refused}
 use Rattle.exports.proofs.settle.short_code.Statement.{statement}
 use Rattle.exports.proofs.settle.short_code.Tie as tie

@@ -3,8 +3,9 @@ use borrow.Author.Needs.{needs}
 use mathlib.Core.Path.{sym, _∙_, ap}
 use native.Mathlib.Omega.{arith}
 use Rattle.numbering.specs.Answers.{fieldAnswer}
-use Rattle.exports.proofs.Codes.{shelf-field-fits}
-use Rattle.exports.proofs.Outcomes.{code-is, lent-is, shelf-field-gives, shelf-field-refuses, shelf-field-kept}
+use Rattle.arrays.proofs.Codes.{shelf-field-fits}
+use Rattle.arrays.proofs.Replies.{code-is, lent-is}
+use Rattle.exports.proofs.Outcomes.{shelf-field-gives, shelf-field-refuses, shelf-field-kept}
 use Rattle.exports.proofs.shelf_field.limbatue_shelf_field.Statement.{statement}
 use Rattle.exports.proofs.shelf_field.limbatue_shelf_field.Tie as tie
 

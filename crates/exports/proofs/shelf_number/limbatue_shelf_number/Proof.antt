@@ -3,8 +3,9 @@ use borrow.Author.Needs.{needs}
 use mathlib.Core.Path.{sym, _∙_, ap}
 use native.Mathlib.Omega.{arith}
 use Rattle.numbering.specs.Answers.{numberAnswer}
-use Rattle.exports.proofs.Codes.{shelf-number-fits}
-use Rattle.exports.proofs.Outcomes.{code-is, values-are, shelf-number-gives, shelf-number-refuses}
+use Rattle.arrays.proofs.Codes.{shelf-number-fits}
+use Rattle.arrays.proofs.Replies.{code-is, values-are}
+use Rattle.exports.proofs.Outcomes.{shelf-number-gives, shelf-number-refuses}
 use Rattle.exports.proofs.shelf_number.limbatue_shelf_number.Statement.{statement}
 use Rattle.exports.proofs.shelf_number.limbatue_shelf_number.Tie as tie
 

@@ -1,115 +1,140 @@
--- Each case of the answer by its values; the session is the allowance.
+-- Arrays without room first; then each case of the answer by its values.
 use borrow.Author.Needs.{needs}
+use mathlib.Core.List.{List}
+use mathlib.Core.Logic.{inl, inr}
 use mathlib.Core.Path.{sym, _∙_, ap}
-use native.Mathlib.Omega.{arith}
 use Prim.Native.Nat.{ℕ}
+use native.Mathlib.Omega.{arith}
 use Rattle.model.specs.Walk.{apart, together, spent}
 use Rattle.model.specs.Answer.{Walked, walkOf}
 use Rattle.walker.specs.Answers.{answerOf, walkedOf}
-use Rattle.exports.proofs.Codes.{walk-fits}
-use Rattle.exports.proofs.Outcomes.{code-is, lent-is, values-are, walk-gives, walk-refuses}
+use Rattle.arrays.proofs.Codes.{walk-fits}
+use Rattle.exports.proofs.WalkOutcomes.{walk-short, walk-gives, walk-refuses}
+use Rattle.arrays.proofs.Replies.{code-is, lent-is, values-are}
 use Rattle.exports.proofs.walk.limbatue_walk.Statement.{statement}
 use Rattle.exports.proofs.walk.limbatue_walk.Tie as tie
 
-new-requires : tie.Need-new-requires
-new-requires c κs = search needs
+short-walk-requires : tie.Need-short-walk-requires
+short-walk-requires c κs = search needs
+
+returns : tie.Need-returns
+returns c =
+    let a = c .before .before .before .before .before .args in
+    let e = walk-short (a .sheet .now) (a .first) (a .second) (a .limit) (a .desk) (a .session .now) (a .answer .now) (inl (c .before .if1 .taken)) in
+    (c .short-walk .ensures ∙ code-is e, (lent-is e, values-are e))
+
+short-walk-requires-2 : tie.Need-short-walk-requires-2
+short-walk-requires-2 c κs = search needs
+
+returns-2 : tie.Need-returns-2
+returns-2 c =
+    let a = c .before .before .before .before .before .before .args in
+    let e = walk-short (a .sheet .now) (a .first) (a .second) (a .limit) (a .desk) (a .session .now) (a .answer .now) (inr (c .before .if2 .taken)) in
+    (c .short-walk2 .ensures ∙ code-is e, (lent-is e, values-are e))
+
+lent-session-requires : tie.Need-lent-session-requires
+lent-session-requires c κs = search needs
 
 walk-requires : tie.Need-walk-requires
 walk-requires c κs = search needs
 
-cast-drawn : tie.Need-cast-drawn
-cast-drawn c = search needs
-
 enum-told : tie.Need-enum-told
 enum-told c = search needs
 
-slice-aggregate-reply-left : tie.Need-slice-aggregate-reply-left
-slice-aggregate-reply-left c = search needs
-
-reply-left-requires : tie.Need-reply-left-requires
-reply-left-requires c κs = search needs
+reply-walk-requires : tie.Need-reply-walk-requires
+reply-walk-requires c κs = search needs
 
 enum-known-found : tie.Need-enum-known-found
 enum-known-found c = search needs
 
-slice-aggregate-reply-left-2 : tie.Need-slice-aggregate-reply-left-2
-slice-aggregate-reply-left-2 c = search needs
-
-reply-left-requires-2 : tie.Need-reply-left-requires-2
-reply-left-requires-2 c κs = search needs
+reply-walk-requires-2 : tie.Need-reply-walk-requires-2
+reply-walk-requires-2 c κs = search needs
 
 enum-told-2 : tie.Need-enum-told-2
 enum-told-2 c = search needs
 
-slice-aggregate-reply-left-3 : tie.Need-slice-aggregate-reply-left-3
-slice-aggregate-reply-left-3 c = search needs
-
-reply-left-requires-3 : tie.Need-reply-left-requires-3
-reply-left-requires-3 c κs = search needs
+reply-walk-requires-3 : tie.Need-reply-walk-requires-3
+reply-walk-requires-3 c κs = search needs
 
 enum-known-found-2 : tie.Need-enum-known-found-2
 enum-known-found-2 c = search needs
 
 refusal-code-requires : tie.Need-refusal-code-requires
 refusal-code-requires c κs =
-    let a = c .before .before .before .before .before .before .before .before .before .before .args in
-    walk-fits (a .sheet .now) (λ i. omega (arith, c .before .before .before .before .before .before .before .before .before .shared-slice-known .given i)) (a .first) (a .second) (a .limit) (record { left = a .allowance .now }) _ _ (ap (λ (x : Walked). x .answer) (sym (c .before .before .before .before .before .walk .ensures ∙ ap (λ (n : ℕ). walkOf (a .sheet .now) (a .first) (a .second) (a .limit) (record { left = n })) (c .before .before .before .before .before .before .new .ensures))) ∙ ap answerOf (c .before .found2 .given .1))
+    let a = c .before .before .before .before .before .before .before .before .before .before .before .before .args in
+    walk-fits (a .sheet .now) (λ i. omega (arith, c .before .before .before .before .before .before .before .before .before .before .before .shared-slice-known .given i)) _ _ (a .first) (a .second) (a .limit) (a .desk) _ (ap (λ (w : Walked). w .answer) (sym (c .before .before .before .before .walk .ensures)) ∙ ap answerOf (c .before .found2 .given .1))
 
 same-length : tie.Need-same-length
 same-length c = search needs
 
-returns : tie.Need-returns
-returns c =
-    let a = c .before .before .before .before .before .before .before .before .before .before .before .before .before .before .before .args in
-    let e = walk-gives (a .sheet .now) (a .first) (a .second) (a .limit) (a .allowance .now) (a .answer .now) (walkedOf (c .before .before .before .before .before .before .before .before .before .before .walk .result)) (c .before .before .before .before .before .before .before .before .before .before .walk .ensures ∙ ap (λ (n : ℕ). walkOf (a .sheet .now) (a .first) (a .second) (a .limit) (record { left = n })) (c .before .before .before .before .before .before .before .before .before .before .before .new .ensures)) together (ap answerOf (c .before .before .before .before .before .before .enum-told .given .1)) in
-    (c .before .before .reply-left .ensures .0 ∙ code-is e, (c .before .before .reply-left .ensures .1 .0 ∙ lent-is e, c .before .before .reply-left .ensures .1 .1 ∙ values-are e))
-
 same-length-2 : tie.Need-same-length-2
 same-length-2 c = search needs
 
-returns-2 : tie.Need-returns-2
-returns-2 c =
-    let a = c .before .before .before .before .before .before .before .before .before .before .before .before .before .before .before .before .args in
-    let e = walk-gives (a .sheet .now) (a .first) (a .second) (a .limit) (a .allowance .now) (a .answer .now) (walkedOf (c .before .before .before .before .before .before .before .before .before .before .before .walk .result)) (c .before .before .before .before .before .before .before .before .before .before .before .walk .ensures ∙ ap (λ (n : ℕ). walkOf (a .sheet .now) (a .first) (a .second) (a .limit) (record { left = n })) (c .before .before .before .before .before .before .before .before .before .before .before .before .new .ensures)) (apart _) (ap answerOf (c .before .before .before .before .before .before .before .found .given .1)) in
-    (c .before .before .reply-left2 .ensures .0 ∙ code-is e, (c .before .before .reply-left2 .ensures .1 .0 ∙ lent-is e, c .before .before .reply-left2 .ensures .1 .1 ∙ values-are e))
+returns-3 : tie.Need-returns-3
+returns-3 c =
+    let a = c .before .before .before .before .before .before .before .before .before .before .before .before .before .before .before .before .before .before .args in
+    let e = walk-gives (a .sheet .now) (a .first) (a .second) (a .limit) (a .desk) (a .session .now) (a .answer .now) (walkedOf (c .before .before .before .before .before .before .before .before .before .before .walk .result)) (c .before .before .before .before .before .before .before .before .before .before .walk .ensures ∙ ap (λ (l : List ℕ). walkOf (a .sheet .now) (a .first) (a .second) (a .limit) (a .desk) (record { left = l })) (c .before .before .before .before .before .before .before .before .before .before .before .lent-session .ensures)) together (ap answerOf (c .before .before .before .before .before .before .before .enum-told .given .1)) (c .before .before .before .before .before .before .before .before .before .before .before .before .before .before .if1 .left) (c .before .before .before .before .before .before .before .before .before .before .before .before .before .if2 .left) in
+    (c .before .before .before .before .reply-walk .ensures .0 ∙ code-is e, (c .before .before .before .before .reply-walk .ensures .1 .0 ∙ lent-is e, c .before .before .before .before .reply-walk .ensures .1 .1 ∙ values-are e))
 
 same-length-3 : tie.Need-same-length-3
 same-length-3 c = search needs
 
-returns-3 : tie.Need-returns-3
-returns-3 c =
-    let a = c .before .before .before .before .before .before .before .before .before .before .before .before .before .before .before .args in
-    let e = walk-gives (a .sheet .now) (a .first) (a .second) (a .limit) (a .allowance .now) (a .answer .now) (walkedOf (c .before .before .before .before .before .before .before .before .before .before .walk .result)) (c .before .before .before .before .before .before .before .before .before .before .walk .ensures ∙ ap (λ (n : ℕ). walkOf (a .sheet .now) (a .first) (a .second) (a .limit) (record { left = n })) (c .before .before .before .before .before .before .before .before .before .before .before .new .ensures)) spent (ap answerOf (c .before .before .before .before .before .before .enum-told2 .given .1)) in
-    (c .before .before .reply-left3 .ensures .0 ∙ code-is e, (c .before .before .reply-left3 .ensures .1 .0 ∙ lent-is e, c .before .before .reply-left3 .ensures .1 .1 ∙ values-are e))
+same-length-4 : tie.Need-same-length-4
+same-length-4 c = search needs
 
 returns-4 : tie.Need-returns-4
 returns-4 c =
-    let a = c .before .before .before .before .before .before .before .before .before .before .before .args in
-    let e = walk-refuses (a .sheet .now) (a .first) (a .second) (a .limit) (a .allowance .now) (a .answer .now) (walkedOf (c .before .before .before .before .before .before .walk .result)) (c .before .before .before .before .before .before .walk .ensures ∙ ap (λ (n : ℕ). walkOf (a .sheet .now) (a .first) (a .second) (a .limit) (record { left = n })) (c .before .before .before .before .before .before .before .new .ensures)) _ _ (ap answerOf (c .before .before .found2 .given .1)) in
+    let a = c .before .before .before .before .before .before .before .before .before .before .before .before .before .before .before .before .before .before .before .args in
+    let e = walk-gives (a .sheet .now) (a .first) (a .second) (a .limit) (a .desk) (a .session .now) (a .answer .now) (walkedOf (c .before .before .before .before .before .before .before .before .before .before .before .walk .result)) (c .before .before .before .before .before .before .before .before .before .before .before .walk .ensures ∙ ap (λ (l : List ℕ). walkOf (a .sheet .now) (a .first) (a .second) (a .limit) (a .desk) (record { left = l })) (c .before .before .before .before .before .before .before .before .before .before .before .before .lent-session .ensures)) (apart _) (ap answerOf (c .before .before .before .before .before .before .before .before .found .given .1)) (c .before .before .before .before .before .before .before .before .before .before .before .before .before .before .before .if1 .left) (c .before .before .before .before .before .before .before .before .before .before .before .before .before .before .if2 .left) in
+    (c .before .before .before .before .reply-walk2 .ensures .0 ∙ code-is e, (c .before .before .before .before .reply-walk2 .ensures .1 .0 ∙ lent-is e, c .before .before .before .before .reply-walk2 .ensures .1 .1 ∙ values-are e))
+
+same-length-5 : tie.Need-same-length-5
+same-length-5 c = search needs
+
+same-length-6 : tie.Need-same-length-6
+same-length-6 c = search needs
+
+returns-5 : tie.Need-returns-5
+returns-5 c =
+    let a = c .before .before .before .before .before .before .before .before .before .before .before .before .before .before .before .before .before .before .args in
+    let e = walk-gives (a .sheet .now) (a .first) (a .second) (a .limit) (a .desk) (a .session .now) (a .answer .now) (walkedOf (c .before .before .before .before .before .before .before .before .before .before .walk .result)) (c .before .before .before .before .before .before .before .before .before .before .walk .ensures ∙ ap (λ (l : List ℕ). walkOf (a .sheet .now) (a .first) (a .second) (a .limit) (a .desk) (record { left = l })) (c .before .before .before .before .before .before .before .before .before .before .before .lent-session .ensures)) spent (ap answerOf (c .before .before .before .before .before .before .before .enum-told2 .given .1)) (c .before .before .before .before .before .before .before .before .before .before .before .before .before .before .if1 .left) (c .before .before .before .before .before .before .before .before .before .before .before .before .before .if2 .left) in
+    (c .before .before .before .before .reply-walk3 .ensures .0 ∙ code-is e, (c .before .before .before .before .reply-walk3 .ensures .1 .0 ∙ lent-is e, c .before .before .before .before .reply-walk3 .ensures .1 .1 ∙ values-are e))
+
+same-length-7 : tie.Need-same-length-7
+same-length-7 c = search needs
+
+returns-6 : tie.Need-returns-6
+returns-6 c =
+    let a = c .before .before .before .before .before .before .before .before .before .before .before .before .before .args in
+    let e = walk-refuses (a .sheet .now) (a .first) (a .second) (a .limit) (a .desk) (a .session .now) (a .answer .now) (walkedOf (c .before .before .before .before .before .walk .result)) (c .before .before .before .before .before .walk .ensures ∙ ap (λ (l : List ℕ). walkOf (a .sheet .now) (a .first) (a .second) (a .limit) (a .desk) (record { left = l })) (c .before .before .before .before .before .before .lent-session .ensures)) _ _ (ap answerOf (c .before .before .found2 .given .1)) in
     (c .refusal-code .ensures ∙ code-is e, (lent-is e, values-are e))
 
 pub limbatue-walk-spec : {M : Type 1} → statement M
 limbatue-walk-spec =
     tie.close
     (tie.spec
-    new-requires
+    short-walk-requires
+    returns
+    short-walk-requires-2
+    returns-2
+    lent-session-requires
     walk-requires
-    cast-drawn
     enum-told
-    slice-aggregate-reply-left
-    reply-left-requires
+    reply-walk-requires
     enum-known-found
-    slice-aggregate-reply-left-2
-    reply-left-requires-2
+    reply-walk-requires-2
     enum-told-2
-    slice-aggregate-reply-left-3
-    reply-left-requires-3
+    reply-walk-requires-3
     enum-known-found-2
     refusal-code-requires
     same-length
-    returns
     same-length-2
-    returns-2
-    same-length-3
     returns-3
-    returns-4)
+    same-length-3
+    same-length-4
+    returns-4
+    same-length-5
+    same-length-6
+    returns-5
+    same-length-7
+    returns-6)

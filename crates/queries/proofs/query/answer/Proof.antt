@@ -16,7 +16,7 @@ use Rattle.queries.proofs.query.answer.Tie as tie
 -- The numbers that were said fit their array.
 few : (c : tie.After-known-told) → c .before .count .given .0 .0 ≤ length (c .before .before .before .before .numbers-in .last .1 .0)
 few c =
-    let within : c .before .count .given .0 .0 ≤ 4 = rw (c .before .count .given .1) at (c .before .before .before .before .numbers-in .ensures .1) in
+    let within : c .before .count .given .0 .0 ≤ 5 = rw (c .before .count .given .1) at (c .before .before .before .before .numbers-in .ensures .1) in
     omega (arith, within)
 
 word-end-requires : tie.Need-word-end-requires

@@ -16,7 +16,7 @@ use Rattle.sheet.proofs.Laws.{lines-most}
 use Rattle.game.specs.Rounds.{countedOf}
 use Rattle.moves.proofs.Fields.{bounded-less}
 use Rattle.game.proofs.Steps.{pair-challenged}
-use Rattle.walker.proofs.Tries.{walkFrom, starts, none-left, tries-within, tries-spent, tries-apart, tries-on}
+use Rattle.walker.proofs.Tries.{plays-of, plays-as, walkFrom, starts, none-left, tries-within, tries-spent, tries-apart, tries-on}
 use Rattle.walker.proofs.entry.try_rounds.Statement.{statement}
 use Rattle.walker.proofs.entry.try_rounds.Tie as tie
 
@@ -25,8 +25,8 @@ Inv-loop card s t a b limit allowance challenges left₀ rounds₀ left rounds =
     (1 ≤ rounds)
     × (rounds ≤ limit + 1)
     × (left ≤ allowance)
-    × (walkFrom (cardOf s .lines) (at a) (at b) (record { left = allowance }) left rounds (limit + 1 - rounds)
-    ≡ within (record { left = allowance }) (walk (cardOf s .lines) (at a) (at b) 1 limit))
+    × (walkFrom (cardOf s .lines) (at a) (at b) allowance left rounds (limit + 1 - rounds)
+    ≡ within allowance (walk (cardOf s .lines) (at a) (at b) 1 limit))
 
 abbrev μ-loop : tie.MeasureT-loop
 μ-loop card s t a b limit allowance challenges left₀ rounds₀ left rounds = limit + 1 - rounds
@@ -41,8 +41,8 @@ loop-holds c =
       omega arith,
       omega arith,
       omega arith,
-      ap (walkFrom (cardOf (a .s .now) .lines) (at (a .a .now)) (at (a .b .now)) (record { left = a .session .left }) (a .session .left) 1) z
-          ∙ starts (cardOf (a .s .now) .lines) (at (a .a .now)) (at (a .b .now)) (record { left = a .session .left }) 1 (a .limit),
+      ap (walkFrom (cardOf (a .s .now) .lines) (at (a .a .now)) (at (a .b .now)) (a .allowance) (a .allowance) 1) z
+          ∙ starts (cardOf (a .s .now) .lines) (at (a .a .now)) (at (a .b .now)) (a .allowance) 1 (a .limit),
     )
 
 spend-requires : tie.Need-spend-requires Inv-loop μ-loop
@@ -53,10 +53,10 @@ returns : tie.Need-returns Inv-loop μ-loop
 returns c =
     let a = c .before .before .before .before .before .before .args in
     let l = c .before .before .before .loop in
-    c .spend .ensures
-    ∙ tries-spent (cardOf (a .s .now) .lines) (at (a .a .now)) (at (a .b .now)) (record { left = a .session .left }) (l .left) (l .rounds) (a .limit + 1 - l .rounds) (l .inv .2) (a .limit - l .rounds) (omega (arith, c .before .before .loop-test .taken))
+    plays-as (c .spend .result) (c .spend .ensures)
+    (tries-spent (cardOf (a .s .now) .lines) (at (a .a .now)) (at (a .b .now)) (a .allowance) (l .left) (l .rounds) (a .limit + 1 - l .rounds) (l .inv .2) (a .limit - l .rounds) (omega (arith, c .before .before .loop-test .taken))
     (sym (pair-spent (cardOf (a .s .now) .lines) (at (a .a .now)) (at (a .b .now)) (l .left) (l .rounds) (c .before .if1 .taken)))
-    ∙ l .inv .3
+    ∙ l .inv .3)
 
 sub-challenge : tie.Need-sub-challenge Inv-loop μ-loop
 sub-challenge c = search needs
@@ -80,18 +80,19 @@ enum-known-rest c = search needs
 enum-known-rest-2 : tie.Need-enum-known-rest-2 Inv-loop μ-loop
 enum-known-rest-2 c = search needs
 
-sub-t18 : tie.Need-sub-t18 Inv-loop μ-loop
-sub-t18 c =
+sub-t17 : tie.Need-sub-t17 Inv-loop μ-loop
+sub-t17 c =
     let a = c .before .before .before .before .before .before .before .before .before .args in
     let l = c .before .before .before .before .before .before .loop in
-    omega (arith, l .inv .2, tries-within (cardOf (a .s .now) .lines) (at (a .a .now)) (at (a .b .now)) (record { left = a .session .left }) (l .left) (l .rounds) (a .limit + 1 - l .rounds) (l .inv .2) false _ (sym (pair-examined (c .before .before .before)) ∙ ap countedOf (c .before .rest2 .given .1)))
+    omega (arith, l .inv .2, tries-within (cardOf (a .s .now) .lines) (at (a .a .now)) (at (a .b .now)) (a .allowance) (l .left) (l .rounds) (a .limit + 1 - l .rounds) (l .inv .2) false _ (sym (pair-examined (c .before .before .before)) ∙ ap countedOf (c .before .rest2 .given .1)))
 
 returns-2 : tie.Need-returns-2 Inv-loop μ-loop
 returns-2 c =
     let a = c .before .before .before .before .before .before .before .before .before .args in
     let l = c .before .before .before .before .before .before .loop in
-    tries-apart (cardOf (a .s .now) .lines) (at (a .a .now)) (at (a .b .now)) (record { left = a .session .left }) (l .left) (l .rounds) (a .limit + 1 - l .rounds) (l .inv .2) (a .limit - l .rounds) (omega (arith, c .before .before .before .before .before .loop-test .taken)) _ (sym (pair-examined (c .before .before .before)) ∙ ap countedOf (c .before .rest2 .given .1))
-    ∙ l .inv .3
+    plays-of
+    (tries-apart (cardOf (a .s .now) .lines) (at (a .a .now)) (at (a .b .now)) (a .allowance) (l .left) (l .rounds) (a .limit + 1 - l .rounds) (l .inv .2) (a .limit - l .rounds) (omega (arith, c .before .before .before .before .before .loop-test .taken)) _ (sym (pair-examined (c .before .before .before)) ∙ ap countedOf (c .before .rest2 .given .1))
+    ∙ l .inv .3)
 
 enum-told : tie.Need-enum-told Inv-loop μ-loop
 enum-told c = search needs
@@ -103,9 +104,9 @@ returns-3 : tie.Need-returns-3 Inv-loop μ-loop
 returns-3 c =
     let a = c .before .before .before .before .before .before .before .before .before .args in
     let l = c .before .before .before .before .before .before .loop in
-    c .spend2 .ensures
-    ∙ tries-spent (cardOf (a .s .now) .lines) (at (a .a .now)) (at (a .b .now)) (record { left = a .session .left }) (l .left) (l .rounds) (a .limit + 1 - l .rounds) (l .inv .2) (a .limit - l .rounds) (omega (arith, c .before .before .before .before .before .loop-test .taken)) (sym (pair-examined (c .before .before .before)) ∙ ap countedOf (c .before .enum-told .given .1))
-    ∙ l .inv .3
+    plays-as (c .spend2 .result) (c .spend2 .ensures)
+    (tries-spent (cardOf (a .s .now) .lines) (at (a .a .now)) (at (a .b .now)) (a .allowance) (l .left) (l .rounds) (a .limit + 1 - l .rounds) (l .inv .2) (a .limit - l .rounds) (omega (arith, c .before .before .before .before .before .loop-test .taken)) (sym (pair-examined (c .before .before .before)) ∙ ap countedOf (c .before .enum-told .given .1))
+    ∙ l .inv .3)
 
 add-rounds : tie.Need-add-rounds Inv-loop μ-loop
 add-rounds c = omega (arith, c .before .before .before .before .before .loop-test .taken, c .before .before .before .before .before .before .before .before .before .pre .1 .0)
@@ -121,20 +122,20 @@ loop-again c =
     let z : a .limit + 1 - (l .rounds + 1) ≡ a .limit - l .rounds = omega arith in (
       omega arith,
       omega (arith, c .before .before .before .before .before .loop-test .taken),
-      tries-within (cardOf (a .s .now) .lines) (at (a .a .now)) (at (a .b .now)) (record { left = a .session .left }) (l .left) (l .rounds) (a .limit + 1 - l .rounds) (l .inv .2) true _ e,
-      ap (walkFrom (cardOf (a .s .now) .lines) (at (a .a .now)) (at (a .b .now)) (record { left = a .session .left }) (c .before .rest .given .0 .0) (l .rounds + 1)) z
-          ∙ tries-on (cardOf (a .s .now) .lines) (at (a .a .now)) (at (a .b .now)) (record { left = a .session .left }) (l .left) (l .rounds) (a .limit + 1 - l .rounds) (l .inv .2) (a .limit - l .rounds) (omega (arith, c .before .before .before .before .before .loop-test .taken)) _ e
+      tries-within (cardOf (a .s .now) .lines) (at (a .a .now)) (at (a .b .now)) (a .allowance) (l .left) (l .rounds) (a .limit + 1 - l .rounds) (l .inv .2) true _ e,
+      ap (walkFrom (cardOf (a .s .now) .lines) (at (a .a .now)) (at (a .b .now)) (a .allowance) (c .before .rest .given .0 .0) (l .rounds + 1)) z
+          ∙ tries-on (cardOf (a .s .now) .lines) (at (a .a .now)) (at (a .b .now)) (a .allowance) (l .left) (l .rounds) (a .limit + 1 - l .rounds) (l .inv .2) (a .limit - l .rounds) (omega (arith, c .before .before .before .before .before .loop-test .taken)) _ e
           ∙ l .inv .3,
     )
 
-sub-t21 : tie.Need-sub-t21 Inv-loop μ-loop
-sub-t21 c = omega (arith, c .before .loop .inv .2)
+sub-t19 : tie.Need-sub-t19 Inv-loop μ-loop
+sub-t19 c = omega (arith, c .before .loop .inv .2)
 
 returns-4 : tie.Need-returns-4 Inv-loop μ-loop
 returns-4 c =
     let a = c .before .before .before .before .args in
     let l = c .before .loop in
-    none-left (cardOf (a .s .now) .lines) (at (a .a .now)) (at (a .b .now)) (record { left = a .session .left }) (l .left) (l .rounds) (a .limit + 1 - l .rounds) (l .inv .2) (omega (arith, c .loop-test .left)) ∙ l .inv .3
+    plays-of (none-left (cardOf (a .s .now) .lines) (at (a .a .now)) (at (a .b .now)) (a .allowance) (l .left) (l .rounds) (a .limit + 1 - l .rounds) (l .inv .2) (omega (arith, c .loop-test .left)) ∙ l .inv .3)
 
 pub try-rounds-spec : {M : Type 1} → statement M
 try-rounds-spec =
@@ -150,7 +151,7 @@ try-rounds-spec =
     challenge-requires
     enum-known-rest
     enum-known-rest-2
-    sub-t18
+    sub-t17
     returns-2
     enum-told
     spend-requires-2
@@ -158,5 +159,5 @@ try-rounds-spec =
     add-rounds
     loop-less
     loop-again
-    sub-t21
+    sub-t19
     returns-4)

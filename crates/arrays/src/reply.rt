@@ -1,0 +1,38 @@
+// The number returned, and the answer array.
+ghost use mathlib.Core.Path.{_≡_};
+ghost use Prim.Native.Nat.{_<_, _≤_, _^_};
+ghost use lib.ListN.{length};
+ghost use Rattle.model.specs.Answer.{written};
+ghost use Rattle.arrays.specs.Reply.{codeOf, valuesReply};
+
+// The number that a refusal returns.
+pub fn refusal_code(number: usize, place: usize) -> u32
+    requires { ⌜ codeOf number place < 2 ^ 32 ⌝ }
+    ensures { λ r. ⌜ r ≡ codeOf number place ⌝ }
+{
+    (number + 256 * place) as u32
+}
+
+// The values of an answer to the answer array; refused as 12 where it is too short for them.
+pub fn reply(values: &[u64], answer: &mut [u64]) -> u32
+    ensures { λ r. ⌜ r ≡ valuesReply (now (values .entry)) (now (answer .entry)) .code ⌝ }
+    ensures { λ _. ⌜ now (answer .exit) ≡ valuesReply (now (values .entry)) (now (answer .entry)) .values ⌝ }
+{
+    if answer.len() < values.len() {
+        return 12;
+    }
+    write_values(values, answer);
+    0
+}
+
+// The values to the front of the answer array.
+pub fn write_values(values: &[u64], answer: &mut [u64])
+    requires { ⌜ length (now values) ≤ length (now answer) ⌝ }
+    ensures { λ _. ⌜ now (answer .exit) ≡ written (now (values .entry)) (now (answer .entry)) ⌝ }
+{
+    let mut i = 0;
+    while i < values.len() {
+        answer[i] = values[i];
+        i += 1;
+    }
+}

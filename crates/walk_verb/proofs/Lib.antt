@@ -1,0 +1,2 @@
+-- Laws that the proofs cite.
+pub mod Answered  -- the text of a walk, from what the walk gives
