@@ -8,8 +8,8 @@ use Rattle.model.specs.Field.{bit, unit, weigh}
 use Rattle.model.specs.Walk.{WalkAnswer, apart, together, spent, tryReplies, tryChallenges, examine, walk}
 use Rattle.model.specs.Sheet.{fieldsOffset, totalOf, counts, lineOf, cardOf, fieldOf}
 use Rattle.model.specs.Refusal.{firstOf, headerChecks, lineChecks, sheetChecks, walkChecks}
-use Rattle.model.specs.Answer.{Answer, refused, given, Session, Walked, within, fullWalk, walkOf}
-use Rattle.model.specs.Days.{WalkCall, walkBy, Made, callsBy, madeBy, day, leftAfter, sum}
+use Rattle.model.specs.Answer.{refused, given, Session, Walked, within, fullWalk, walkOf}
+use Rattle.model.specs.Days.{WalkCall, walkBy, callsBy, madeBy, day, leftAfter, answersOf, drawsOf, sum}
 use Rattle.model.proofs.Worked.{chain}
 
 -- What each of the eight desks has left.
@@ -62,13 +62,7 @@ desks-worked = refl
 abbrev pub calls : List WalkCall
 calls = asks chain 1 ∷ asks chain 2 ∷ asks [] 1 ∷ asks chain 8 ∷ asks chain 2 ∷ wrong chain 2 ∷ asks chain 1 ∷ asks chain 1 ∷ []
 
--- What the calls are told, and what they draw, and the session that the last one leaves.
-abbrev answersOf : List (Made Walked) → List (Answer WalkAnswer)
-answersOf ms = map (λ m. m .walked .answer) ms
-
-abbrev drawsOf : List (Made Walked) → List ℕ
-drawsOf ms = map (λ m. m .walked .drawn) ms
-
+-- What its calls are told, what they draw, and the session that the last one leaves.
 pub day-worked : (answersOf (day calls opened) ≡ (given (apart 2) ∷ given spent ∷ refused 1 0 ∷ refused 16 0 ∷ given spent ∷ refused 11 0 ∷ given (apart 2) ∷ given spent ∷ []))
     × (drawsOf (day calls opened) ≡ (10 ∷ 9 ∷ 0 ∷ 0 ∷ 0 ∷ 0 ∷ 10 ∷ 0 ∷ []))
     × (leftAfter opened (day calls opened) ≡ session 10 0 0 30 0 11 40 50)

@@ -1,9 +1,10 @@
 -- Walks one after another, "each made on the session that the last one left" (request 4 of document 02).
-use mathlib.Core.List.{List, [], _∷_}
+use mathlib.Core.List.{List, [], _∷_, map}
 use Prim.Native.Nat.{ℕ, _+_}
 use lib.Dec.{eqb}
 use Rattle.model.specs.Finite.{keep}
-use Rattle.model.specs.Answer.{Session, Walked, walkOf}
+use Rattle.model.specs.Walk.{WalkAnswer}
+use Rattle.model.specs.Answer.{Answer, Session, Walked, walkOf}
 
 -- A walk as it is asked for: any sheet, field numbers, round limit and desk.
 pub record WalkCall : Type 0 where
@@ -37,6 +38,13 @@ day (x ∷ xs) v = let w = walkBy x v in record { call = x; walked = w } ∷ day
 unfoldable pub leftAfter : Session → List (Made Walked) → Session
 leftAfter v [] = v
 leftAfter v (m ∷ ms) = leftAfter (m .walked .after) ms
+
+-- What the calls were told, and what they drew, in their order.
+abbrev pub answersOf : List (Made Walked) → List (Answer WalkAnswer)
+answersOf ms = map (λ m. m .walked .answer) ms
+
+abbrev pub drawsOf : List (Made Walked) → List ℕ
+drawsOf ms = map (λ m. m .walked .drawn) ms
 
 -- The sum of a list.
 unfoldable pub sum : List ℕ → ℕ

@@ -10,8 +10,8 @@ use Rattle.model.specs.Field.{at}
 use Rattle.model.specs.Walk.{WalkAnswer, Walk}
 use Rattle.model.specs.Refusal.{Finding, clear, refusal, firstOf, walkChecks}
 use Rattle.model.specs.Answer.{Answer, given, Session, Walked, within, fullWalk, walkOf}
-use Rattle.model.specs.Days.{WalkCall, walkBy, Made, callsBy, madeBy, day, leftAfter, sum}
-use Rattle.theory.specs.Days.{answersOf, drawsOf, Day}
+use Rattle.model.specs.Days.{WalkCall, walkBy, Made, callsBy, madeBy, day, leftAfter, answersOf, drawsOf, sum}
+use Rattle.theory.specs.Days.{Day}
 use Rattle.theory.proofs.Exec.{Tells, tells-eq}
 use Rattle.theory.proofs.Answers.{walk-clear, demand1}
 

@@ -1,18 +1,10 @@
 -- What is claimed of walks made one after another (request 4 of document 02): the desks of a session do not touch one another.
-use mathlib.Core.List.{List, map}
+use mathlib.Core.List.{List}
 use mathlib.Core.Path.{_≡_}
 use Prim.Native.Nat.{ℕ, _+_}
 use Rattle.model.specs.Field.{at}
-use Rattle.model.specs.Walk.{WalkAnswer}
-use Rattle.model.specs.Answer.{Answer, Session, Walked}
-use Rattle.model.specs.Days.{WalkCall, Made, callsBy, madeBy, day, leftAfter, sum}
-
--- What the calls were told, and what they drew, in their order.
-abbrev pub answersOf : List (Made Walked) → List (Answer WalkAnswer)
-answersOf ms = map (λ m. m .walked .answer) ms
-
-abbrev pub drawsOf : List (Made Walked) → List ℕ
-drawsOf ms = map (λ m. m .walked .drawn) ms
+use Rattle.model.specs.Answer.{Session}
+use Rattle.model.specs.Days.{WalkCall, callsBy, madeBy, day, leftAfter, answersOf, drawsOf, sum}
 
 -- Of any calls, "each made on the session that the last one left", whatever sheets, fields, limits and desks they name, of the session v that the first is made on, and of desk d.
 pub record Day (calls : List WalkCall) (v : Session) (d : ℕ) : Type 0 where

@@ -76,12 +76,12 @@ own-is d (m ∷ ms) = go (eqb (m .call .desk) d) (own-is d ms)
     go true e = ap (λ (l : List (Made model.Walked)). modelOf m ∷ l) e
     go false e = e
 
-answers-are : (ms : List (Made Walked)) → map answerOf (answersOf ms) ≡ claims.answersOf (map modelOf ms)
+answers-are : (ms : List (Made Walked)) → map answerOf (answersOf ms) ≡ calls.answersOf (map modelOf ms)
 unfolding modelOf
 answers-are [] = refl
 answers-are (m ∷ ms) = ap (λ (l : List (model.Answer WalkAnswer)). answerOf (m .walked .answer) ∷ l) (answers-are ms)
 
-draws-are : (ms : List (Made Walked)) → drawsOf ms ≡ claims.drawsOf (map modelOf ms)
+draws-are : (ms : List (Made Walked)) → drawsOf ms ≡ calls.drawsOf (map modelOf ms)
 unfolding modelOf
 draws-are [] = refl
 draws-are (m ∷ ms) = ap (λ (l : List ℕ). m .walked .drawn ∷ l) (draws-are ms)
@@ -93,20 +93,20 @@ module _ (before : Session) (ms : List (Made Walked)) (made : InTurn before ms) 
       ap (λ (v : model.Session). at (v .left) d) (left-is before ms)
       ∙ ap (λ (l : List (Made model.Walked)). at (calls.leftAfter (sessionOf before) l .left) d) (in-turn before ms made)
 
-  answers-of : map answerOf (answersOf ms) ≡ claims.answersOf (day (callsOf ms) (sessionOf before))
-  answers-of = answers-are ms ∙ ap claims.answersOf (in-turn before ms made)
+  answers-of : map answerOf (answersOf ms) ≡ calls.answersOf (day (callsOf ms) (sessionOf before))
+  answers-of = answers-are ms ∙ ap calls.answersOf (in-turn before ms made)
 
-  draws-of : drawsOf ms ≡ claims.drawsOf (day (callsOf ms) (sessionOf before))
-  draws-of = draws-are ms ∙ ap claims.drawsOf (in-turn before ms made)
+  draws-of : drawsOf ms ≡ calls.drawsOf (day (callsOf ms) (sessionOf before))
+  draws-of = draws-are ms ∙ ap calls.drawsOf (in-turn before ms made)
 
   own-of : (d : ℕ) → map modelOf (madeBy d ms) ≡ madeBy d (day (callsOf ms) (sessionOf before))
   own-of d = own-is d ms ∙ ap (madeBy d) (in-turn before ms made)
 
-  own-answers-of : (d : ℕ) → map answerOf (answersOf (madeBy d ms)) ≡ claims.answersOf (madeBy d (day (callsOf ms) (sessionOf before)))
-  own-answers-of d = answers-are (madeBy d ms) ∙ ap claims.answersOf (own-of d)
+  own-answers-of : (d : ℕ) → map answerOf (answersOf (madeBy d ms)) ≡ calls.answersOf (madeBy d (day (callsOf ms) (sessionOf before)))
+  own-answers-of d = answers-are (madeBy d ms) ∙ ap calls.answersOf (own-of d)
 
-  own-draws-of : (d : ℕ) → drawsOf (madeBy d ms) ≡ claims.drawsOf (madeBy d (day (callsOf ms) (sessionOf before)))
-  own-draws-of d = draws-are (madeBy d ms) ∙ ap claims.drawsOf (own-of d)
+  own-draws-of : (d : ℕ) → drawsOf (madeBy d ms) ≡ calls.drawsOf (madeBy d (day (callsOf ms) (sessionOf before)))
+  own-draws-of d = draws-are (madeBy d ms) ∙ ap calls.drawsOf (own-of d)
 
 pub day-means : (before : Session) (ms : List (Made Walked)) → InTurn before ms → (d : ℕ) → DayMeans before ms d
 day-means before ms made d =
@@ -116,8 +116,8 @@ day-means before ms made d =
       draws-sum = omega (arith, left-of before ms made d, ap sum (own-draws-of before ms made d), D .draws-sum);
       own = λ alone turns asked. (
         answers-only (answersOf (madeBy d ms)) (answersOf alone)
-            (own-answers-of before ms made d ∙ D .own-answers ∙ ap (λ (l : List WalkCall). claims.answersOf (day l v)) (sym asked) ∙ sym (answers-of before alone turns)),
-        own-draws-of before ms made d ∙ D .own-draws ∙ ap (λ (l : List WalkCall). claims.drawsOf (day l v)) (sym asked) ∙ sym (draws-of before alone turns),
+            (own-answers-of before ms made d ∙ D .own-answers ∙ ap (λ (l : List WalkCall). calls.answersOf (day l v)) (sym asked) ∙ sym (answers-of before alone turns)),
+        own-draws-of before ms made d ∙ D .own-draws ∙ ap (λ (l : List WalkCall). calls.drawsOf (day l v)) (sym asked) ∙ sym (draws-of before alone turns),
         left-of before ms made d ∙ D .own-left ∙ ap (λ (l : List WalkCall). at (calls.leftAfter v (day l v) .left) d) (sym asked) ∙ sym (left-of before alone turns d),
       );
       only-own = λ other ns turns asked same.
