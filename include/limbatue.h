@@ -1,4 +1,4 @@
-/* limbatue.h: race cards, fields and their prime forms. The verified library, version 0.5.0, for C99, C++11 and whatever calls C.
+/* limbatue.h: race cards, fields and their prime forms. The verified library, version 0.6.0, for C99, C++11 and whatever calls C.
  *
  * Link liblimbatue.a. Where it is installed, `pkg-config --cflags --libs limbatue` prints the options; in the repository, tools/archive proves it and writes
  * target/lib/liblimbatue.a. It is for Linux on x86-64, for programs and shared libraries alike. docs/SHEET.md tells what the bytes of a sheet are.
@@ -37,6 +37,7 @@
  *   13      0      the round limit is over 8
  *   14      0      the field or the size is over 16 tokens
  *   15      0      no field of this size has so large a number
+ *   17      1      the squad is empty
  *   12      0      a buffer or table is too short
  */
 #ifndef LIMBATUE_H
@@ -50,8 +51,8 @@ extern "C" {
 #endif
 
 /* The version: 10000 x major + 100 x minor + patch. */
-#define LIMBATUE_VERSION 500
-#define LIMBATUE_VERSION_TEXT "0.5.0"
+#define LIMBATUE_VERSION 600
+#define LIMBATUE_VERSION_TEXT "0.6.0"
 
 /* Of what a call returned. */
 #define LIMBATUE_NUMBER(returned) ((returned) & 255u)
@@ -75,7 +76,8 @@ enum {
     LIMBATUE_REFUSED_ROUND_LIMIT = 13,
     LIMBATUE_REFUSED_SIZE = 14,
     LIMBATUE_REFUSED_SHELF_NUMBER = 15,
-    LIMBATUE_REFUSED_DESK = 16
+    LIMBATUE_REFUSED_DESK = 16,
+    LIMBATUE_REFUSED_EMPTY_SQUAD = 17
 };
 
 /* answer[0] of Compare; answer[0] of Walk. */
@@ -104,10 +106,11 @@ enum { LIMBATUE_TOGETHER = 0, LIMBATUE_APART = 1, LIMBATUE_SPENT = 2 };
 #define LIMBATUE_WALK_ANSWER 3
 #define LIMBATUE_PAGE_ANSWER 1
 #define LIMBATUE_SHELF_NUMBER_ANSWER 2
+#define LIMBATUE_SQUADS_ANSWER 1
 
 /* Bytes of stack that must be left where a call is made. Taken are, as measured: settle 131,064, compare 127,608, prime form 131,400, walk 79,920 at most, page
- * 215,224, shelf number 6,296, shelf field 6,408, the others under 256. Stated is each with 4,096 more, for memcpy, memset and the loader, which may be asked for
- * them at a first call, and rounded up to pages of 4,096. In the repository ./stack measures the archive again, and fails where under 4,096 are left. */
+ * 215,224, shelf number 6,296, shelf field 6,408, squads 135,688, the others under 256. Stated is each with 4,096 more, for memcpy, memset and the loader, which may be
+ * asked for them at a first call, and rounded up to pages of 4,096. In the repository ./stack measures the archive again, and fails where under 4,096 are left. */
 #define LIMBATUE_VERSION_STACK 8192
 #define LIMBATUE_NUMBERS_STACK 8192
 #define LIMBATUE_SETTLE_STACK 135168
@@ -118,6 +121,7 @@ enum { LIMBATUE_TOGETHER = 0, LIMBATUE_APART = 1, LIMBATUE_SPENT = 2 };
 #define LIMBATUE_PAGE_STACK 221184
 #define LIMBATUE_SHELF_NUMBER_STACK 12288
 #define LIMBATUE_SHELF_FIELD_STACK 12288
+#define LIMBATUE_SQUADS_STACK 143360
 #define LIMBATUE_STACK_MOST LIMBATUE_PAGE_STACK
 
 /* The version of the library that was linked; LIMBATUE_VERSION is that of this header. */
@@ -163,6 +167,11 @@ uint32_t limbatue_shelf_number(const uint8_t *sheet, size_t sheet_length, size_t
 /* Shelf field: of the fields of a size the one of that number, whether or not the sheet has it. Reads the sheet. Writes n counts. It has no answer array.
  * Refuses 1 to 10, 12, 14 and 15. */
 uint32_t limbatue_shelf_field(const uint8_t *sheet, size_t sheet_length, size_t size, uint64_t number, uint16_t *counts, size_t counts_length);
+
+/* Squads: how often a field, the squad, goes into another, the whole. The two may be one field. Reads the sheet. Writes n counts, the prime form of the remainder:
+ * q times the prime form of the squad and it are the prime form of the whole.
+ * answer[0]: q, the largest number such that the whole is the same as q squads joined with some remainder. Refuses 1 to 12, and 17. */
+uint32_t limbatue_squads(const uint8_t *sheet, size_t sheet_length, size_t whole, size_t squad, uint64_t *remainder, size_t remainder_length, uint64_t *answer, size_t answer_length);
 
 #ifdef __cplusplus
 }

@@ -16,6 +16,8 @@ static ucontext_t here, there;
 
 /* What a call is made with, and what it returned. */
 static uint8_t sheet[LIMBATUE_SHEET_MOST + 1], page[LIMBATUE_PAGE_MOST];
+/* The sheet with an odd number of tokens of kind 0 in field 0: an empty squad is refused, and nothing is divided. */
+static uint8_t with_squad[LIMBATUE_SHEET_MOST + 1];
 static uint32_t table[LIMBATUE_TABLE_MOST], session[LIMBATUE_DESKS], returned;
 static uint64_t counts[LIMBATUE_COUNTS_MOST], answer[4];
 static uint16_t field[LIMBATUE_COUNTS_MOST];
@@ -32,6 +34,7 @@ static void write_page(void) { returned = limbatue_page(sheet, length, page, LIM
 static void shelf_number(void) { returned = limbatue_shelf_number(sheet, length, last, answer, LIMBATUE_SHELF_NUMBER_ANSWER); }
 /* Of the fields of 16 tokens there is a number 16 where there are two kinds or more. */
 static void shelf_field(void) { returned = limbatue_shelf_field(sheet, length, LIMBATUE_TOKENS_MOST, 16, field, LIMBATUE_COUNTS_MOST); }
+static void squads(void) { returned = limbatue_squads(with_squad, length, last, 0, counts, LIMBATUE_COUNTS_MOST, answer, LIMBATUE_SQUADS_ANSWER); }
 
 static struct {
     const char *name;
@@ -49,6 +52,7 @@ static struct {
     { "page", write_page, LIMBATUE_PAGE_STACK, 0, 0 },
     { "shelf_number", shelf_number, LIMBATUE_SHELF_NUMBER_STACK, 0, 0 },
     { "shelf_field", shelf_field, LIMBATUE_SHELF_FIELD_STACK, 0, 0 },
+    { "squads", squads, LIMBATUE_SQUADS_STACK, 0, 0 },
 };
 enum { CALLS = sizeof calls / sizeof calls[0] };
 
@@ -85,7 +89,12 @@ static void read_sheet(const char *name)
     if (ferror(file))
         fail("can not read ", name);
     fclose(file);
-    last = limbatue_numbers(sheet, length, answer, LIMBATUE_NUMBERS_ANSWER) == 0 && answer[3] > 0 ? (size_t)answer[3] - 1 : 0;
+    memcpy(with_squad, sheet, sizeof sheet);
+    last = 0;
+    if (limbatue_numbers(sheet, length, answer, LIMBATUE_NUMBERS_ANSWER) == 0 && answer[3] > 0) {
+        last = (size_t)answer[3] - 1;
+        with_squad[20 + answer[2] * (2 + answer[0])] |= 1;
+    }
 }
 
 static void measure(void)

@@ -49,6 +49,7 @@ static uint32_t compare(size_t first, size_t second) { return limbatue_compare(s
 static uint32_t walk(size_t first, size_t second, size_t desk) { return limbatue_walk(sheet, length, first, second, 8, desk, session, LIMBATUE_DESKS, answer, LIMBATUE_WALK_ANSWER); }
 static uint32_t shelf_number(size_t field) { return limbatue_shelf_number(sheet, length, field, answer, LIMBATUE_SHELF_NUMBER_ANSWER); }
 static uint32_t shelf_field(size_t size, uint64_t number) { return limbatue_shelf_field(sheet, length, size, number, shelved, LIMBATUE_COUNTS_MOST); }
+static uint32_t squads(size_t whole, size_t squad) { return limbatue_squads(sheet, length, whole, squad, counts, LIMBATUE_COUNTS_MOST, answer, LIMBATUE_SQUADS_ANSWER); }
 
 /* The numbers of a sheet, or the refusal of a small one of which one part was changed. */
 static int has_numbers(size_t kinds, size_t codes, size_t lines, size_t fields)
@@ -283,6 +284,88 @@ static void test_shelf_field(void)
     EXPECT(REFUSED(shelf_field(LIMBATUE_TOKENS_MOST + 1, 0), LIMBATUE_REFUSED_NO_NORM, 2));
 }
 
+/* Two prime kinds, 0 and 1; kind 2 is the same as one of each. Field 0 is 5 7 3, of the prime form 8 10 0; field 1 is 0 1 1, of the form 1 2 0; field 2 is 0 2 0;
+ * field 3 is empty. */
+static void make_squads(void)
+{
+    make_sheet(3, 2, 4, 4);
+    put(20 + 1 * 5 + 1, 1, 1); /* kind 1 reads code 1 */
+    put(20 + 2 * 5 + 3, 1, 1); /* kind 2 reads code 0 and leaves one of kind 1 */
+    put(20 + 3 * 5, 3, 2 + 256 * 1 + 65536 * 1); /* kind 2 reads code 1 and leaves one of kind 0 */
+    put_count(0, 0, 5);
+    put_count(0, 1, 7);
+    put_count(0, 2, 3);
+    put_count(1, 1, 1);
+    put_count(1, 2, 1);
+    put_count(2, 1, 2);
+}
+
+/* Whether the first three counts are these, and the one past them is as it was filled. */
+static int remains(uint64_t first, uint64_t second, uint64_t third) { return counts[0] == first && counts[1] == second && counts[2] == third && counts[3] == UINT64_MAX; }
+
+static void test_squads(void)
+{
+    const uint64_t norm = 16646656; /* of kind 3, below */
+    make_squads();
+    memset(counts, 255, sizeof counts);
+    memset(answer, 7, sizeof answer);
+    EXPECT(squads(0, 1) == LIMBATUE_DONE && answer[0] == 5 && remains(3, 0, 0));
+    EXPECT(squads(0, 2) == LIMBATUE_DONE && answer[0] == 5 && remains(8, 0, 0));
+    EXPECT(squads(0, 0) == LIMBATUE_DONE && answer[0] == 1 && remains(0, 0, 0));
+    EXPECT(squads(1, 0) == LIMBATUE_DONE && answer[0] == 0 && remains(1, 2, 0));
+    EXPECT(squads(1, 2) == LIMBATUE_DONE && answer[0] == 1 && remains(1, 0, 0));
+    EXPECT(squads(2, 1) == LIMBATUE_DONE && answer[0] == 0 && remains(0, 2, 0));
+    EXPECT(squads(3, 1) == LIMBATUE_DONE && answer[0] == 0 && remains(0, 0, 0)); /* a whole that is empty */
+    EXPECT(counts[LIMBATUE_COUNTS_MOST - 1] == UINT64_MAX && answer[1] == answer[3] && answer[2] == answer[3] && answer[3] % 256 == 7);
+    /* with room for the three counts alone, and with one element more of the answer array */
+    EXPECT(limbatue_squads(sheet, length, 0, 1, counts, 3, answer, LIMBATUE_SQUADS_ANSWER + 1) == LIMBATUE_DONE && answer[0] == 5 && answer[1] == answer[3] && remains(3, 0, 0));
+    make_fields(); /* every kind is the same as kind 0 */
+    EXPECT(squads(2, 1) == LIMBATUE_DONE && answer[0] == 2 && counts[0] == 0 && counts[31] == 0);
+    EXPECT(squads(0, 2) == LIMBATUE_DONE && answer[0] == 0 && counts[0] == 1 && counts[1] == 0);
+    put_count(2, 31, 65535);
+    put_count(1, 0, 2);
+    EXPECT(squads(2, 1) == LIMBATUE_DONE && answer[0] == 21845 && counts[0] == 2 && counts[31] == 0);
+    make_sheet(4, 1, 4, 3); /* 1 leaves 255 of 0, 2 leaves 255 of 1, 3 leaves 255 of 2: each is the same as so many of 0 as its norm says */
+    sheet[20 + 1 * 6 + 2] = sheet[20 + 2 * 6 + 3] = sheet[20 + 3 * 6 + 4] = 255;
+    put_count(0, 3, 65535);
+    put_count(1, 0, 1);
+    put_count(2, 3, 65535);
+    put_count(2, 0, 1);
+    EXPECT(squads(0, 1) == LIMBATUE_DONE && answer[0] == 65535 * norm && counts[0] == 0 && counts[3] == 0);
+    EXPECT(squads(0, 2) == LIMBATUE_DONE && answer[0] == 0 && counts[0] == 65535 * norm && counts[3] == 0);
+}
+
+/* Each refusal before the next, with all that the later ones refuse given too; nothing changes. */
+static void test_refused_squads(void)
+{
+    size_t i;
+    make_squads();
+    memset(counts, 255, sizeof counts);
+    memset(answer, 7, sizeof answer);
+    EXPECT(REFUSED(limbatue_squads(sheet, 0, 4, 4, counts, 2, answer, 0), LIMBATUE_REFUSED_NO_HEADER, 0));
+    EXPECT(REFUSED(limbatue_squads(sheet, length - 1, 4, 4, counts, 2, answer, 0), LIMBATUE_REFUSED_LAYOUT, 3));
+    EXPECT(REFUSED(limbatue_squads(sheet, length, 4, 4, counts, 2, answer, 0), LIMBATUE_REFUSED_NUMBER, 0));
+    EXPECT(REFUSED(limbatue_squads(sheet, length, SIZE_MAX, 3, counts, 2, answer, 0), LIMBATUE_REFUSED_NUMBER, 0));
+    EXPECT(REFUSED(limbatue_squads(sheet, length, 0, 4, counts, 2, answer, 0), LIMBATUE_REFUSED_NUMBER, 1));
+    EXPECT(REFUSED(limbatue_squads(sheet, length, 3, (size_t)UINT64_C(4294967296), counts, 2, answer, 0), LIMBATUE_REFUSED_NUMBER, 1));
+    EXPECT(REFUSED(limbatue_squads(sheet, length, 0, 3, counts, 2, answer, 0), LIMBATUE_REFUSED_EMPTY_SQUAD, 1));
+    EXPECT(REFUSED(limbatue_squads(sheet, length, 3, 3, counts, 0, answer, 0), LIMBATUE_REFUSED_EMPTY_SQUAD, 1));
+    EXPECT(REFUSED(limbatue_squads(sheet, length, 0, 1, counts, 2, answer, LIMBATUE_SQUADS_ANSWER), LIMBATUE_REFUSED_TOO_SHORT, 0));
+    EXPECT(REFUSED(limbatue_squads(sheet, length, 3, 1, counts, 0, answer, LIMBATUE_SQUADS_ANSWER), LIMBATUE_REFUSED_TOO_SHORT, 0));
+    EXPECT(REFUSED(limbatue_squads(sheet, length, 0, 1, counts, 3, answer, LIMBATUE_SQUADS_ANSWER - 1), LIMBATUE_REFUSED_TOO_SHORT, 0));
+    EXPECT(REFUSED(limbatue_squads(sheet, length, 0, 1, counts, 2, answer, LIMBATUE_SQUADS_ANSWER - 1), LIMBATUE_REFUSED_TOO_SHORT, 0));
+    /* with room for everything */
+    EXPECT(REFUSED(squads(4, 1), LIMBATUE_REFUSED_NUMBER, 0) && REFUSED(squads(0, 4), LIMBATUE_REFUSED_NUMBER, 1));
+    EXPECT(REFUSED(squads(0, 3), LIMBATUE_REFUSED_EMPTY_SQUAD, 1) && REFUSED(squads(3, 3), LIMBATUE_REFUSED_EMPTY_SQUAD, 1));
+    make_sheet(3, 2, 2, 1); /* kind 2 has no line; field 0 is empty */
+    EXPECT(REFUSED(squads(0, 0), LIMBATUE_REFUSED_NO_NORM, 2) && REFUSED(squads(1, 1), LIMBATUE_REFUSED_NO_NORM, 2));
+    make_sheet(3, 2, 3, 0); /* no field */
+    EXPECT(REFUSED(squads(0, 0), LIMBATUE_REFUSED_NUMBER, 0));
+    for (i = 0; i < LIMBATUE_COUNTS_MOST; i++)
+        EXPECT(counts[i] == UINT64_MAX);
+    EXPECT(answered(answer[3], answer[3], answer[3]) && answer[3] % 256 == 7);
+}
+
 int main(void)
 {
     test_version();
@@ -295,5 +378,7 @@ int main(void)
     test_page();
     test_shelf_number();
     test_shelf_field();
+    test_squads();
+    test_refused_squads();
     return failures != 0;
 }

@@ -71,4 +71,14 @@ unsafe extern "C" {
         counts: *mut u16,
         counts_length: usize,
     ) -> u32;
+    pub fn limbatue_squads(
+        sheet: *const u8,
+        sheet_length: usize,
+        whole: usize,
+        squad: usize,
+        remainder: *mut u64,
+        remainder_length: usize,
+        answer: *mut u64,
+        answer_length: usize,
+    ) -> u32;
 }

@@ -13,6 +13,7 @@
 //! | how a bounded game on two fields ends | [`walk`], [`Session`] | |
 //! | the size of a small field, and its number among the fields of that size | [`shelf_number`] | |
 //! | the field of a size and a number | [`shelf_field`] | [`shelf_field_into`] |
+//! | how often a field goes into another, and what remains | [`squads`], [`Squads`] | [`squads_into`] |
 //!
 //! Every function may be given any bytes and any numbers. What it can not do it refuses: a [`Refusal`] says why and where, and whatever was lent is as it was.
 //! The functions keep no state, so any number of threads may call them. A call takes under 256 KB of stack (`include/limbatue.h` has each call's figure).
@@ -49,11 +50,13 @@ mod ffi;
 mod refusal;
 mod settled;
 mod shelf;
+mod squads;
 mod walk;
 
 pub use refusal::{Reason, Refusal};
 pub use settled::Settled;
 pub use shelf::{ShelfNumber, shelf_field, shelf_field_into, shelf_number};
+pub use squads::{Squads, squads, squads_into};
 pub use walk::{Session, Walked, walk};
 
 /// The bytes of the longest sheet that can be accepted.
@@ -79,7 +82,7 @@ pub const SHEET_MOST: usize = 12_820;
 /// ```
 pub const TABLE_MOST: usize = 1024;
 
-/// The counts of a prime form, or of a field found by its number, for any sheet.
+/// The counts of a prime form, of a field found by its number, or of what remains beside squads, for any sheet.
 ///
 /// ```
 /// let mut counts = [0; limbatue::COUNTS_MOST];

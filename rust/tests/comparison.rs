@@ -1,9 +1,10 @@
 //! The library against the independent implementation: every answer, every buffer, what stands before and past it, and every session after each of its walks; and what is promised of the desks
-//! of a session, over whole days, on both. The comparison and the days are tried themselves too: they find each kind of difference, and each broken promise.
+//! of a session, over whole days, and of squads, by Compare and Prime form, on both. The comparison, the days and the squads are tried themselves too: they find each kind of difference, and each broken promise.
 
 use std::collections::BTreeSet;
 use std::fmt::Debug;
 
+use independent::base::Refinement;
 use independent::calls::{
     Answer, Call, Comparison, Implementation, Lent, Margined, Walk, compare_implementations, independent,
     independent_walk, row_place,
@@ -11,9 +12,12 @@ use independent::calls::{
 use independent::days::{Promise, play_days};
 use independent::filer::Verdict;
 use independent::generator::sample;
+use independent::joining::{Promise as Joining, try_squads};
+use independent::norm::accept;
 use independent::page::page;
 use independent::sheet::{Numbers, Refusal};
 use independent::shelf::ShelfNumber;
+use independent::squads::squads;
 use independent::walker::{Answer as Found, DESKS, Walked, walk_lent};
 
 /// The crate's own declarations of the C functions.
@@ -73,6 +77,10 @@ fn call_library(call: &Call, lent: &mut Lent, entries: usize) -> (u32, Margined<
                 let counts = lent.field.lent_mut();
                 ffi::limbatue_shelf_field(sheet, bytes, size, number, counts.as_mut_ptr(), counts.len())
             }
+            Call::Squads { whole, squad, .. } => {
+                let remainder = lent.counts.lent_mut();
+                ffi::limbatue_squads(sheet, bytes, whole, squad, remainder.as_mut_ptr(), remainder.len(), values, room)
+            }
         }
     };
     (code, array)
@@ -103,7 +111,7 @@ fn call_walk(walk: &Walk, lent: &mut Lent, entries: usize) -> (u32, Margined<u64
 /// How many values the answer of a call has; of a day, that of each walk.
 fn values_of(call: &Call) -> usize {
     match call {
-        Call::Settle { .. } | Call::Page { .. } => 1,
+        Call::Settle { .. } | Call::Page { .. } | Call::Squads { .. } => 1,
         Call::RowCheck { .. } | Call::Row { .. } | Call::ShelfNumber { .. } => 2,
         Call::Compare { .. } | Call::Day(_) => 3,
         Call::Numbers => 4,
@@ -162,6 +170,7 @@ fn library(call: &Call, lent: &mut Lent) -> Answer {
         Call::Numbers => numbers(values[0] as _, values[1] as _, values[2] as _, values[3] as _),
         Call::ShelfNumber { .. } => Answer::ShelfNumber(ShelfNumber { size: values[0], number: values[1] }),
         Call::ShelfField { .. } => Answer::FieldWritten,
+        Call::Squads { .. } => Answer::Squads { count: values[0] },
     }
 }
 
@@ -261,6 +270,8 @@ fn wrappers(call: &Call, lent: &mut Lent) -> Answer {
         }),
         Call::ShelfField { size, number, .. } => limbatue::shelf_field_into(sheet, size, number, lent.field.lent_mut())
             .map_or_else(refused, |()| Answer::FieldWritten),
+        Call::Squads { whole, squad, .. } => limbatue::squads_into(sheet, whole, squad, lent.counts.lent_mut())
+            .map_or_else(refused, |count| Answer::Squads { count }),
     }
 }
 
@@ -290,6 +301,9 @@ fn owned_forms(call: &Call, lent: &mut Lent) -> Answer {
         }
         Call::ShelfField { size, number, .. } => limbatue::shelf_field(sheet, size, number)
             .map_or_else(refused, |counts| written(&counts, lent.field.lent_mut(), Answer::FieldWritten)),
+        Call::Squads { whole, squad, .. } => limbatue::squads(sheet, whole, squad).map_or_else(refused, |found| {
+            written(&found.remainder, lent.counts.lent_mut(), Answer::Squads { count: found.count })
+        }),
         _ => wrappers(call, lent),
     }
 }
@@ -582,5 +596,207 @@ fn a_broken_promise_is_found() {
         let played = play_days(SEED, 0..1_000, wrong);
         println!("{name}: {played:?}");
         assert!(promises.iter().eq(played.broken.keys()), "{name}: {played:?}");
+    }
+}
+
+/// Makes a call of Squads on its sheet and a buffer.
+type Divider = fn(&[u8], usize, usize, &mut [u64]) -> Result<u64, Refusal>;
+
+/// Makes the calls of Squads by a function, and all others on the independent side.
+fn with_divider(call: &Call, lent: &mut Lent, divider: Divider) -> Answer {
+    match *call {
+        Call::Squads { whole, squad, .. } => divider(lent.sheets[0].lent(), whole, squad, lent.counts.lent_mut())
+            .map_or_else(Answer::Refused, |count| Answer::Squads { count }),
+        _ => independent(call, lent),
+    }
+}
+
+/// The counts of a field, and its prime form, of an accepted sheet.
+fn counts_and_form(sheet: &[u8], field: usize) -> [Vec<u64>; 2] {
+    let normed = accept(sheet).expect("an accepted sheet");
+    let counts = normed.card.field(field);
+    let form = Refinement::first(&normed).settle().base().form(counts.iter().copied());
+    let form = form[..counts.len()].iter().map(|&count| count as u64).collect();
+    [counts, form]
+}
+
+/// Writes some counts less others, so many times, as far as there are such tokens.
+fn write_less(whole: &[u64], times: u64, squad: &[u64], remainder: &mut [u64]) {
+    for (written, (held, taken)) in remainder.iter_mut().zip(whole.iter().zip(squad)) {
+        *written = held.saturating_sub(times.saturating_mul(*taken));
+    }
+}
+
+/// Divides the counts as they stand on the sheet, and not the prime forms.
+fn divides_the_counts(call: &Call, lent: &mut Lent) -> Answer {
+    with_divider(call, lent, |sheet, whole, squad, remainder| {
+        squads(sheet, whole, squad, remainder)?;
+        let [[whole, _], [squad, _]] = [whole, squad].map(|field| counts_and_form(sheet, field));
+        let quotients = whole.iter().zip(&squad).filter_map(|(held, taken)| held.checked_div(*taken));
+        let count = quotients.min().expect("a squad that is not empty");
+        write_less(&whole, count, &squad, remainder);
+        Ok(count)
+    })
+}
+
+/// Stops one squad before the last that goes in.
+fn one_short(call: &Call, lent: &mut Lent) -> Answer {
+    with_divider(call, lent, |sheet, whole, squad, remainder| {
+        let count = squads(sheet, whole, squad, remainder)?.saturating_sub(1);
+        let [[_, whole], [_, squad]] = [whole, squad].map(|field| counts_and_form(sheet, field));
+        write_less(&whole, count, &squad, remainder);
+        Ok(count)
+    })
+}
+
+/// Goes by the first kind of the squad's prime form alone.
+fn by_the_first_kind(call: &Call, lent: &mut Lent) -> Answer {
+    with_divider(call, lent, |sheet, whole, squad, remainder| {
+        squads(sheet, whole, squad, remainder)?;
+        let [[_, whole], [_, squad]] = [whole, squad].map(|field| counts_and_form(sheet, field));
+        let kind = squad.iter().position(|&taken| taken > 0).expect("a squad that is not empty");
+        let count = whole[kind] / squad[kind];
+        write_less(&whole, count, &squad, remainder);
+        Ok(count)
+    })
+}
+
+/// Takes the squad's prime form away once, however often it goes in.
+fn taken_once(call: &Call, lent: &mut Lent) -> Answer {
+    with_divider(call, lent, |sheet, whole, squad, remainder| {
+        let count = squads(sheet, whole, squad, remainder)?;
+        let [[_, whole], [_, squad]] = [whole, squad].map(|field| counts_and_form(sheet, field));
+        write_less(&whole, count.min(1), &squad, remainder);
+        Ok(count)
+    })
+}
+
+/// Answers in 32 bits.
+fn in_32_bits(call: &Call, lent: &mut Lent) -> Answer {
+    with_divider(call, lent, |sheet, whole, squad, remainder| {
+        Ok(squads(sheet, whole, squad, remainder)? & u64::from(u32::MAX))
+    })
+}
+
+/// Takes the squad for the whole, and the whole for the squad.
+fn the_other_way_round(call: &Call, lent: &mut Lent) -> Answer {
+    with_divider(call, lent, |sheet, whole, squad, remainder| squads(sheet, squad, whole, remainder))
+}
+
+/// Answers 0 to an empty squad, and the whole as what remains.
+fn empty_squad_taken(call: &Call, lent: &mut Lent) -> Answer {
+    with_divider(call, lent, |sheet, whole, squad, remainder| match squads(sheet, whole, squad, remainder) {
+        Err(Refusal { number: 17, .. }) => {
+            let [_, whole] = counts_and_form(sheet, whole);
+            let room = remainder.get_mut(..whole.len()).ok_or(TOO_SHORT)?;
+            room.copy_from_slice(&whole);
+            Ok(0)
+        }
+        other => other,
+    })
+}
+
+/// Refuses an empty squad at the place of the first number.
+fn at_place_0(call: &Call, lent: &mut Lent) -> Answer {
+    with_divider(call, lent, |sheet, whole, squad, remainder| {
+        squads(sheet, whole, squad, remainder).map_err(|refusal| match refusal.number {
+            17 => Refusal { place: 0, ..refusal },
+            _ => refusal,
+        })
+    })
+}
+
+/// Looks at the buffer before the squad.
+fn room_before_squad(call: &Call, lent: &mut Lent) -> Answer {
+    with_divider(call, lent, |sheet, whole, squad, remainder| {
+        squads(sheet, whole, squad, remainder).map_err(|refusal| match accept(sheet) {
+            Ok(normed) if refusal.number == 17 && remainder.len() < normed.card.kinds => TOO_SHORT,
+            _ => refusal,
+        })
+    })
+}
+
+/// Looks at the squad before the number of the whole.
+fn squad_before_number(call: &Call, lent: &mut Lent) -> Answer {
+    with_divider(call, lent, |sheet, whole, squad, remainder| {
+        squads(sheet, whole, squad, remainder).map_err(|refusal| match squads(sheet, squad, squad, remainder) {
+            Err(empty @ Refusal { number: 17, .. }) => empty,
+            _ => refusal,
+        })
+    })
+}
+
+/// Clears the buffer where the squad is empty.
+fn clears_on_refusal(call: &Call, lent: &mut Lent) -> Answer {
+    with_divider(call, lent, |sheet, whole, squad, remainder| {
+        let found = squads(sheet, whole, squad, remainder);
+        if found.is_err_and(|refusal| refusal.number == 17) {
+            remainder.fill(0);
+        }
+        found
+    })
+}
+
+/// Clears the buffer past the counts.
+fn clears_past_the_counts(call: &Call, lent: &mut Lent) -> Answer {
+    with_divider(call, lent, |sheet, whole, squad, remainder| {
+        let kinds = accept(sheet).map_or(0, |normed| normed.card.kinds);
+        let count = squads(sheet, whole, squad, remainder)?;
+        remainder[kinds..].fill(0);
+        Ok(count)
+    })
+}
+
+#[test]
+fn other_squads_are_found() {
+    for (name, wrong) in [
+        ("divides the counts", divides_the_counts as Implementation),
+        ("one short", one_short),
+        ("by the first kind", by_the_first_kind),
+        ("taken once", taken_once),
+        ("in 32 bits", in_32_bits),
+        ("the other way round", the_other_way_round),
+        ("empty squad taken", empty_squad_taken),
+        ("at place 0", at_place_0),
+        ("room before squad", room_before_squad),
+        ("squad before number", squad_before_number),
+        ("clears on refusal", clears_on_refusal),
+        ("clears past the counts", clears_past_the_counts),
+    ] {
+        let comparison = compare_implementations(SEED, 0..2_000, independent, wrong);
+        println!("{name}: {} of {} calls", comparison.differences.len(), comparison.calls);
+        assert!(!comparison.differences.is_empty(), "{name}");
+        for difference in &comparison.differences {
+            assert!(matches!(difference.call, Call::Squads { .. }), "{name}: {difference:?}");
+        }
+    }
+}
+
+#[test]
+fn the_promises_of_squads_are_kept() {
+    for (name, implementation) in
+        [("independent", independent as Implementation), ("library", library), ("wrappers", wrappers)]
+    {
+        let tried = try_squads(SEED, 0..10_000, implementation);
+        println!("{name}: {tried:?}");
+        assert!(tried.broken.is_empty(), "{name}: {tried:?}");
+        assert!(tried.joined > 10_000 && tried.several > 1_000 && tried.of_other_counts > 300, "{name}: {tried:?}");
+        assert!(tried.one_more > 50_000 && tried.obvious > 10_000 && tried.of_equal_norm > 5_000, "{name}: {tried:?}");
+        assert!(tried.forms > 10_000, "{name}: {tried:?}");
+    }
+}
+
+#[test]
+fn a_broken_promise_of_squads_is_found() {
+    for (name, wrong, promises) in [
+        ("divides the counts", divides_the_counts as Implementation, &[Joining::Largest, Joining::Exact][..]),
+        ("one short", one_short, &[Joining::Largest]),
+        ("by the first kind", by_the_first_kind, &[Joining::Joined, Joining::Exact]),
+        ("taken once", taken_once, &[Joining::Joined, Joining::Exact]),
+        ("the other way round", the_other_way_round, &[Joining::Joined, Joining::Largest, Joining::Exact]),
+    ] {
+        let tried = try_squads(SEED, 0..1_000, wrong);
+        println!("{name}: {tried:?}");
+        assert!(promises.iter().eq(tried.broken.keys()), "{name}: {tried:?}");
     }
 }

@@ -10,6 +10,7 @@ use independent::norm::{NormedCard, accept, kind_norms};
 use independent::random::Random;
 use independent::sheet::{MOST_FIELDS, MOST_KINDS, Refusal, read};
 use independent::shelf::{Entries, MOST_TOKENS, ShelfNumber, field_of, number_of, shelf_field, shelf_number};
+use independent::squads::squads;
 use independent::walker::{DESKS, Session, walk};
 
 /// The greatest norm of a kind that is searched.
@@ -147,6 +148,100 @@ fn compare_verdicts(
             }
         }
     }
+    Ok(())
+}
+
+/// What was compared of Squads.
+#[derive(Default, Debug)]
+struct Divided {
+    /// Pairs of a whole and a squad.
+    pairs: u64,
+    /// Pairs given up because the search by definitions took too long.
+    too_large: u64,
+    /// Pairs whose squad goes in twice or more.
+    several: u64,
+    /// Pairs whose squad goes in, and something remains.
+    with_rest: u64,
+    /// Remainders found that are not the one written: each is bisimilar to it, and has a kind that is no prime.
+    other_remainders: u64,
+}
+
+/// Squads by its definition: every number of squads that the norms leave room for is joined with every field of the
+/// norm that is left, and the largest number that is bisimilar to the whole with some of them is the one answered. Of
+/// the fields found with it exactly one has prime kinds alone, and this one is written.
+#[test]
+fn squads_are_the_most_that_can_be_joined() {
+    let mut divided = Divided::default();
+    for number in 0..SHEETS {
+        let bytes = tiny_multiples(number);
+        let Ok(normed) = accept(&bytes) else { continue };
+        if normed.norms.iter().any(|&norm| norm > MOST_NORM) || normed.gain() > 3 {
+            continue;
+        }
+        for whole in 0..normed.card.fields {
+            for squad in 0..normed.card.fields {
+                match divide(number, &bytes, &normed, whole, squad, &mut divided) {
+                    Ok(()) => divided.pairs += 1,
+                    Err(TooLarge) => divided.too_large += 1,
+                }
+            }
+        }
+    }
+    println!("{divided:?}");
+    assert!(divided.pairs > 10_000 && divided.several > 1_000, "{divided:?}");
+    assert!(divided.with_rest > 1_000 && divided.other_remainders > 1_000, "{divided:?}");
+}
+
+/// A small sheet of some family, whose fields are a few tokens, and multiples of the first of them with a few tokens more.
+fn tiny_multiples(number: u64) -> Vec<u8> {
+    let mut random = Random::new(number);
+    let family = random.choose(&FAMILIES);
+    let mut made = draft(family, Size::Tiny, &mut random);
+    let mut tokens = |most: usize| {
+        let mut field = vec![0; made.kinds];
+        for _ in 0..random.between(0, most) {
+            field[random.below(made.kinds)] += 1;
+        }
+        field
+    };
+    let (squad, other, rest) = (tokens(2), tokens(3), tokens(2));
+    let whole = squad.iter().zip(rest).map(|(one, more)| 2 * one + more).collect();
+    made.fields = vec![squad, whole, other];
+    made.bytes()
+}
+
+/// Compares Squads of two fields of one card.
+fn divide(
+    number: u64,
+    bytes: &[u8],
+    normed: &NormedCard,
+    whole: usize,
+    squad: usize,
+    divided: &mut Divided,
+) -> Result<(), TooLarge> {
+    let context = format!("sheet {number} fields {whole} {squad}");
+    let mut remainder = vec![7; normed.card.kinds];
+    let given = squads(bytes, whole, squad, &mut remainder);
+    let [whole, squad]: [Field; 2] = [whole, squad].map(|field| normed.card.field(field));
+    if squad.iter().all(|&tokens| tokens == 0) {
+        assert_eq!(given, Err(Refusal { number: 17, place: 1 }), "{context}");
+        return Ok(());
+    }
+    let mut definitions = Definitions::new(&normed.card, MOST_NORM, 20_000).expect("norms within the search");
+    let settled = definitions.settled_stage()?;
+    let (count, found) = definitions.squads(settled, &whole, &squad)?;
+    assert_eq!(given, Ok(count), "{context}");
+    let primes =
+        (0..normed.card.kinds).map(|kind| definitions.is_prime(settled, kind)).collect::<Result<Vec<_>, _>>()?;
+    let is_prime_form = |field: &Field| field.iter().zip(&primes).all(|(&tokens, &prime)| prime || tokens == 0);
+    let (forms, others): (Vec<Field>, Vec<Field>) = found.into_iter().partition(is_prime_form);
+    assert_eq!(forms, [remainder.clone()], "{context}");
+    for other in &others {
+        assert!(definitions.stage(settled, other, &remainder)?, "{context}");
+    }
+    divided.several += u64::from(count > 1);
+    divided.with_rest += u64::from(count > 0 && remainder.iter().any(|&tokens| tokens > 0));
+    divided.other_remainders += others.len() as u64;
     Ok(())
 }
 

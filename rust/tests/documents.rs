@@ -78,6 +78,12 @@ fn table() -> Vec<Row> {
             refusal: limbatue::shelf_field(&accepted, 16, 17).expect_err("seventeen fields of sixteen tokens"),
         },
         Row {
+            number: 17,
+            place: "1",
+            sentence: "the squad is empty",
+            refusal: limbatue::squads(&sheet("full00"), 0, 2).expect_err("a squad of no tokens"),
+        },
+        Row {
             number: 12,
             place: "0",
             sentence: "a buffer or table is too short",

@@ -3,7 +3,7 @@
 use std::collections::{BTreeMap, BTreeSet};
 
 use independent::base::{Base, Refinement};
-use independent::calls::{Answer, Call, Lent, compare_implementations, day, independent, sheets};
+use independent::calls::{Answer, Call, Lent, calls, compare_implementations, day, independent, sheets};
 use independent::generator::{COSTLY, Damage, FAMILIES, Family, Size, apply, draft, measured, sample};
 use independent::norm::{NORM_LIMIT, NormedCard, accept};
 use independent::page::page;
@@ -53,7 +53,7 @@ fn every_refusal_and_every_answer_is_met() {
     }
     met("settle: stage 32");
     assert_eq!(comparison.differences.len(), 0);
-    // Of walks and of the two calls on shelf numbers each answer is met often.
+    // Of walks, of the two calls on shelf numbers and of squads each answer is met often.
     let often = |name: &str| assert!(comparison.answers.get(name).is_some_and(|&count| count > 100), "{name}");
     for name in ["apart", "together", "spent"] {
         often(&format!("walk: {name}"));
@@ -74,6 +74,71 @@ fn every_refusal_and_every_answer_is_met() {
     {
         often(&format!("shelf {name}"));
     }
+    for name in ["0", "1", "of 16 bits"] {
+        often(&format!("squads: {name}"));
+    }
+    for number in [1, 2, 3, 4, 5, 6, 7, 8, 9, 10, 11, 17, 12] {
+        often(&format!("squads: refused {number}"));
+    }
+    met("squads: of 32 bits");
+    met("squads: of 64 bits");
+}
+
+/// Of what sorts a call of Squads on an accepted sheet is, with the forms and the counts of its fields.
+fn sorts_of_squads(sheet: &[u8], whole: usize, squad: usize, entries: usize) -> BTreeSet<&'static str> {
+    let Ok(normed) = accept(sheet) else { return BTreeSet::new() };
+    let (fields, room) = (normed.card.fields, entries >= normed.card.kinds);
+    if whole >= fields || squad >= fields {
+        let empty = squad < fields && tokens_of(&normed.card.field(squad)) == 0;
+        let others = [
+            ("the number of the whole is too large", squad < fields),
+            ("the number of the squad is too large", whole < fields),
+            ("both numbers are too large", whole >= fields && squad >= fields),
+            ("the number of the whole is too large, and the squad is empty", empty),
+            ("a number is too large, and the buffer too short", !room),
+        ];
+        return others.into_iter().filter(|&(_, there)| there).map(|(name, _)| name).collect();
+    }
+    let call = Call::Squads { whole, squad, entries: normed.card.kinds };
+    let mut lent = Lent::new(&call, &[sheet.to_vec()]);
+    let answer = independent(&call, &mut lent);
+    let [counts, one] = [whole, squad].map(|field| normed.card.field(field));
+    let empty = tokens_of(&one) == 0;
+    let by_counts = counts.iter().zip(&one).filter_map(|(held, taken)| held.checked_div(*taken)).min();
+    let count = if let Answer::Squads { count } = answer { count } else { 0 };
+    let rest = lent.counts.lent().iter().any(|&tokens| tokens > 0);
+    let others = [
+        ("the whole is its own squad", whole == squad && !empty),
+        ("the squad is empty", empty && room),
+        ("the squad is empty, and the buffer too short", empty && !room),
+        ("the squad and the whole are empty", empty && tokens_of(&counts) == 0),
+        ("the whole is empty", !empty && tokens_of(&counts) == 0),
+        ("the buffer is too short", !empty && !room),
+        ("several, and nothing remains", count > 1 && !rest),
+        ("several, and something remains", count > 1 && rest),
+        ("none, of a whole that is not empty", !empty && count == 0 && rest),
+        ("more than by the counts", !empty && by_counts.is_some_and(|by_counts| by_counts < count)),
+        ("over 65,535", count > u64::from(u16::MAX)),
+        ("a count that remains is over 65,535", !empty && lent.counts.lent().iter().any(|&tokens| tokens > 65_535)),
+    ];
+    others.into_iter().filter(|&(_, there)| there).map(|(name, _)| name).collect()
+}
+
+/// What the comparison with the library meets of Squads.
+#[test]
+fn squads_of_every_sort() {
+    let mut sorts: BTreeMap<&str, u64> = BTreeMap::new();
+    for number in 0..20_000 {
+        let sheets = sheets(SEED, number);
+        for call in calls(&sheets, &mut Random::new(SEED.rotate_left(32) ^ number)) {
+            let Call::Squads { whole, squad, entries } = call else { continue };
+            for sort in sorts_of_squads(&sheets[0], whole, squad, entries) {
+                *sorts.entry(sort).or_default() += 1;
+            }
+        }
+    }
+    println!("{sorts:#?}");
+    assert!(sorts.len() == 5 + 12 && sorts.values().all(|&count| count > 50), "{sorts:#?}");
 }
 
 /// What comes up in a day, given the desk and the answer of each walk: refusals beside walks that are not refused, and what several desks are answered.

@@ -1,4 +1,4 @@
-//! The stored pages, walks and shelf numbers, and document 01's examples.
+//! The stored pages, walks, shelf numbers and squads, and document 01's examples.
 
 use std::fs;
 use std::path::{Path, PathBuf};
@@ -7,9 +7,10 @@ use independent::filer::{Verdict, compare, row, settle};
 use independent::page::page;
 use independent::sheet::{Refusal, numbers};
 use independent::shelf::{shelf_field, shelf_number};
+use independent::squads::squads;
 use independent::walker::{Answer, DESKS, Session, walk, walk_lent};
 
-/// The folder of the stored sheets, pages, walks and shelf numbers.
+/// The folder of the stored sheets, pages, walks, shelf numbers and squads.
 fn stored() -> PathBuf {
     Path::new(env!("CARGO_MANIFEST_DIR")).join("testdata")
 }
@@ -94,6 +95,32 @@ fn shelf_numbers_agree() {
 }
 
 #[test]
+fn squads_agree() {
+    let text = fs::read_to_string(stored().join("squads.txt")).expect("squads.txt");
+    for line in text.lines() {
+        let (call, expected) = line.split_once(" = ").expect("a call and its answer");
+        let words: Vec<&str> = call.split(' ').collect();
+        let [whole, squad] = [2, 3].map(|place| words[place].parse().expect("a number"));
+        assert!(words[1] == "squads" && words.len() == 4, "{line}");
+        let bytes = sheet(words[0]);
+        let mut remainder = [7; 32];
+        let given = match squads(&bytes, whole, squad, &mut remainder) {
+            Err(refusal) => {
+                assert_eq!(remainder, [7; 32], "{line}");
+                format!("refused {} {}", refusal.number, refusal.place)
+            }
+            Ok(count) => {
+                let (counts, past) = remainder.split_at(numbers(&bytes).expect("an accepted sheet").kinds);
+                assert!(past.iter().all(|&entry| entry == 7), "{line}");
+                format!("squads {count} = {}", counts.iter().map(u64::to_string).collect::<Vec<_>>().join(" "))
+            }
+        };
+        assert_eq!(given, expected, "{line}");
+    }
+    assert!(text.lines().count() > 300);
+}
+
+#[test]
 fn refused_calls_alter_nothing() {
     let mut table = [7; 3];
     let refusal = settle(&sheet("page36"), &mut table).expect_err("a table of three entries is too short");
@@ -124,6 +151,15 @@ fn refused_calls_alter_nothing() {
         let refusal = shelf_field(&sheet("page36"), size, number, &mut counts).expect_err("one count is too few");
         assert_eq!((refusal.number, refusal.place, counts), (refused, 0, [7; 1]));
     }
+    // 11 comes before 17, of the whole and of the squad, and 17 before 12: field 2 of seven is empty, and two counts are needed.
+    for (whole, squad, refused) in [(7, 7, (11, 0)), (7, 2, (11, 0)), (2, 7, (11, 1)), (2, 2, (17, 1)), (2, 3, (12, 0))]
+    {
+        let mut counts = [7; 1];
+        let refusal = squads(&sheet("full00"), whole, squad, &mut counts).expect_err("one count is too few");
+        assert_eq!((refusal.number, refusal.place), refused);
+        assert_eq!(counts, [7; 1]);
+    }
+    assert_eq!(squads(&no_sheet, 0, 0, &mut []), Err(Refusal { number: 1, place: 0 }));
 }
 
 #[test]

@@ -11,21 +11,21 @@ use Rattle.model.specs.Norm.{kindNorm}
 use Rattle.model.specs.Limits.{normLimit}
 use Rattle.model.specs.Sheet.{u16At, kindCount, lineCount, lineOf, codeCount, cardOf}
 use Rattle.theory.specs.Widths.{Bytes}
-use Rattle.model.specs.Refusal.{Check, check, Finding, clear, refusal, firstOf, headerChecks, lineChecks, normChecks, sheetChecks, acceptChecks, settleChecks, compareChecks, formChecks, walkChecks, rowChecks, shelfNumberChecks, shelfFieldChecks}
-use Rattle.model.specs.Answer.{Answer, refused, given, Lent, Session, Walked, rowCheckOf, settleOf, compareOf, formOf, walkOf, shelfNumberOf, shelfFieldOf}
+use Rattle.model.specs.Refusal.{Check, check, Finding, clear, refusal, firstOf, headerChecks, lineChecks, normChecks, sheetChecks, acceptChecks, settleChecks, compareChecks, formChecks, walkChecks, rowChecks, shelfNumberChecks, shelfFieldChecks, squadsChecks}
+use Rattle.model.specs.Answer.{Answer, refused, given, Lent, Session, Walked, rowCheckOf, settleOf, compareOf, formOf, walkOf, shelfNumberOf, shelfFieldOf, squadsOf}
 use Rattle.theory.proofs.Sheets.{then, first-append}
 use Rattle.arrays.specs.Reply.{codeOf}
 
 abbrev pub Small : Finding → Type 0
 Small clear = Unit {0}
-Small (refusal k p) = (k ≤ 16) × (p ≤ 65535)
+Small (refusal k p) = (k ≤ 255) × (p ≤ 65535)
 
 -- Of a check before others, of two lists of checks, and of a list for each number.
 small-nil : Small (firstOf [])
 unfolding firstOf
 small-nil = tt
 
-small-cons : (k p : ℕ) (b : Bool) (xs : List Check) → k ≤ 16 → p ≤ 65535 → Small (firstOf xs) → Small (firstOf (check k p b ∷ xs))
+small-cons : (k p : ℕ) (b : Bool) (xs : List Check) → k ≤ 255 → p ≤ 65535 → Small (firstOf xs) → Small (firstOf (check k p b ∷ xs))
 unfolding firstOf
 small-cons k p true xs h l r = (h, l)
 small-cons k p false xs h l r = r
@@ -43,12 +43,12 @@ unfolding concat listFrom
 small-all f i zero h = small-nil
 small-all f i (suc m) h = small-append (f i) (concat (listFrom f (suc i) m)) (h i (omega arith)) (small-all f (suc i) m (λ j l. h j (omega arith)))
 
-small-each : (k : ℕ) (b : ℕ → Bool) (i m : ℕ) → k ≤ 16 → i + m ≤ 65536 → Small (firstOf (listFrom (λ j. check k j (b j)) i m))
+small-each : (k : ℕ) (b : ℕ → Bool) (i m : ℕ) → k ≤ 255 → i + m ≤ 65536 → Small (firstOf (listFrom (λ j. check k j (b j)) i m))
 unfolding listFrom
 small-each k b i zero h l = small-nil
 small-each k b i (suc m) h l = small-cons k i (b i) (listFrom (λ j. check k j (b j)) (suc i) m) h (omega arith) (small-each k b (suc i) m h (omega arith))
 
-small-last : (k p : ℕ) (b : Bool) → k ≤ 16 → p ≤ 65535 → Small (firstOf (check k p b ∷ []))
+small-last : (k p : ℕ) (b : Bool) → k ≤ 255 → p ≤ 65535 → Small (firstOf (check k p b ∷ []))
 small-last k p b h l = small-cons k p b [] h l small-nil
 
 pub row-small : (n k size : ℕ) → Small (firstOf (rowChecks n k size))
@@ -128,6 +128,13 @@ module _ (s : List ℕ) (bytes : Bytes s) where
       small-append (acceptChecks s) _ accept-small
       (small-cons 14 0 _ _ (omega arith) (omega arith) (small-cons 15 0 _ _ (omega arith) (omega arith) (small-last 12 0 _ (omega arith) (omega arith))))
 
+  squads-small : (i j size : ℕ) → Small (firstOf (squadsChecks s i j size))
+  unfolding squadsChecks
+  squads-small i j size =
+      small-append (acceptChecks s) _ accept-small
+      (small-cons 11 0 _ _ (omega arith) (omega arith)
+      (small-cons 11 1 _ _ (omega arith) (omega arith) (small-cons 17 1 _ _ (omega arith) (omega arith) (small-last 12 0 _ (omega arith) (omega arith)))))
+
 -- What is refused is what the checks found.
 pub found-fits : (f : Finding) → Small f → (k p : ℕ) → f ≡ refusal k p → codeOf k p < 2 ^ 32
 found-fits clear h k p e = let z : _≡_ {A = ℕ} 0 1 = cc in absurd (omega arith)
@@ -167,6 +174,10 @@ module _ (s : List ℕ) (bytes : Bytes s) (k p : ℕ) where
   unfolding shelfFieldOf
   shelf-field-fits t x buffer =
       refused-fits (λ (y : Lent (Unit {0})). y .answer) _ _ tt refl (λ k p. refl) (firstOf (shelfFieldChecks s t x (length buffer))) (shelf-field-small s bytes t x (length buffer)) k p
+
+  pub squads-fits : (i j : ℕ) (buffer : List ℕ) → squadsOf s i j buffer .answer ≡ refused k p → codeOf k p < 2 ^ 32
+  unfolding squadsOf
+  squads-fits i j buffer = refused-fits (λ (x : Lent ℕ). x .answer) _ _ _ refl (λ k p. refl) (firstOf (squadsChecks s i j (length buffer))) (squads-small s bytes i j (length buffer)) k p
 
   pub walk-fits : (i j limit d : ℕ) (v : Session) → walkOf s i j limit d v .answer ≡ refused k p → codeOf k p < 2 ^ 32
   unfolding walkOf

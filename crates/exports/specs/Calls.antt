@@ -5,9 +5,9 @@ use Prim.Native.Nat.{ℕ, _*_}
 use lib.Dec.{ltb}
 use lib.ListN.{length, take}
 use Rattle.model.specs.Sheet.{kindCount, codeCount, lineCount, fieldCount}
-use Rattle.model.specs.Refusal.{Finding, clear, refusal, firstOf, sheetChecks, acceptChecks}
+use Rattle.model.specs.Refusal.{Finding, clear, refusal, firstOf, sheetChecks, acceptChecks, squadsChecks}
 use Rattle.model.specs.Walk.{WalkAnswer, apart, together, spent}
-use Rattle.model.specs.Answer.{Answer, refused, given, Verdict, same, different, Shelved, Session, written, rowCheckOf, walkOf, settleOf, compareOf, formOf, shelfNumberOf, shelfFieldOf}
+use Rattle.model.specs.Answer.{Answer, refused, given, Verdict, same, different, Shelved, Session, written, rowCheckOf, walkOf, settleOf, compareOf, formOf, shelfNumberOf, shelfFieldOf, squadsOf}
 use Rattle.page.specs.Writing.{writePageOf}
 use Rattle.arrays.specs.Reply.{Reply, replyOf, laidOut}
 use Rattle.arrays.specs.Session.{desks, shortCodeBy}
@@ -88,6 +88,17 @@ shelfNumberCall s i array = replyOf (laidOut shelvedValues (shelfNumberOf s i)) 
 -- Shelf field, of a size and a number: no values, and so no answer array. The buffer is lent.
 unfoldable pub shelfFieldCall : List ℕ → ℕ → ℕ → List ℕ → Reply (List ℕ)
 shelfFieldCall s t x buffer = let y = shelfFieldOf s t x buffer in replyOf (laidOut noValues (y .answer)) buffer (y .lent) []
+
+-- Squads: how often the squad goes into the whole. The buffer for the remainder is lent.
+abbrev pub countValues : ℕ → List ℕ
+countValues count = count ∷ []
+
+unfoldable pub squadsCall : List ℕ → ℕ → ℕ → List ℕ → List ℕ → Reply (List ℕ)
+squadsCall s i j buffer array = let x = squadsOf s i j buffer in replyOf (laidOut countValues (x .answer)) buffer (x .lent) array
+
+-- What Squads returns where the answer array has no room: by its checks of a buffer that has none, which find a refusal of the other checks, or else that of a short buffer.
+abbrev pub shortSquads : List ℕ → ℕ → ℕ → ℕ
+shortSquads s i j = shortCodeBy (firstOf (squadsChecks s i j 0))
 
 -- The page: its length. The buffer that it is written to is lent.
 abbrev pub lengthValues : ℕ → List ℕ

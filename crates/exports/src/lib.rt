@@ -28,5 +28,8 @@ pub mod shelf_number;
 // Shelf field.
 pub mod shelf_field;
 
+// Squads. (A module may not have the name of a crate.)
+pub mod squad_count;
+
 // The page.
 pub mod printing;

@@ -248,7 +248,7 @@ module _ (s : List ℕ) (i : ℕ) (buffer after : List ℕ) (d : after ≡ formO
 
   module _ (ok : Accepted s) (h : i < fieldCount s) (l : kindCount s ≤ length buffer) where
     -- The buffer begins with the prime form.
-    begins : take (kindCount s) after ≡ primeForm s i
+    pub begins : take (kindCount s) after ≡ primeForm s i
     unfolding written primeForm
     begins =
         ap (take (kindCount s)) (d ∙ lent-of (demand1 s .formed (demand1 s .accepted .0 ok) i buffer h l))

@@ -60,7 +60,7 @@ pub fn form_settled(s: &[u8], settlement: Settlement, field: usize, buffer: &mut
 }
 
 // The decomposition of a field by the rows of a base.
-fn form_by(s: &[u8], card: Card, base: Base, field: usize) -> [u64; 32]
+pub fn form_by(s: &[u8], card: Card, base: Base, field: usize) -> [u64; 32]
     requires { ⌜ Reads (now s) card ⌝ }
     requires { ⌜ field < card .fields ⌝ }
     requires { ⌜ FieldsFit (now s) (base .rows) ⌝ }

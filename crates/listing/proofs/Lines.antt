@@ -5,6 +5,7 @@ use Prim.Native.Nat.{ℕ}
 use borrow.Author.Tests.{eq-eqb, ne-eqb}
 use Rattle.model.specs.Field.{at}
 use Rattle.model.specs.Page.{bytes, number, newline, countsOf, itself}
+use Rattle.text.specs.Count.{labelledCounts}
 use Rattle.listing.specs.Line.{headText, rowText, kindText, fieldText}
 
 -- What is appended for the head, for a kind and a field.
@@ -26,6 +27,6 @@ pub kind-is : (k w : ℕ) (row : List ℕ) → bytes "kind " ++ number k ++ (byt
 unfolding kindText newline
 kind-is k w row = simp append-assoc
 
-pub field-is : (i : ℕ) (form : List ℕ) → bytes "field " ++ number i ++ (bytes " " ++ (countsOf form ++ bytes "\n")) ≡ fieldText i form
-unfolding fieldText newline
-field-is i form = simp append-assoc
+pub field-is : (i : ℕ) (form : List ℕ) → labelledCounts (bytes "field ") i form ≡ fieldText i form
+unfolding fieldText labelledCounts
+field-is i form = refl

@@ -1,8 +1,7 @@
 // The lines of kinds and fields, each over plain values.
 use text::put_byte;
 use text::put_bytes;
-use text::put_form;
-use text::put_labelled;
+use text::put_labelled_form;
 use text::put_row;
 use text::put_two_labelled;
 ghost use Prim.Native.Nat.{_+_, _*_, _≤_, _<_};
@@ -49,8 +48,5 @@ pub fn put_field(out: &mut [u8], at: usize, field: usize, form: &[u64]) -> usize
     requires { ⌜ at + (29 + 21 * length (now form)) ≤ length (now out) ⌝ }
     ensures { λ r. ⌜ Appended (29 + 21 * length (now (form .entry))) (now (out .entry)) at (fieldText field (now (form .entry))) (now (out .exit)) r ⌝ }
 {
-    let space = put_labelled(out, at, b"field ", field as u64);
-    let shown = put_byte(out, space, b' ');
-    let last = put_form(out, shown, form);
-    put_byte(out, last, b'\n')
+    put_labelled_form(out, at, b"field ", field as u64, form)
 }

@@ -12,7 +12,7 @@ use Rattle.model.specs.Card.{liveCount}
 use Rattle.model.specs.Limits.{mostTokens, Limits}
 use Rattle.model.specs.Shelf.{entry, lastFirst, shelfNumber, shelfField}
 use Rattle.model.specs.Sheet.{kindCount, fieldCount, cardOf, fieldOf}
-use Rattle.model.specs.Refusal.{Accepted, Finding, clear, refusal, firstOf, shelfNumberChecks, shelfFieldChecks}
+use Rattle.model.specs.Refusal.{Accepted, clear, refusal, firstOf, shelfNumberChecks, shelfFieldChecks}
 use Rattle.model.specs.Answer.{refused, given, Lent, Shelved, written, shelfNumberOf, shelfCounts, shelfFieldOf}
 use Rattle.theory.specs.Terms.{OfKinds}
 use Rattle.theory.specs.Shelves.{Precedes}
@@ -21,7 +21,7 @@ use Rattle.theory.proofs.Sheets.{field-kinds}
 use Rattle.theory.proofs.Answers.{demand1}
 use Rattle.theory.proofs.Numbering.{precedes-one}
 use Rattle.theory.proofs.Shelves.{shelves}
-use Rattle.theory.proofs.Told.{told, found, answer-of, lent-of}
+use Rattle.theory.proofs.Told.{told, found, cleared, answer-of, lent-of}
 use Rattle.numbering.specs.Answers.{numberAnswer, fieldAnswer}
 use Rattle.numbering.specs.Promises.{NumberAnswers, FieldAnswers, Promises}
 use Rattle.numbering.specs.declared.answers.ShelfNumber.{ShelfNumber}
@@ -53,11 +53,6 @@ card-kinds s = refl
 -- A field of the sheet is that of its own number.
 own : (s : List ℕ) (i : ℕ) → shelfField (cardOf s) (tokens (kindCount s) (fieldOf s i)) (shelfNumber (cardOf s) (fieldOf s i)) ≡ fieldOf s i
 own s i = shelves (cardOf s) (tokens (kindCount s) (fieldOf s i)) .field-number (fieldOf s i) (field-kinds s i) (ap (λ n. tokens n (fieldOf s i)) (card-kinds s))
-
--- What the checks of a call find, clear or a refusal.
-cleared : (f : Finding) → ((k p : ℕ) → ¬ (f ≡ refusal k p)) → f ≡ clear
-cleared clear h = refl
-cleared (refusal k p) h = absurd (h k p refl)
 
 -- Shelf number.
 module _ (s : List ℕ) (i : ℕ) (answer : ShelfNumber) (e : numberAnswer answer ≡ shelfNumberOf s i) where

@@ -4,7 +4,7 @@ use mathlib.Core.Path.{_≡_, refl}
 use Prim.Native.Nat.{ℕ}
 use Prim.Native.String.{String}
 use native.Mathlib.Decide.{ℕ-discrete}
-use Rattle.model.specs.Finite.{any, all, keep, pick, concat, listFrom, below, leastFrom}
+use Rattle.model.specs.Finite.{any, all, keep, pick, concat, listFrom, below, leastFrom, greatestTo}
 use Rattle.model.specs.Field.{bit, unit, weigh}
 use Rattle.model.specs.Norm.{ready, best, sweeps, kindNorm, gainOf}
 use Rattle.model.specs.Expansion.{simulates, expands}
@@ -12,10 +12,11 @@ use Rattle.model.specs.Stage.{lowering, equalNorm, falling, refined, stageFrom,
 use Rattle.model.specs.Base.{fieldsOfNorm, earlier, atom, row, passes, firstSettled, formAt, partingStage, roundsFor, roundsAt}
 use Rattle.model.specs.Walk.{tryReplies, tryChallenges, examine, walk}
 use Rattle.model.specs.Shelf.{entry, listed, agree, placeOf, shelfNumber, shelfField}
+use Rattle.model.specs.Squads.{goesIn, timesIn, remainder}
 use Rattle.model.specs.Sheet.{fieldsOffset, totalOf, counts, lineOf, cardOf, fieldOf}
-use Rattle.model.specs.Refusal.{firstOf, headerChecks, lineChecks, normChecks, sheetChecks, settleChecks, compareChecks, formChecks, walkChecks, rowChecks, shelfNumberChecks, shelfFieldChecks}
-use Rattle.model.specs.Page.{bytes, digits, number, newline, wordOf, refusedLine}
-use Rattle.model.specs.Answer.{written, tableOf, settleOf, verdict, compareOf, primeForm, formOf, within, fullWalk, walkOf, rowOf, rowCheckOf, shelfNumberOf, shelfCounts, shelfFieldOf}
+use Rattle.model.specs.Refusal.{firstOf, headerChecks, lineChecks, normChecks, sheetChecks, settleChecks, compareChecks, formChecks, walkChecks, rowChecks, shelfNumberChecks, shelfFieldChecks, squadsChecks}
+use Rattle.model.specs.Page.{bytes, digits, number, newline, countsOf, wordOf, refusedLine}
+use Rattle.model.specs.Answer.{written, tableOf, settleOf, verdict, compareOf, primeForm, formOf, within, fullWalk, walkOf, rowOf, rowCheckOf, shelfNumberOf, shelfCounts, shelfFieldOf, squadCount, remainderForm, squadsOf}
 use Rattle.model.proofs.Worked.{sheetOf, page, chain}
 use Rattle.text.specs.Count.{countText, countTexts, countsLine}
 use Rattle.walkline.specs.Line.{drawnText, foundText}
@@ -26,13 +27,15 @@ use Rattle.replies.specs.Told.{Told, told, noCall}
 use Rattle.replies.specs.Numbers.{withNone, withOne, withTwo, withFourOrFive}
 use Rattle.replies.specs.declared.reply.Outcome.{Outcome}
 use Rattle.replies.specs.declared.reply.Outcome.the-variants.{Answered, Refused, NoCall}
-use Rattle.replies.specs.Texts.{worded, countsText}
+use Rattle.replies.specs.Texts.{worded, lentText, countsText}
 use Rattle.verbs.specs.Texts.{tableRoom, formRoom, stagesLine, rowLines, settleText, rowIn, rowAfter, rowText, verdictText, compareText, formText}
 use Rattle.walk_verb.specs.Texts.{givenTo, walkText}
 use Rattle.shelf_verbs.specs.Texts.{shelfRoom, shelvedLine, shelvedText, numberText, fieldText}
+use Rattle.squads_verb.specs.Texts.{remainderRoom, squadsLine, squadsText}
 use Rattle.verbs.specs.Calls.{settleTold, rowTold, compareTold, formTold}
 use Rattle.walk_verb.specs.Calls.{allowanceTold, walkTold}
 use Rattle.shelf_verbs.specs.Calls.{numberTold, fieldTold}
+use Rattle.squads_verb.specs.Calls.{squadsTold}
 use Rattle.queries.specs.Verb.{verbs, verbIn, verbOf}
 use Rattle.queries.specs.Query.{verbTold, saidTold, wordsTold, queryOf}
 
@@ -44,9 +47,9 @@ pub record Example : Type 0 where
 abbrev pub asks : List ℕ → List String → Outcome → String → Example
 asks s words outcome text = record { sheet = s; words = words; told = record { outcome = outcome; text = bytes text } }
 
--- One kind, 0 a -> none, and fields of 17 and of 16 tokens.
+-- One kind, 0 a -> none, and fields of 17, of 16 and of no tokens.
 abbrev pub crowded : List ℕ
-crowded = sheetOf 1 1 ((0 ∷ 0 ∷ 0 ∷ []) ∷ []) ((17 ∷ []) ∷ (16 ∷ []) ∷ [])
+crowded = sheetOf 1 1 ((0 ∷ 0 ∷ 0 ∷ []) ∷ []) ((17 ∷ []) ∷ (16 ∷ []) ∷ (0 ∷ []) ∷ [])
 
 abbrev pub examples : List Example
 examples =
@@ -72,6 +75,11 @@ examples =
     ∷ asks chain ("field" ∷ "2" ∷ "4" ∷ []) Answered "0 1 1\n"
     ∷ asks chain ("field" ∷ "2" ∷ "6" ∷ []) (Refused 15 0) "refused 15 0\n"
     ∷ asks chain ("field" ∷ "17" ∷ "0" ∷ []) (Refused 14 0) "refused 14 0\n"
+    ∷ asks page ("squads" ∷ "1" ∷ "0" ∷ []) Answered "squads 1 = 0 0\n"
+    ∷ asks crowded ("squads" ∷ "0" ∷ "1" ∷ []) Answered "squads 1 = 1\n"
+    ∷ asks crowded ("squads" ∷ "1" ∷ "0" ∷ []) Answered "squads 0 = 16\n"
+    ∷ asks crowded ("squads" ∷ "0" ∷ "2" ∷ []) (Refused 17 1) "refused 17 1\n"
+    ∷ asks crowded ("squads" ∷ "0" ∷ "3" ∷ []) (Refused 11 1) "refused 11 1\n"
     ∷ asks [] ("settle" ∷ []) (Refused 1 0) "refused 1 0\n"
     ∷ asks [] ("walk" ∷ "0" ∷ "0" ∷ "0" ∷ "4294967296" ∷ []) NoCall ""
     ∷ asks [] ("walk" ∷ "0" ∷ "0" ∷ "0" ∷ []) NoCall ""
@@ -82,6 +90,8 @@ examples =
     ∷ asks [] ("number" ∷ "0" ∷ "1" ∷ []) NoCall ""
     ∷ asks [] ("field" ∷ "1" ∷ []) NoCall ""
     ∷ asks [] ("field" ∷ "1" ∷ "0" ∷ "0" ∷ []) NoCall ""
+    ∷ asks [] ("squads" ∷ "0" ∷ []) NoCall ""
+    ∷ asks [] ("squads" ∷ "0" ∷ "0" ∷ "0" ∷ []) NoCall ""
     ∷ asks [] ("compare" ∷ "0" ∷ "" ∷ []) NoCall ""
     ∷ asks [] ("compare" ∷ "0" ∷ "18446744073709551616" ∷ []) NoCall ""
     ∷ asks [] ("compare" ∷ "0" ∷ "1" ∷ "2" ∷ "3" ∷ "4" ∷ []) NoCall ""
@@ -91,5 +101,5 @@ examples =
     ∷ []
 
 pub worked : map (λ (x : Example). queryOf (x .sheet) (ended (map bytes (x .words)))) examples ≡ map (λ (x : Example). x .told) examples
-unfolding any all keep pick concat listFrom below leastFrom bit unit ℕ-discrete weigh ready best sweeps kindNorm gainOf simulates expands lowering equalNorm falling refined stageFrom stage fieldsOfNorm earlier atom row passes firstSettled formAt partingStage roundsFor roundsAt tryReplies tryChallenges examine walk entry listed agree placeOf shelfNumber shelfField fieldsOffset totalOf counts lineOf cardOf fieldOf firstOf headerChecks lineChecks normChecks sheetChecks settleChecks compareChecks formChecks walkChecks rowChecks shelfNumberChecks shelfFieldChecks bytes digits number newline wordOf refusedLine written tableOf settleOf verdict compareOf primeForm formOf within fullWalk walkOf rowOf rowCheckOf shelfNumberOf shelfCounts shelfFieldOf countText countTexts countsLine drawnText foundText digitOf valueFrom some numberOf firstWord startedBy wordsOf sameWord saidAfter numbersOf ended told noCall withNone withOne withTwo withFourOrFive worded tableRoom formRoom shelfRoom stagesLine rowLines settleText rowIn rowAfter rowText verdictText compareText countsText formText givenTo walkText shelvedLine shelvedText numberText fieldText settleTold rowTold compareTold formTold allowanceTold walkTold numberTold fieldTold verbs verbIn verbOf verbTold saidTold wordsTold queryOf
+unfolding any all keep pick concat listFrom below leastFrom greatestTo bit unit ℕ-discrete weigh ready best sweeps kindNorm gainOf simulates expands lowering equalNorm falling refined stageFrom stage fieldsOfNorm earlier atom row passes firstSettled formAt partingStage roundsFor roundsAt tryReplies tryChallenges examine walk entry listed agree placeOf shelfNumber shelfField goesIn timesIn remainder fieldsOffset totalOf counts lineOf cardOf fieldOf firstOf headerChecks lineChecks normChecks sheetChecks settleChecks compareChecks formChecks walkChecks rowChecks shelfNumberChecks shelfFieldChecks squadsChecks bytes digits number newline countsOf wordOf refusedLine written tableOf settleOf verdict compareOf primeForm formOf within fullWalk walkOf rowOf rowCheckOf shelfNumberOf shelfCounts shelfFieldOf squadCount remainderForm squadsOf countText countTexts countsLine drawnText foundText digitOf valueFrom some numberOf firstWord startedBy wordsOf sameWord saidAfter numbersOf ended told noCall withNone withOne withTwo withFourOrFive worded tableRoom formRoom shelfRoom stagesLine rowLines settleText rowIn rowAfter rowText verdictText compareText lentText countsText formText givenTo walkText shelvedLine shelvedText numberText fieldText remainderRoom squadsLine squadsText settleTold rowTold compareTold formTold allowanceTold walkTold numberTold fieldTold squadsTold verbs verbIn verbOf verbTold saidTold wordsTold queryOf
 worked = refl

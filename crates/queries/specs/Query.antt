@@ -6,9 +6,10 @@ use Rattle.replies.specs.Told.{Told, noCall}
 use Rattle.verbs.specs.Calls.{settleTold, rowTold, compareTold, formTold}
 use Rattle.walk_verb.specs.Calls.{walkTold}
 use Rattle.shelf_verbs.specs.Calls.{numberTold, fieldTold}
+use Rattle.squads_verb.specs.Calls.{squadsTold}
 use Rattle.queries.specs.Verb.{verbOf}
 use Rattle.queries.specs.declared.table.Verb.{Verb}
-use Rattle.queries.specs.declared.table.Verb.the-variants.{Settle, Row, Compare, Form, Walk, Number, Field, Other}
+use Rattle.queries.specs.declared.table.Verb.the-variants.{Settle, Row, Compare, Form, Walk, Number, Field, Squads, Other}
 
 -- Each verb, with its numbers.
 unfoldable pub verbTold : List ℕ → Verb → List ℕ → Told
@@ -19,6 +20,7 @@ verbTold s Form = formTold s
 verbTold s Walk = walkTold s
 verbTold s Number = numberTold s
 verbTold s Field = fieldTold s
+verbTold s Squads = squadsTold s
 verbTold s Other = λ _. noCall
 
 -- The same, where the words after the verb say numbers; otherwise it is no call.

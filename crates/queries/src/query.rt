@@ -5,6 +5,7 @@ use replies::reply::Reply;
 use replies::reply::no_call;
 use shelf_verbs::field::numbered_field;
 use shelf_verbs::number::field_number;
+use squads_verb::count::count_squads;
 use verbs::compare::compare_fields;
 use verbs::form::field_form;
 use verbs::settle::settle;
@@ -38,6 +39,7 @@ fn call(s: &[u8], verb: Verb, numbers: &[u64], out: &mut [u8]) -> Reply
         Verb::Walk => walk_fields(s, numbers, out),
         Verb::Number => field_number(s, numbers, out),
         Verb::Field => numbered_field(s, numbers, out),
+        Verb::Squads => count_squads(s, numbers, out),
         Verb::Other => no_call(),
     }
 }

@@ -12,6 +12,7 @@ pub enum Verb {
     Walk,
     Number,
     Field,
+    Squads,
     Other,
 }
 
@@ -39,6 +40,9 @@ pub fn verb_of(word: &[u8]) -> Verb
     }
     if same_word(word, b"field") {
         return Verb::Field;
+    }
+    if same_word(word, b"squads") {
+        return Verb::Squads;
     }
     Verb::Other
 }

@@ -11,22 +11,31 @@ use Rattle.model.specs.Answer.{Answer, refused, given, Lent}
 use Rattle.text.specs.Count.{countsLine}
 use Rattle.theory.proofs.Checks.{first-left}
 use Rattle.theory.proofs.Answers.{demand1}
-use Rattle.replies.specs.Texts.{worded, countsText}
+use Rattle.replies.specs.Texts.{worded, lentText, countsText}
 
 -- A call that writes counts, by what it gives for a buffer with room.
-module _ (n : ℕ) (call : List ℕ → Lent (Unit {0})) {enough room counts : List ℕ} (is-room : room ≡ enough) (lent : counts ≡ call room .lent) where
-  called-there : {a : Answer (Unit {0})} → a ≡ call room .answer → a ≡ call enough .answer
+module _ {A : Type 0} (text : A → List ℕ → List ℕ) (n : ℕ) (call : List ℕ → Lent A) {enough room counts : List ℕ} (is-room : room ≡ enough) (lent : counts ≡ call room .lent) where
+  called-there : {a : Answer A} → a ≡ call room .answer → a ≡ call enough .answer
   called-there e = e ∙ ap (λ (r : List ℕ). call r .answer) is-room
 
+  pub lent-answered : (a : A) → given a ≡ call room .answer → given (text a (take n counts)) ≡ lentText text n (call enough)
+  unfolding lentText worded
+  lent-answered a e =
+      ap (λ (l : List ℕ). given (text a (take n l))) (lent ∙ ap (λ (r : List ℕ). call r .lent) is-room)
+      ∙ ap (worded (λ a. text a (take n (call enough .lent)))) (called-there e)
+
+  pub lent-refused : (number place : ℕ) → refused number place ≡ call room .answer → refused number place ≡ lentText text n (call enough)
+  unfolding lentText worded
+  lent-refused number place e = ap (worded (λ a. text a (take n (call enough .lent)))) (called-there e)
+
+module _ (n : ℕ) (call : List ℕ → Lent (Unit {0})) {enough room counts : List ℕ} (is-room : room ≡ enough) (lent : counts ≡ call room .lent) where
   pub counts-answered : given tt ≡ call room .answer → given (countsLine (take n counts)) ≡ countsText n (call enough)
-  unfolding countsText worded
-  counts-answered e =
-      ap (λ (l : List ℕ). given (countsLine (take n l))) (lent ∙ ap (λ (r : List ℕ). call r .lent) is-room)
-      ∙ ap (worded (λ _. countsLine (take n (call enough .lent)))) (called-there e)
+  unfolding countsText
+  counts-answered e = lent-answered (λ _ l. countsLine l) n call is-room lent tt e
 
   pub counts-refused : (number place : ℕ) → refused number place ≡ call room .answer → refused number place ≡ countsText n (call enough)
-  unfolding countsText worded
-  counts-refused number place e = ap (worded (λ _. countsLine (take n (call enough .lent)))) (called-there e)
+  unfolding countsText
+  counts-refused number place e = lent-refused (λ _ l. countsLine l) n call is-room lent number place e
 
 -- A sheet that a call answers is accepted, and so has at most 32 kinds.
 few-kinds : (s : List ℕ) → Accepted s → kindCount s ≤ mostKinds

@@ -14,6 +14,10 @@ unfoldable pub worded : {A : Type 0} → (A → List ℕ) → Answer A → Answe
 worded text (given a) = given (text a)
 worded text (refused number place) = refused number place
 
--- The first n counts of what a call wrote, as a line, or its refusal.
+-- A call that writes counts, by the text that its value and the first n of the counts get, or its refusal.
+unfoldable pub lentText : {A : Type 0} → (A → List ℕ → List ℕ) → ℕ → Lent A → Answer (List ℕ)
+lentText text n wrote = worded (λ a. text a (take n (wrote .lent))) (wrote .answer)
+
+-- The same of a call that has no value: the counts as a line.
 unfoldable pub countsText : ℕ → Lent (Unit {0}) → Answer (List ℕ)
-countsText n wrote = worded (λ _. countsLine (take n (wrote .lent))) (wrote .answer)
+countsText n wrote = lentText (λ _ counts. countsLine counts) n wrote

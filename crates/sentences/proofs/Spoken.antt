@@ -10,7 +10,7 @@ use Rattle.model.specs.Finite.{concat, listFrom, pick}
 use Rattle.model.specs.Limits.{normLimit}
 use Rattle.model.specs.Norm.{kindNorm}
 use Rattle.model.specs.Page.{bytes, newline}
-use Rattle.model.specs.Refusal.{Check, check, refusal, firstOf, headerChecks, lineChecks, normChecks, sheetChecks, acceptChecks, settleChecks, compareChecks, formChecks, walkChecks, rowChecks, shelfNumberChecks, shelfFieldChecks}
+use Rattle.model.specs.Refusal.{Check, check, refusal, firstOf, headerChecks, lineChecks, normChecks, sheetChecks, acceptChecks, settleChecks, compareChecks, formChecks, walkChecks, rowChecks, shelfNumberChecks, shelfFieldChecks, squadsChecks}
 use Rattle.model.specs.Sheet.{kindCount, cardOf}
 use Rattle.sentences.specs.Every.{Said, Every}
 use Rattle.sentences.specs.Sentence.{sentences, among, has, named, sentenceOf}
@@ -74,7 +74,7 @@ accept-each : (s : List ℕ) → Each (acceptChecks s)
 accept-each s = each-both (sheetChecks s) (normChecks s) (sheet-each s) (norm-each s)
 
 pub every : Every
-unfolding settleChecks rowChecks compareChecks formChecks walkChecks shelfNumberChecks shelfFieldChecks sentenceOf sentences pick has among named bytes newline
+unfolding settleChecks rowChecks compareChecks formChecks walkChecks shelfNumberChecks shelfFieldChecks squadsChecks sentenceOf sentences pick has among named bytes newline
 every =
     record {
       page = λ s. first-said (acceptChecks s) (accept-each s);
@@ -85,4 +85,5 @@ every =
       walk = λ s i j limit d. first-said (walkChecks s i j limit d) (omega arith, each-both (sheetChecks s) _ (sheet-each s) (omega arith, (omega arith, (omega arith, tt))));
       number = λ s i. first-said (shelfNumberChecks s i) (each-both (acceptChecks s) _ (accept-each s) (omega arith, (omega arith, tt)));
       field = λ s t x size. first-said (shelfFieldChecks s t x size) (each-both (acceptChecks s) _ (accept-each s) (omega arith, (omega arith, (omega arith, tt))));
+      squads = λ s i j size. first-said (squadsChecks s i j size) (each-both (acceptChecks s) _ (accept-each s) (omega arith, (omega arith, (omega arith, (omega arith, tt)))));
     }

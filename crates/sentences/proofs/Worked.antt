@@ -36,6 +36,7 @@ examples =
     ∷ at 14 0 "the field or the size is over 16 tokens\n"
     ∷ at 15 0 "no field of this size has so large a number\n"
     ∷ at 16 0 "the desk is over 7\n"
+    ∷ at 17 1 "the squad is empty\n"
     ∷ at 0 0 ""
     ∷ at 1 1 ""
     ∷ at 6 4 ""

@@ -3,7 +3,7 @@ use mathlib.Core.List.{List}
 use mathlib.Core.Path.{_≡_}
 use Prim.Native.Nat.{ℕ, _<_}
 use lib.ListN.{length}
-use Rattle.model.specs.Refusal.{Check, refusal, firstOf, acceptChecks, settleChecks, compareChecks, formChecks, walkChecks, rowChecks, shelfNumberChecks, shelfFieldChecks}
+use Rattle.model.specs.Refusal.{Check, refusal, firstOf, acceptChecks, settleChecks, compareChecks, formChecks, walkChecks, rowChecks, shelfNumberChecks, shelfFieldChecks, squadsChecks}
 use Rattle.sentences.specs.Sentence.{sentenceOf}
 
 -- What these checks refuse has a sentence.
@@ -20,3 +20,4 @@ pub record Every : Type 0 where
   pub walk : (s : List ℕ) (i j limit d : ℕ) → Said (walkChecks s i j limit d)
   pub number : (s : List ℕ) (i : ℕ) → Said (shelfNumberChecks s i)
   pub field : (s : List ℕ) (t x size : ℕ) → Said (shelfFieldChecks s t x size)
+  pub squads : (s : List ℕ) (i j size : ℕ) → Said (squadsChecks s i j size)

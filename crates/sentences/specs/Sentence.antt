@@ -40,6 +40,7 @@ sentences =
     ∷ row 13 (Only 0) "the round limit is over 8"
     ∷ row 14 (Only 0) "the field or the size is over 16 tokens"
     ∷ row 15 (Only 0) "no field of this size has so large a number"
+    ∷ row 17 (Only 1) "the squad is empty"
     ∷ row 12 (Only 0) "a buffer or table is too short"
     ∷ []
 

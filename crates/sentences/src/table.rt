@@ -22,7 +22,7 @@ pub struct Row {
     pub words: [u8; 52],
 }
 
-const ROWS: usize = 20;
+const ROWS: usize = 21;
 
 const TABLE: [Row; ROWS] = [
     Row {
@@ -138,6 +138,12 @@ const TABLE: [Row; ROWS] = [
         places: Place::Only(0),
         count: 44,
         words: *b"no field of this size has so large a number\n        ",
+    },
+    Row {
+        number: 17,
+        places: Place::Only(1),
+        count: 19,
+        words: *b"the squad is empty\n                                 ",
     },
     Row {
         number: 12,

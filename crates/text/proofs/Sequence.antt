@@ -10,7 +10,7 @@ use lib.Seq.{take-all}
 use Rattle.model.specs.Finite.{concat, listFrom}
 use Rattle.model.specs.Page.{bytes, number, newline, countsOf}
 use Rattle.text.specs.Appended.{Appended}
-use Rattle.text.specs.Count.{countText, countTexts, countsLine}
+use Rattle.text.specs.Count.{countText, countTexts, countsLine, labelledCounts}
 use Rattle.text.proofs.Append.{nothing, then, reads-as}
 
 module _ (f : ℕ → List ℕ) where
@@ -99,3 +99,8 @@ line-of-some xs some first rest end =
     line : (xs : List ℕ) → ¬ (length xs ≡ 0) → number (getD xs 0 0) ++ countTexts (others xs) ++ (10 ∷ []) ≡ countsLine xs
     line [] some = absurd (some refl)
     line (x ∷ xs) some = ap (λ (ys : List ℕ). number x ++ countTexts ys ++ (10 ∷ [])) (all-others x xs)
+
+-- The parts of counts after a text and a number.
+pub labelled : (label : List ℕ) (x : ℕ) (counts : List ℕ) → label ++ number x ++ (bytes " " ++ (countsOf counts ++ bytes "\n")) ≡ labelledCounts label x counts
+unfolding labelledCounts newline
+labelled label x counts = simp append-assoc

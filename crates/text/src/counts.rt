@@ -6,7 +6,7 @@ ghost use Prim.Native.Nat.{_+_, _*_, _≤_};
 ghost use lib.ListN.{length};
 ghost use Rattle.model.specs.Page.{countsOf};
 ghost use Rattle.text.specs.Appended.{Appended};
-ghost use Rattle.text.specs.Count.{countText, countTexts, countsLine};
+ghost use Rattle.text.specs.Count.{countText, countTexts, countsLine, labelledCounts};
 
 // One count, with the space before it.
 fn put_count(out: &mut [u8], at: usize, count: u64) -> usize
@@ -60,6 +60,17 @@ pub fn put_form(out: &mut [u8], at: usize, form: &[u64]) -> usize
 {
     let next = put_byte(out, at, b'=');
     put_form_counts(out, next, form)
+}
+
+// The same as a line, after a text and a number.
+pub fn put_labelled_form(out: &mut [u8], at: usize, label: &[u8], x: u64, form: &[u64]) -> usize
+    requires { ⌜ at + (length (now label) + 23 + 21 * length (now form)) ≤ length (now out) ⌝ }
+    ensures { λ r. ⌜ Appended (length (now (label .entry)) + 23 + 21 * length (now (form .entry))) (now (out .entry)) at (labelledCounts (now (label .entry)) x (now (form .entry))) (now (out .exit)) r ⌝ }
+{
+    let space = put_labelled(out, at, label, x);
+    let shown = put_byte(out, space, b' ');
+    let last = put_form(out, shown, form);
+    put_byte(out, last, b'\n')
 }
 
 // The counts of a row as a line of its own.

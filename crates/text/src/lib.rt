@@ -14,5 +14,6 @@ mod counts;
 
 pub use counts::put_form;
 pub use counts::put_form_line;
+pub use counts::put_labelled_form;
 pub use counts::put_row;
 pub use counts::put_row_line;

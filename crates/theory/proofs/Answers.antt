@@ -20,13 +20,13 @@ use Rattle.model.specs.Shelf.{entry, shelfField}
 use Rattle.model.specs.Walk.{WalkAnswer, spent, Walk}
 use Rattle.model.specs.Sheet.{kindCount, fieldCount, cardOf, fieldOf}
 use Rattle.model.specs.Limits.{mostKinds, mostRounds, mostTokens, lastDesk, Limits}
-use Rattle.model.specs.Refusal.{Check, check, Finding, clear, refusal, firstOf, sheetChecks, normChecks, acceptChecks, Accepted, settleChecks, compareChecks, formChecks, walkChecks, rowChecks, shelfNumberChecks, shelfFieldChecks}
-use Rattle.model.specs.Answer.{Answer, Lent, tableOf, primeForm, refused, given, Session, Walked, same, different, settleOf, rowCheckOf, rowOf, verdict, written, compareOf, formOf, drawing, within, fullWalk, walkOf, shelfNumberOf, shelfCounts, shelfFieldOf}
+use Rattle.model.specs.Refusal.{Check, check, Finding, clear, refusal, firstOf, sheetChecks, normChecks, acceptChecks, Accepted, settleChecks, compareChecks, formChecks, walkChecks, rowChecks, shelfNumberChecks, shelfFieldChecks, squadsChecks}
+use Rattle.model.specs.Answer.{Answer, Lent, tableOf, primeForm, refused, given, Session, Walked, same, different, settleOf, rowCheckOf, rowOf, verdict, written, compareOf, formOf, drawing, within, fullWalk, walkOf, shelfNumberOf, shelfCounts, shelfFieldOf, squadCount, remainderForm, squadsOf}
 use Rattle.theory.specs.Demands.{Demand1}
 use Rattle.model.proofs.Plain.{plain}
 use Rattle.theory.proofs.Exec.{Tells, tells-lt}
 use Rattle.theory.proofs.Sheets.{never, first-append, then-clear, certified, clear-cons, clear-nil, clear-none, small, not-small, not-less, call-checks}
-use Rattle.theory.proofs.Checks.{cons-none, not-outside, from-outside, from-less, first-right, first-here}
+use Rattle.theory.proofs.Checks.{cons-none, not-outside, from-outside, from-less, from-some, not-none, first-right, first-here}
 use Rattle.theory.proofs.Limits.{limits-accepted, accepted-limits}
 use Rattle.theory.proofs.Plain.{settled, verdict-cases}
 use Rattle.theory.proofs.Walks.{walk-not-spent}
@@ -298,8 +298,25 @@ module _ (s : List ℕ) where
   unfolding shelfCounts
   shelf-counts t x k h = let z : 0 + k ≡ k = omega arith in getD-from (shelfField (cardOf s) t x) 0 (kindCount s) k 0 h ∙ ap (shelfField (cardOf s) t x) z
 
+  squads-taken : (i j size : ℕ) → (firstOf (squadsChecks s i j size) ≡ clear)
+      ↔ (Limits s × (i < fieldCount s) × (j < fieldCount s) × (0 < tokens (kindCount s) (fieldOf s j)) × (kindCount s ≤ size))
+  unfolding squadsChecks
+  squads-taken i j size = (
+    (λ e.
+        let p = sheet-then _ e in
+        let a = cons-none 11 0 _ _ (p .1) in
+        let b = cons-none 11 1 _ _ (a .1) in
+        let c = cons-none 17 1 _ _ (b .1) in
+        let d = cons-none 12 0 _ _ (c .1) in
+        (p .0, small i (fieldCount s) (a .0), small j (fieldCount s) (b .0), from-some (tokens (kindCount s) (fieldOf s j)) (c .0), from-less size (kindCount s) (d .0))),
+    (λ p. call-checks s (limits-accepted s (p .0)) _
+        ∙ clear-cons 11 0 _ _ (not-small i (fieldCount s) (p .1))
+        (clear-cons 11 1 _ _ (not-small j (fieldCount s) (p .2))
+        (clear-cons 17 1 _ _ (not-none (tokens (kindCount s) (fieldOf s j)) (p .3)) (clear-cons 12 0 _ [] (not-less size (kindCount s) (p .4)) clear-nil)))),
+  )
+
   pub demand1 : Demand1 s
-  unfolding settleOf compareOf formOf rowOf shelfNumberOf shelfFieldOf
+  unfolding settleOf compareOf formOf rowOf shelfNumberOf shelfFieldOf squadsOf
   demand1 = record {
     accepted = (accepted-limits s, limits-accepted s);
     settled = λ L table h. call-clear _ _ (firstOf (settleChecks s (length table))) (settle-clear (limits-accepted s L) (length table) h);
@@ -343,4 +360,12 @@ module _ (s : List ℕ) where
         kept (given tt) (shelfCounts s t x) buffer (firstOf (shelfFieldChecks s t x (length buffer))) (λ e. omega (arith, plain .shelf-size s t x, shelf-taken t x (length buffer) .0 e .3));
     shelf-past = λ t x buffer e h.
         past (given tt) (shelfCounts s t x) buffer (firstOf (shelfFieldChecks s t x (length buffer))) e (omega (arith, plain .shelf-size s t x));
+    squads-taken = squads-taken;
+    squads-given = λ i j buffer e. call-clear _ _ (firstOf (squadsChecks s i j (length buffer))) e;
+    squads-refused = λ i j buffer k p e. call-refused _ _ (firstOf (squadsChecks s i j (length buffer))) k p e;
+    remainder-size = plain .remainder-size s;
+    squads-length = λ i j buffer.
+        kept (given (squadCount s i j)) (remainderForm s i j) buffer (firstOf (squadsChecks s i j (length buffer))) (λ e. omega (arith, plain .remainder-size s i j, squads-taken i j (length buffer) .0 e .4));
+    squads-past = λ i j buffer e h.
+        past (given (squadCount s i j)) (remainderForm s i j) buffer (firstOf (squadsChecks s i j (length buffer))) e (omega (arith, plain .remainder-size s i j));
   }

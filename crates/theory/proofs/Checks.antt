@@ -64,6 +64,16 @@ from-less i n m = go (decLt i n)
     go (yes h) = absurd (m (tells-lt i n .test h))
     go (no h) = omega arith
 
+pub from-some : (n : ℕ) → ¬ T (eqb n 0) → 0 < n
+from-some n m = go (decLt 0 n)
+  where
+    go : Dec (0 < n) → 0 < n
+    go (yes h) = h
+    go (no h) = absurd (m (tells-eq n 0 .test (omega arith)))
+
+pub not-none : (n : ℕ) → 0 < n → ¬ T (eqb n 0)
+not-none n h t = omega (arith, tells-eq n 0 .fact t)
+
 pub from-differ : (x y : ℕ) → ¬ T (differ x y) → x ≡ y
 from-differ x y = go (eqb x y) (tells-eq x y)
   where

@@ -29,6 +29,9 @@ pub mod Rows
 pub mod Listing
 pub mod Numbering
 pub mod Shelves
+-- Squads: counts that go into counts, joined fields under a bisimulation.
+pub mod Quotients
+pub mod Remainders
 -- Pairs examined where an allowance may end the count: one part after another, and runs through lists.
 pub mod Counted
 pub mod Runs
@@ -48,6 +51,7 @@ pub mod Answers
 pub mod Days
 pub mod Settling
 pub mod Program
+pub mod Squads
 pub mod Widths
 pub mod Decimals
 pub mod Pages

@@ -19,6 +19,7 @@ use Rattle.theory.proofs.Decimals.{decimals}
 use Rattle.theory.proofs.Pages.{pages}
 use Rattle.theory.proofs.Widths.{widths}
 use Rattle.theory.proofs.Shelves.{shelves, entries-fit}
+use Rattle.theory.proofs.Squads.{squads}
 use Rattle.theory.proofs.Settling.{sheet-settles, sheet-primes}
 
 turn-passed : (c : Card) (l m : Line) (P : Field → Field → Type 0) (s : Side) (a b : Field) → ¬ (0 < sideOf s a b (l .kind)) → Turn c s l m a b P ↔ P a b
@@ -56,4 +57,4 @@ steps L R = (
 )
 
 pub meanings {ℓ} : Meanings {ℓ}
-meanings = record { firsts = firsts; headers = headers; places = sheet-places; norms = sheet-norms; steps = steps; games = games; walks = walks; settles = sheet-settles; primes = λ s ok. sheet-primes s ok; decimals = decimals; pages = pages; widths = widths; days = days; shelves = shelves; entries-fit = entries-fit }
+meanings = record { firsts = firsts; headers = headers; places = sheet-places; norms = sheet-norms; steps = steps; games = games; walks = walks; settles = sheet-settles; primes = λ s ok. sheet-primes s ok; decimals = decimals; pages = pages; widths = widths; days = days; shelves = shelves; entries-fit = entries-fit; squads = λ s ok i j. squads s ok i j }

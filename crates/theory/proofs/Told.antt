@@ -1,6 +1,6 @@
 -- What a call's answer tells: an enum, read through the definition that gives its cases the paper's numbers and values.
 use mathlib.Core.Logic.{_↔_}
-use mathlib.Core.Path.{_≡_, sym, _∙_, ap}
+use mathlib.Core.Path.{_≡_, refl, sym, _∙_, ap}
 use Prim.Native.Nat.{ℕ}
 use native.Mathlib.Omega.{arith}
 use Rattle.model.specs.Refusal.{Finding, clear, refusal}
@@ -27,6 +27,11 @@ module _ {X A : Type 0} (answer : X → Answer A) (x : X) (r : ℕ → ℕ → X
   pub found : (f : Finding) (k p : ℕ) → (answer (elim f as (λ _. X) [ clear ↦ x | refusal k p ↦ r k p ]) ≡ refused k p) ↔ (f ≡ refusal k p)
   found clear k p = ((λ e. given-not k p (sym gives ∙ e)), clear-not k p)
   found (refusal j q) k p = ((λ e. same-refusal j q k p (sym (refuses j q) ∙ e)), (λ e. refuses j q ∙ same-refused j q k p e))
+
+-- What the checks of a call find is clear where it is no refusal.
+pub cleared : (f : Finding) → ((k p : ℕ) → ¬ (f ≡ refusal k p)) → f ≡ clear
+cleared clear h = refl
+cleared (refusal k p) h = absurd (h k p refl)
 
 -- The parts of what a call leaves.
 pub answer-of : {A : Type 0} {x y : Lent A} → x ≡ y → x .answer ≡ y .answer

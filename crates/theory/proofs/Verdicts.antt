@@ -96,11 +96,11 @@ module _ (s : List ℕ) (ok : Accepted s) where
   abbrev pub D : Base N R B
   D = level-base N fin q
 
-  to-stage : (a b : Field) → R a b → Stage N t a b
+  pub to-stage : (a b : Field) → R a b → Stage N t a b
   unfolding Stage
   to-stage a b p = rw (L .is) p
 
-  from-stage : (a b : Field) → Stage N t a b → R a b
+  pub from-stage : (a b : Field) → Stage N t a b → R a b
   unfolding Stage
   from-stage a b p = rw (L .is) at p
 
@@ -111,7 +111,7 @@ module _ (s : List ℕ) (ok : Accepted s) where
   pub form-of : ℕ → Field
   form-of i = form N R B D (field i)
 
-  written-is : (i : ℕ) → formAt c w (stage c w) t (field i) ≡ form-of i
+  pub written-is : (i : ℕ) → formAt c w (stage c w) t (field i) ≡ form-of i
   unfolding form-of stage
   written-is i = rw (L .is) (form-is N (c .lines) (λ l o. o) (λ l o. o) (certified s ok .positive) (equalNorm c w) (tells-equal c w (certified s ok)) q (field i))
 
@@ -141,7 +141,7 @@ module _ (s : List ℕ) (ok : Accepted s) where
   form-tidy : (i : ℕ) → Tidy N (form-of i)
   form-tidy i k h = let u = form-parts i .0 k h in (u .0, u .1)
 
-  bisimilar {ℓ} : (a b : Field) → Tidy N a → Tidy N b → Stage N t a b ↔ Bisimilar {ℓ} (On c) a b
+  pub bisimilar {ℓ} : (a b : Field) → Tidy N a → Tidy N b → Stage N t a b ↔ Bisimilar {ℓ} (On c) a b
   bisimilar a b u v = settled-bisimilar c w (certified s ok) t (L .most) (L .settled) a b u v
 
   pub field-form : (i : ℕ) → R (field i) (form-of i)
@@ -170,7 +170,7 @@ module _ (s : List ℕ) (ok : Accepted s) where
       within-tidy : (a : Field) → Within N (rank N k) a → Tidy N a
       within-tidy a f j x = let v = f j x in (v .0, v .1)
 
-  form-prime {ℓ} : (i k : ℕ) → 0 < form-of i k → Prime {ℓ} c k
+  pub form-prime {ℓ} : (i k : ℕ) → 0 < form-of i k → Prime {ℓ} c k
   form-prime i k h =
       let u = form-parts i .0 k h in
       prime-iff k (u .0) .0 (atom-prime N R B (level-cong N q) (level-low N fin q) D k (u .0) (u .1) (u .2) (form-parts i .1 k h))

@@ -14,9 +14,9 @@ use Rattle.model.specs.Shelf.{entry, shelfNumber, shelfField}
 use Rattle.model.specs.Walk.{spent}
 use Rattle.model.specs.Sheet.{kindCount, fieldCount, cardOf, fieldOf}
 use Rattle.model.specs.Limits.{mostKinds, mostRounds, mostTokens, lastDesk, Limits}
-use Rattle.model.specs.Refusal.{Accepted, clear, refusal, firstOf, sheetChecks, settleChecks, compareChecks, formChecks, walkChecks, shelfNumberChecks, shelfFieldChecks}
+use Rattle.model.specs.Refusal.{Accepted, clear, refusal, firstOf, sheetChecks, settleChecks, compareChecks, formChecks, walkChecks, shelfNumberChecks, shelfFieldChecks, squadsChecks}
 use Rattle.theory.specs.Terms.{OfKinds, IsGain, Stage, Prime}
-use Rattle.model.specs.Answer.{refused, given, Session, same, different, settleOf, compareOf, formOf, walkOf, rowOf, rowCheckOf, tableOf, primeForm, written, fullWalk, shelfNumberOf, shelfCounts, shelfFieldOf}
+use Rattle.model.specs.Answer.{refused, given, Session, same, different, settleOf, compareOf, formOf, walkOf, rowOf, rowCheckOf, tableOf, primeForm, written, fullWalk, shelfNumberOf, shelfCounts, shelfFieldOf, squadCount, remainderForm, squadsOf}
 
 -- Demand 1.
 pub record Demand1 (s : List ℕ) : Type 0 where
@@ -89,6 +89,18 @@ pub record Demand1 (s : List ℕ) : Type 0 where
   pub shelf-size : (t x : ℕ) → length (shelfCounts s t x) ≡ kindCount s
   pub shelf-length : (t x : ℕ) (buffer : List ℕ) → length (shelfFieldOf s t x buffer .lent) ≡ length buffer
   pub shelf-past : (t x : ℕ) (buffer : List ℕ) (e : ℕ) → kindCount s ≤ e → at (shelfFieldOf s t x buffer .lent) e ≡ at buffer e
+  -- Squads (request 5 of document 02), of a whole i and a squad j: not refused just when the sheet is within the limits, has both fields, the squad is not empty and the buffer has room for
+  -- n counts; then the number is answered and the remainder written.
+  pub squads-taken : (i j size : ℕ) → (firstOf (squadsChecks s i j size) ≡ clear)
+      ↔ (Limits s × (i < fieldCount s) × (j < fieldCount s) × (0 < tokens (kindCount s) (fieldOf s j)) × (kindCount s ≤ size))
+  pub squads-given : (i j : ℕ) (buffer : List ℕ) → firstOf (squadsChecks s i j (length buffer)) ≡ clear
+      → squadsOf s i j buffer ≡ record { answer = given (squadCount s i j); lent = written (remainderForm s i j) buffer }
+  pub squads-refused : (i j : ℕ) (buffer : List ℕ) (k p : ℕ) → firstOf (squadsChecks s i j (length buffer)) ≡ refusal k p
+      → squadsOf s i j buffer ≡ record { answer = refused k p; lent = buffer }
+  -- "n counts"; "Bytes of a lent buffer past those named keep their values", and it keeps its length.
+  pub remainder-size : (i j : ℕ) → length (remainderForm s i j) ≡ kindCount s
+  pub squads-length : (i j : ℕ) (buffer : List ℕ) → length (squadsOf s i j buffer .lent) ≡ length buffer
+  pub squads-past : (i j : ℕ) (buffer : List ℕ) (e : ℕ) → kindCount s ≤ e → at (squadsOf s i j buffer .lent) e ≡ at buffer e
 
 -- Demand 2, of fields i and j of an accepted sheet, with bisimulations of every universe.
 pub record Demand2 {ℓ} (s : List ℕ) (i j : ℕ) : Type (ℓ + 1) where

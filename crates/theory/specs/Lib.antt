@@ -5,9 +5,10 @@ pub mod Terms
 pub mod Game
 -- Pairs examined and counted, where an allowance may end the count.
 pub mod Counted
--- What is claimed: how large numbers grow, shelf numbers, the desks of a session, what the terms that compute mean, and the demands.
+-- What is claimed: how large numbers grow, shelf numbers, squads, the desks of a session, what the terms that compute mean, and the demands.
 pub mod Widths
 pub mod Shelves
+pub mod Squads
 pub mod Days
 pub mod Meanings
 pub mod Demands

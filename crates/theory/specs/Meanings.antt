@@ -23,6 +23,7 @@ use Rattle.model.specs.Plain.{headerBytes}
 use Rattle.theory.specs.Widths.{Bytes, Widths}
 use Rattle.model.specs.Page.{number, itself, refusedLine, pageOf, printed}
 use Rattle.theory.specs.Shelves.{Shelves, EntriesFit}
+use Rattle.theory.specs.Squads.{Squads}
 use Rattle.theory.specs.Days.{Day}
 use Rattle.theory.specs.Terms.{IsGain, Stage, BaseOf, Prime, Settled}
 
@@ -133,3 +134,4 @@ pub record Meanings {ℓ} : Type (ℓ + 1) where
   pub days : (calls : List WalkCall) (v : Session) (d : ℕ) → Day calls v d
   pub shelves : (c : Card) (t : ℕ) → Shelves c t
   pub entries-fit : EntriesFit
+  pub squads : (s : List ℕ) → Accepted s → (i j : ℕ) → Squads {ℓ} s i j

@@ -15,6 +15,7 @@ use crate::page::{page, write_page};
 use crate::random::Random;
 use crate::sheet::{MOST_KINDS, Numbers, Refusal, numbers};
 use crate::shelf::{Entries, MOST_TOKENS, ShelfNumber, shelf_field, shelf_number};
+use crate::squads::squads;
 use crate::walker::{self, DESKS, Walked, walk_lent};
 
 /// Makes a call with what is lent, and answers.
@@ -33,6 +34,7 @@ pub enum Call {
     Numbers,
     ShelfNumber { field: usize },
     ShelfField { size: usize, number: u64, entries: usize },
+    Squads { whole: usize, squad: usize, entries: usize },
 }
 
 /// A day: a session from its opening to its last walk.
@@ -107,6 +109,10 @@ pub enum Answer {
     ShelfNumber(ShelfNumber),
     /// Shelf field.
     FieldWritten,
+    /// Squads, with how often the squad goes into the whole.
+    Squads {
+        count: u64,
+    },
 }
 
 /// Entries before and past each buffer that must stay as they are.
@@ -143,7 +149,7 @@ pub struct Lent {
     pub sheets: Vec<Margined<u8>>,
     /// The table of Settle and Row.
     pub table: Margined<u32>,
-    /// The buffer of Prime form.
+    /// The buffer of Prime form, and that of the remainder of Squads.
     pub counts: Margined<u64>,
     /// The buffer of the page.
     pub page: Margined<u8>,
@@ -161,7 +167,10 @@ impl Lent {
             Call::Settle { entries } | Call::RowCheck { entries, .. } | Call::Row { entries, .. } => entries,
             _ => 0,
         };
-        let counts = if let Call::PrimeForm { entries, .. } = *call { entries } else { 0 };
+        let counts = match *call {
+            Call::PrimeForm { entries, .. } | Call::Squads { entries, .. } => entries,
+            _ => 0,
+        };
         let page = if let Call::Page { bytes } = *call { bytes } else { 0 };
         let field = if let Call::ShelfField { entries, .. } = *call { entries } else { 0 };
         // The allowances that a short session array has no room for stand past it, where a call must not read them.
@@ -200,6 +209,9 @@ pub fn independent(call: &Call, lent: &mut Lent) -> Answer {
         Call::ShelfNumber { field } => shelf_number(sheet, field).map(Answer::ShelfNumber),
         Call::ShelfField { size, number, .. } => {
             shelf_field(sheet, size, number, lent.field.lent_mut()).map(|()| Answer::FieldWritten)
+        }
+        Call::Squads { whole, squad, .. } => {
+            squads(sheet, whole, squad, lent.counts.lent_mut()).map(|count| Answer::Squads { count })
         }
     };
     answer.unwrap_or_else(Answer::Refused)
@@ -254,6 +266,10 @@ pub fn calls(sheets: &[Vec<u8>], random: &mut Random) -> Vec<Call> {
         let size = number_near(MOST_TOKENS as usize + 1, random);
         let number = shelf_number_near(kinds, size, random);
         calls.push(Call::ShelfField { size, number, entries: around(kinds, random) });
+    }
+    for _ in 0..4 {
+        let (whole, squad) = squads_near(fields, random);
+        calls.push(Call::Squads { whole, squad, entries: around(kinds, random) });
     }
     calls
 }
@@ -337,6 +353,18 @@ fn pair_near(count: usize, random: &mut Random) -> (usize, usize) {
     }
 }
 
+/// A whole and a squad, in most cases fields of so many that there are. The squad is often the field before the whole,
+/// where there is one, and one in eight wholes is its own squad.
+pub fn squads_near(fields: usize, random: &mut Random) -> (usize, usize) {
+    let whole = number_near(fields, random);
+    let squad = match random.below(8) {
+        0 => whole,
+        1..=4 if whole > 0 => whole - 1,
+        _ => number_near(fields, random),
+    };
+    (whole, squad)
+}
+
 /// A call on which two implementations differ.
 #[derive(Clone, Debug)]
 pub struct Difference {
@@ -390,7 +418,7 @@ pub fn compare_implementations(
 }
 
 /// The name of a call's entry and of its answer, for a day those of each walk; of Shelf number and Shelf field
-/// the size is the answer.
+/// the size is the answer, of Squads how often, from 2 on by its bits.
 fn names(call: &Call, answer: &Answer) -> Vec<String> {
     let entry = match call {
         Call::Settle { .. } => "settle",
@@ -403,6 +431,7 @@ fn names(call: &Call, answer: &Answer) -> Vec<String> {
         Call::Numbers => "numbers",
         Call::ShelfNumber { .. } => "shelf number",
         Call::ShelfField { .. } => "shelf field",
+        Call::Squads { .. } => "squads",
     };
     let answer = match (answer, call) {
         (Answer::Day(made), _) => {
@@ -415,6 +444,10 @@ fn names(call: &Call, answer: &Answer) -> Vec<String> {
         (Answer::Verdict(Verdict::Different { stage, .. }), _) => format!("different {stage}"),
         (Answer::ShelfNumber(ShelfNumber { size, .. }), _) => format!("size {size}"),
         (Answer::FieldWritten, Call::ShelfField { size, .. }) => format!("size {size}"),
+        (Answer::Squads { count: count @ 0..=1 }, _) => format!("{count}"),
+        (Answer::Squads { count }, _) if count >> 16 == 0 => "of 16 bits".to_string(),
+        (Answer::Squads { count }, _) if count >> 32 == 0 => "of 32 bits".to_string(),
+        (Answer::Squads { .. }, _) => "of 64 bits".to_string(),
         (
             Answer::RowThere
             | Answer::Row { .. }

@@ -1,6 +1,6 @@
-//! Norms, stages, rows, primes, the settled stage, the round game, the walk and the list of the fields of
-//! a size straight from their definitions, by search. Only for small cards: nothing here is meant to be
-//! fast, and nothing here uses `base`, `filer`, `walker` or `shelf`.
+//! Norms, stages, rows, primes, the settled stage, squads, the round game, the walk and the list of the fields
+//! of a size straight from their definitions, by search. Only for small cards: nothing here is meant to be
+//! fast, and nothing here uses `base`, `filer`, `walker`, `shelf` or `squads`.
 
 use std::cmp::Ordering;
 use std::collections::HashMap;
@@ -233,6 +233,27 @@ impl<'a> Definitions<'a> {
             }
         }
         Ok(Verdict::Same)
+    }
+
+    /// "The largest q such that the whole is the same as q squads joined with some remainder", and all such
+    /// remainders. Fields that are the same have equal norms, so that no more squads are tried than the whole's norm
+    /// has room for, and of remainders those of the norm that is left.
+    pub fn squads(&mut self, settled: u32, whole: &Field, squad: &Field) -> Result<(u64, Vec<Field>), TooLarge> {
+        let (norm, taken) = (self.norm(whole), self.norm(squad));
+        let kinds: Vec<usize> = (0..self.card.kinds).collect();
+        for times in (0..=norm / taken).rev() {
+            let mut remainders = Vec::new();
+            for remainder in self.fields_of_norm(norm - times * taken, &kinds) {
+                let joined = squad.iter().zip(&remainder).map(|(tokens, more)| times * tokens + more).collect();
+                if self.stage(settled, whole, &joined)? {
+                    remainders.push(remainder);
+                }
+            }
+            if !remainders.is_empty() {
+                return Ok((times, remainders));
+            }
+        }
+        unreachable!("no squads, and the whole itself as the remainder")
     }
 
     /// "A pair holds at 0 rounds. It holds at r + 1 rounds just when every challenge has a reply that

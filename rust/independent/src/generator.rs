@@ -143,7 +143,7 @@ pub struct Sample {
 }
 
 /// Sheet number `number` of a seed. Most are small; one in 25 is at the limits; two in five are damaged.
-/// One in four has some fields of few tokens in the place of others.
+/// One in four has some fields of few tokens in the place of others, and one in two some multiples of others.
 pub fn sample(seed: u64, number: u64) -> Sample {
     let state = seed ^ number.wrapping_mul(0xd134_2543_de82_ef95);
     let mut random = Random::new(state);
@@ -159,6 +159,10 @@ pub fn sample(seed: u64, number: u64) -> Sample {
     let mut of_few = Random::new(!state);
     if of_few.once_in(4) {
         put_few_tokens(&mut draft, &mut of_few);
+    }
+    let mut of_multiples = Random::new(state.rotate_left(32));
+    if of_multiples.once_in(2) {
+        put_multiples(&mut draft, &mut of_multiples);
     }
     let mut bytes = draft.bytes();
     let damage = match random.below(10) {
@@ -618,6 +622,75 @@ fn put_few_tokens(draft: &mut Draft, random: &mut Random) {
             if random.once_in(8) {
                 field[random.below(draft.kinds)] = u16::MAX;
             }
+        }
+    }
+}
+
+/// Puts multiples in the place of most of the fields but the first: a field before it, in most cases the last one, in
+/// which kinds may have given way to the products that they act as, some times or as often as there is room for; and in
+/// half of the cases a few tokens more. A field that leaves no room for a second is made smaller before that.
+fn put_multiples(draft: &mut Draft, random: &mut Random) {
+    for number in 1..draft.fields.len() {
+        let chosen = random.below(6);
+        if chosen == 0 {
+            put_far_apart(draft, number, random);
+        }
+        if chosen < 2 {
+            continue;
+        }
+        let before = if random.once_in(4) { random.below(number) } else { number - 1 };
+        if draft.fields[before].iter().any(|&count| count > u16::MAX / 2) {
+            draft.fields[before].iter_mut().for_each(|count| *count /= 16);
+        }
+        let mut field = draft.fields[before].clone();
+        for _ in 0..random.below(3) {
+            put_product(draft, &mut field, random);
+        }
+        let room = usize::from(u16::MAX / field.iter().copied().max().unwrap_or(0).max(1));
+        let times = match random.below(8) {
+            0 => 0,
+            1 => room,
+            2 => random.between(1, room),
+            _ => random.between(1, room.min(9)),
+        };
+        field.iter_mut().for_each(|count| *count *= times as u16);
+        if random.once_in(2) {
+            for _ in 0..random.between(1, 5) {
+                let kind = random.below(draft.kinds);
+                field[kind] = field[kind].saturating_add(1);
+            }
+        }
+        draft.fields[number] = field;
+    }
+}
+
+/// Gives a field 65,535 tokens of one kind, in half of the cases the last, and the field before it one token of kind 0:
+/// where norms are large, this one goes into that one as often as no 32 bits hold.
+fn put_far_apart(draft: &mut Draft, number: usize, random: &mut Random) {
+    let kind = if random.once_in(2) { draft.kinds - 1 } else { random.below(draft.kinds) };
+    for (field, kind, tokens) in [(number - 1, 0, 1), (number, kind, u16::MAX)] {
+        draft.fields[field].fill(0);
+        draft.fields[field][kind] = tokens;
+    }
+}
+
+/// Puts, in the place of all tokens of a kind that acts as a product, that product as often, where there is such a
+/// kind and room for it.
+fn put_product(draft: &Draft, field: &mut Vec<u16>, random: &mut Random) {
+    for kind in shuffled(draft.kinds, random) {
+        let Some(product) = draft.products[kind].as_ref().filter(|_| field[kind] > 0) else {
+            continue;
+        };
+        let mut put = field.clone();
+        let times = std::mem::take(&mut put[kind]);
+        let fits = put.iter_mut().zip(product).all(|(count, &more)| {
+            let sum = more.checked_mul(times).and_then(|more| more.checked_add(*count));
+            *count = sum.unwrap_or(0);
+            sum.is_some()
+        });
+        if fits {
+            *field = put;
+            return;
         }
     }
 }

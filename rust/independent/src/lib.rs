@@ -1,5 +1,5 @@
 //! Document 01 ("Race cards, fields and their prime forms", the paper that asks for Limbatue), as
-//! requests 1, 2 and 4 of document 02 change it, implemented a second time, from that document's definitions
+//! requests 1, 2, 4 and 5 of document 02 change it, implemented a second time, from that document's definitions
 //! and document 000 (Hirshfeld, Jerrum, Moller, 1996, the algorithm). It shares no code with the verified library. The tests hold the two against each other, and the measurements compare
 //! their times. Sentences in quotes are these documents' own.
 
@@ -15,6 +15,8 @@ pub mod definitions;
 pub mod filer;
 /// Sheets from a seed: valid and damaged, small and at the limits.
 pub mod generator;
+/// What is promised of squads, held against Compare and Prime form.
+pub mod joining;
 /// Norms of kinds, their order, g, and refusals 9 and 10.
 pub mod norm;
 /// The printed page.
@@ -25,5 +27,7 @@ pub mod random;
 pub mod sheet;
 /// Shelf number and Shelf field.
 pub mod shelf;
+/// Squads.
+pub mod squads;
 /// Walk and its session.
 pub mod walker;

@@ -51,6 +51,12 @@ numbered-field-requires c κs = search needs
 enum-told-8 : tie.Need-enum-told-8
 enum-told-8 c = search needs
 
+count-squads-requires : tie.Need-count-squads-requires
+count-squads-requires c κs = search needs
+
+enum-told-9 : tie.Need-enum-told-9
+enum-told-9 c = search needs
+
 no-call-requires : tie.Need-no-call-requires
 no-call-requires c κs = search needs
 
@@ -103,9 +109,16 @@ returns-7 : tie.Need-returns-7
 unfolding verbTold
 returns-7 c = told-as _ (c .before .before .numbered-field .ensures) (ap (λ v. verbTold (c .before .before .before .before .before .before .before .before .before .args .s .now) v (c .before .before .before .before .before .before .before .before .before .args .numbers .now)) (sym (c .before .before .before .before .enum-told7 .given .1)))
 
+same-length-8 : tie.Need-same-length-8
+same-length-8 c = search needs
+
 returns-8 : tie.Need-returns-8
 unfolding verbTold
-returns-8 c = told-as _ (tells-nothing (c .before .before .before .before .before .before .args .out .now) (c .no-call .result) (c .no-call .ensures)) (ap (λ v. verbTold (c .before .before .before .before .before .before .args .s .now) v (c .before .before .before .before .before .before .args .numbers .now)) (sym (c .before .enum-told8 .given .1)))
+returns-8 c = told-as _ (c .before .before .count-squads .ensures) (ap (λ v. verbTold (c .before .before .before .before .before .before .before .before .before .args .s .now) v (c .before .before .before .before .before .before .before .before .before .args .numbers .now)) (sym (c .before .before .before .before .enum-told8 .given .1)))
+
+returns-9 : tie.Need-returns-9
+unfolding verbTold
+returns-9 c = told-as _ (tells-nothing (c .before .before .before .before .before .before .args .out .now) (c .no-call .result) (c .no-call .ensures)) (ap (λ v. verbTold (c .before .before .before .before .before .before .args .s .now) v (c .before .before .before .before .before .before .args .numbers .now)) (sym (c .before .enum-told9 .given .1)))
 
 pub call-spec : {M : Type 1} → statement M
 call-spec =
@@ -126,6 +139,8 @@ call-spec =
     enum-told-7
     numbered-field-requires
     enum-told-8
+    count-squads-requires
+    enum-told-9
     no-call-requires
     same-length
     returns
@@ -141,4 +156,6 @@ call-spec =
     returns-6
     same-length-7
     returns-7
-    returns-8)
+    same-length-8
+    returns-8
+    returns-9)

@@ -37,6 +37,10 @@ not-field : (c : tie.Else7) → verbIn (drop 7 verbs) (c .before .before .before
 unfolding verbs verbOf bytes
 not-field c = verb-later _ _ (c .before .before .before .before .before .before .before .before .before .before .before .before .before .before .before .before .before .before .before .before .before .before .args .word .now) (sym (c .before .same-word7 .ensures) ∙ c .if7 .left) ∙ not-number (c .before .before .before)
 
+not-squads : (c : tie.Else8) → verbIn (drop 8 verbs) (c .before .before .before .before .before .before .before .before .before .before .before .before .before .before .before .before .before .before .before .before .before .before .before .before .before .args .word .now) ≡ verbOf (c .before .before .before .before .before .before .before .before .before .before .before .before .before .before .before .before .before .before .before .before .before .before .before .before .before .args .word .now)
+unfolding verbs verbOf bytes
+not-squads c = verb-later _ _ (c .before .before .before .before .before .before .before .before .before .before .before .before .before .before .before .before .before .before .before .before .before .before .before .before .before .args .word .now) (sym (c .before .same-word8 .ensures) ∙ c .if8 .left) ∙ not-field (c .before .before .before)
+
 slice-aggregate-same-word : tie.Need-slice-aggregate-same-word
 slice-aggregate-same-word c = search needs
 
@@ -107,9 +111,19 @@ returns-7 : tie.Need-returns-7
 unfolding verbs verbOf bytes
 returns-7 c = verb-first _ _ (c .before .before .before .before .before .before .before .before .before .before .before .before .before .before .before .before .before .before .before .before .before .before .args .word .now) (sym (c .before .same-word7 .ensures) ∙ c .if7 .taken) ∙ not-number (c .before .before .before)
 
+slice-aggregate-same-word-8 : tie.Need-slice-aggregate-same-word-8
+slice-aggregate-same-word-8 c = search needs
+
+same-word-requires-8 : tie.Need-same-word-requires-8
+same-word-requires-8 c κs = search needs
+
 returns-8 : tie.Need-returns-8
+unfolding verbs verbOf bytes
+returns-8 c = verb-first _ _ (c .before .before .before .before .before .before .before .before .before .before .before .before .before .before .before .before .before .before .before .before .before .before .before .before .before .args .word .now) (sym (c .before .same-word8 .ensures) ∙ c .if8 .taken) ∙ not-field (c .before .before .before)
+
+returns-9 : tie.Need-returns-9
 unfolding verbs verbOf
-returns-8 c = verb-none (c .before .before .before .before .before .before .before .before .before .before .before .before .before .before .before .before .before .before .before .before .before .before .args .word .now) ∙ not-field c
+returns-9 c = verb-none (c .before .before .before .before .before .before .before .before .before .before .before .before .before .before .before .before .before .before .before .before .before .before .before .before .before .args .word .now) ∙ not-squads c
 
 pub verb-of-spec : {M : Type 1} → statement M
 verb-of-spec =
@@ -136,4 +150,7 @@ verb-of-spec =
     slice-aggregate-same-word-7
     same-word-requires-7
     returns-7
-    returns-8)
+    slice-aggregate-same-word-8
+    same-word-requires-8
+    returns-8
+    returns-9)

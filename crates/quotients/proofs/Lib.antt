@@ -1,0 +1,2 @@
+-- One kind's counts, and the loop over the kinds.
+pub mod Loops
