@@ -2,8 +2,8 @@
 use mathlib.Core.Bool.{Bool, true, false}
 use mathlib.Core.Path.{_≡_, refl, _∙_, ap}
 use Prim.Native.Nat.{ℕ, zero, suc, _+_, _*_, _≤_, _<_}
-use native.Mathlib.Decide.{ℕ-discrete, decLt}
-use native.Mathlib.Nat.{mul-le-mul-left, mul-le-mul-right}
+use native.Mathlib.Decide.{ℕ-discrete}
+use native.Mathlib.Nat.{mul-le-mul-left}
 use native.Mathlib.Omega.{arith}
 use lib.Dec.{T, leb, leb→le, le→leb}
 use Rattle.model.specs.Finite.{greatestTo}
@@ -80,12 +80,3 @@ module _ (n : ℕ) (whole squad : Field) where
   pub remainder-exact : (k : ℕ) → k < n → times-in * squad k + remainder n whole squad k ≡ whole k
   unfolding remainder
   remainder-exact k h = omega (arith, times-fit k h)
-
-  -- A number that goes in at each kind, and one more of which does not at some kind, is it.
-  pub times-only : (q k : ℕ) → ((k : ℕ) → k < n → q * squad k ≤ whole k) → k < n → whole k < suc q * squad k → q ≡ times-in
-  times-only q k f h l = go (decLt q times-in) (decLt 0 (squad k))
-    where
-      go : Dec (q < times-in) → Dec (0 < squad k) → q ≡ times-in
-      go (yes p) _ = absurd (omega (arith, times-fit k h, mul-le-mul-right (squad k) p))
-      go (no p) (yes some) = omega (arith, times-largest q k h some f)
-      go (no p) (no none) = let z : squad k ≡ 0 = omega arith in absurd (omega (arith, rw z at l))

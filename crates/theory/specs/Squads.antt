@@ -16,7 +16,7 @@ use Rattle.theory.specs.Terms.{OfKinds, Prime}
 abbrev pub Joined {ℓ} : Card → Field → Field → ℕ → Field → Type (ℓ + 1)
 Joined c whole squad q x = Bisimilar {ℓ} (On c) whole (times q squad ⊕ x)
 
--- "the largest q such that the whole is the same as q squads joined with some remainder": with some remainder it is the same as q, and with no remainder, whatever field that is, the same as more.
+-- "the largest q such that the whole is the same as q squads joined with some remainder": there is a remainder that goes with q squads, and none, whatever field it is, that goes with more.
 pub record IsLargest {ℓ} (c : Card) (whole squad : Field) (q : ℕ) : Type (ℓ + 1) where
   pub some-remainder : (x : Field) × Joined {ℓ} c whole squad q x
   pub no-larger : (m : ℕ) (x : Field) → Joined {ℓ} c whole squad m x → m ≤ q
