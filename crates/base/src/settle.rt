@@ -58,7 +58,7 @@ fn is_settled(kinds: &[usize], n: usize, held: Stage) -> bool
 
 // The classes of the lines by the rows of a stage, none before the bound of its line. The table is used for the forms of what the lines leave.
 fn line_classes(
-    s: &[u8],
+    sheet: &[u8],
     card: Card,
     kinds: &[usize],
     codes: &[usize],
@@ -67,22 +67,22 @@ fn line_classes(
     bounds: &[usize],
     forms: &mut [u64],
 ) -> [usize; 256]
-    requires { ⌜ Reads (now s) card ⌝ }
-    requires { ⌜ Accepted (now s) ⌝ }
-    requires { ⌜ LinesAre (now s) (now kinds) (now codes) (now lowers) ⌝ }
+    requires { ⌜ Reads (now sheet) card ⌝ }
+    requires { ⌜ Accepted (now sheet) ⌝ }
+    requires { ⌜ LinesAre (now sheet) (now kinds) (now codes) (now lowers) ⌝ }
     requires { ⌜ (length (now rows) ≡ 1024) × (length (now kinds) ≤ length (now bounds)) ⌝ }
-    requires { ⌜ ((q : ℕ) × RowsFound (now s) (suc q) (now rows) (now forms) × BoundsAt (now s) q (now bounds)) ⌝ }
-    ensures { λ r. ⌜ ((q : ℕ) → BaseAt (now (s .entry)) (suc q) (now (rows .entry)) → Classes (now (s .entry)) q r × BoundsAt (now (s .entry)) q r) ⌝ }
+    requires { ⌜ ((q : ℕ) × RowsFound (now sheet) (suc q) (now rows) (now forms) × BoundsAt (now sheet) q (now bounds)) ⌝ }
+    ensures { λ r. ⌜ ((q : ℕ) → BaseAt (now (sheet .entry)) (suc q) (now (rows .entry)) → Classes (now (sheet .entry)) q r × BoundsAt (now (sheet .entry)) q r) ⌝ }
     ensures { λ r. ⌜ Under 256 r ⌝ }
     ensures { λ _. ⌜ FormTable (now (forms .exit)) ⌝ }
 {
-    all_forms(s, card, lowers, rows, forms);
+    all_forms(sheet, card, lowers, rows, forms);
     classes(codes, kinds, rows, forms, bounds)
 }
 
 // What is held at stage t, from its base and from bounds of the classes. `parted` is where the fields part by the stage before.
 fn stage_of(
-    s: &[u8],
+    sheet: &[u8],
     card: Card,
     first: usize,
     kinds: &[usize],
@@ -94,18 +94,18 @@ fn stage_of(
     bounds: &[usize],
     forms: &mut [u64],
 ) -> Stage
-    requires { ⌜ Reads (now s) card ⌝ }
-    requires { ⌜ Accepted (now s) ⌝ }
-    requires { ⌜ LinesAre (now s) (now kinds) (now codes) (now lowers) ⌝ }
+    requires { ⌜ Reads (now sheet) card ⌝ }
+    requires { ⌜ Accepted (now sheet) ⌝ }
+    requires { ⌜ LinesAre (now sheet) (now kinds) (now codes) (now lowers) ⌝ }
     requires { ⌜ (1 ≤ t) × (t ≤ mostKinds) ⌝ }
-    requires { ⌜ RowsFound (now s) t (base .rows) (now forms) × PartedAt (now s) (t - 1) first parted ⌝ }
-    requires { ⌜ (length (now kinds) ≤ length (now bounds)) × BoundsAt (now s) (t - 1) (now bounds) ⌝ }
-    ensures { λ r. ⌜ AtStage (now (s .entry)) first t r ⌝ }
+    requires { ⌜ RowsFound (now sheet) t (base .rows) (now forms) × PartedAt (now sheet) (t - 1) first parted ⌝ }
+    requires { ⌜ (length (now kinds) ≤ length (now bounds)) × BoundsAt (now sheet) (t - 1) (now bounds) ⌝ }
+    ensures { λ r. ⌜ AtStage (now (sheet .entry)) first t r ⌝ }
     ensures { λ _. ⌜ FormTable (now (forms .exit)) ⌝ }
 {
     let rows = base.rows;
-    let numbers = line_classes(s, card, kinds, codes, lowers, &rows, bounds, forms);
-    let next = parted_by_forms(s, card, &rows, first, t, parted);
+    let numbers = line_classes(sheet, card, kinds, codes, lowers, &rows, bounds, forms);
+    let next = parted_by_forms(sheet, card, &rows, first, t, parted);
     Stage {
         base,
         classes: numbers,
@@ -115,7 +115,7 @@ fn stage_of(
 
 // What is held at stage 1.
 fn first_stage(
-    s: &[u8],
+    sheet: &[u8],
     card: Card,
     norms: [u32; 32],
     first: usize,
@@ -124,17 +124,17 @@ fn first_stage(
     lowers: &[bool],
     forms: &mut [u64],
 ) -> Stage
-    requires { ⌜ Accepts (now s) card norms ⌝ }
-    requires { ⌜ LinesAre (now s) (now kinds) (now codes) (now lowers) ⌝ }
+    requires { ⌜ Accepts (now sheet) card norms ⌝ }
+    requires { ⌜ LinesAre (now sheet) (now kinds) (now codes) (now lowers) ⌝ }
     requires { ⌜ FormTable (now forms) ⌝ }
-    ensures { λ r. ⌜ AtStage (now (s .entry)) first 1 r ⌝ }
+    ensures { λ r. ⌜ AtStage (now (sheet .entry)) first 1 r ⌝ }
     ensures { λ _. ⌜ FormTable (now (forms .exit)) ⌝ }
 {
-    let base = first_rows(s, card, norms, kinds, codes, lowers, forms);
-    let parted = parted_by_norms(s, card, norms, first);
+    let base = first_rows(sheet, card, norms, kinds, codes, lowers, forms);
+    let parted = parted_by_norms(sheet, card, norms, first);
     let none = [0usize; 256];
     stage_of(
-        s,
+        sheet,
         card,
         first,
         kinds,
@@ -150,7 +150,7 @@ fn first_stage(
 
 // What is held at stage t + 1, from what is held at stage t.
 fn next_stage(
-    s: &[u8],
+    sheet: &[u8],
     card: Card,
     norms: [u32; 32],
     first: usize,
@@ -161,11 +161,11 @@ fn next_stage(
     t: usize,
     forms: &mut [u64],
 ) -> Stage
-    requires { ⌜ Accepts (now s) card norms ⌝ }
-    requires { ⌜ LinesAre (now s) (now kinds) (now codes) (now lowers) ⌝ }
+    requires { ⌜ Accepts (now sheet) card norms ⌝ }
+    requires { ⌜ LinesAre (now sheet) (now kinds) (now codes) (now lowers) ⌝ }
     requires { ⌜ FormTable (now forms) × (1 ≤ t) × (t < mostKinds) ⌝ }
-    requires { ⌜ AtStage (now s) first t held ⌝ }
-    ensures { λ r. ⌜ AtStage (now (s .entry)) first (t + 1) r ⌝ }
+    requires { ⌜ AtStage (now sheet) first t held ⌝ }
+    ensures { λ r. ⌜ AtStage (now (sheet .entry)) first (t + 1) r ⌝ }
     ensures { λ _. ⌜ FormTable (now (forms .exit)) ⌝ }
 {
     let base = held.base;
@@ -174,7 +174,7 @@ fn next_stage(
     let parted = held.parted;
     let lines = kinds.len();
     let next = next_rows(
-        s,
+        sheet,
         card,
         norms,
         kinds,
@@ -186,7 +186,7 @@ fn next_stage(
         forms,
     );
     stage_of(
-        s,
+        sheet,
         card,
         first,
         kinds,
@@ -202,7 +202,7 @@ fn next_stage(
 
 // The first stage that is settled, from stage 1 on.
 fn settle_lines(
-    s: &[u8],
+    sheet: &[u8],
     card: Card,
     norms: [u32; 32],
     first: usize,
@@ -211,13 +211,13 @@ fn settle_lines(
     lowers: &[bool],
     forms: &mut [u64],
 ) -> Settled
-    requires { ⌜ Accepts (now s) card norms ⌝ }
-    requires { ⌜ LinesAre (now s) (now kinds) (now codes) (now lowers) ⌝ }
+    requires { ⌜ Accepts (now sheet) card norms ⌝ }
+    requires { ⌜ LinesAre (now sheet) (now kinds) (now codes) (now lowers) ⌝ }
     requires { ⌜ FormTable (now forms) ⌝ }
-    ensures { λ r. ⌜ IsSettled (now (s .entry)) first r ⌝ }
+    ensures { λ r. ⌜ IsSettled (now (sheet .entry)) first r ⌝ }
 {
     let n = card.kinds;
-    let mut held = first_stage(s, card, norms, first, kinds, codes, lowers, forms);
+    let mut held = first_stage(sheet, card, norms, first, kinds, codes, lowers, forms);
     let mut t = 1;
     loop {
         if is_settled(kinds, n, held) {
@@ -229,23 +229,34 @@ fn settle_lines(
                 parted,
             };
         }
-        held = next_stage(s, card, norms, first, kinds, codes, lowers, held, t, forms);
+        held = next_stage(
+            sheet,
+            card,
+            norms,
+            first,
+            kinds,
+            codes,
+            lowers,
+            held,
+            t,
+            forms,
+        );
         t += 1;
     }
 }
 
 // "The settled stage is the least s from 1 up in which every related pair satisfies expansion", with its base, and where the fields part from the first one.
-pub fn settle(s: &[u8], card: Card, norms: [u32; 32], first: usize) -> Settled
-    requires { ⌜ Accepts (now s) card norms ⌝ }
-    ensures { λ r. ⌜ IsSettled (now (s .entry)) first r ⌝ }
+pub fn settle(sheet: &[u8], card: Card, norms: [u32; 32], first: usize) -> Settled
+    requires { ⌜ Accepts (now sheet) card norms ⌝ }
+    ensures { λ r. ⌜ IsSettled (now (sheet .entry)) first r ⌝ }
 {
     let lines = card.lines;
-    let kinds = line_kinds(s, card);
-    let codes = line_codes(s, card);
-    let lowers = lowering_lines(s, card, norms);
+    let kinds = line_kinds(sheet, card);
+    let codes = line_codes(sheet, card);
+    let lowers = lowering_lines(sheet, card, norms);
     let mut forms = [0u64; 8192];
     settle_lines(
-        s,
+        sheet,
         card,
         norms,
         first,

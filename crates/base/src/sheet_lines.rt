@@ -8,45 +8,45 @@ ghost use Rattle.norms.specs.Norms.{Accepts, lowersNorm};
 ghost use Rattle.base.specs.Settle.{Holds};
 
 // The kinds of the lines.
-pub fn line_kinds(s: &[u8], card: Card) -> [usize; 256]
-    requires { ⌜ Reads (now s) card ⌝ }
-    ensures { λ r. ⌜ Holds (λ j. lineOf (now (s .entry)) j .kind) 0 (card .lines) r ⌝ }
+pub fn line_kinds(sheet: &[u8], card: Card) -> [usize; 256]
+    requires { ⌜ Reads (now sheet) card ⌝ }
+    ensures { λ r. ⌜ Holds (λ j. lineOf (now (sheet .entry)) j .kind) 0 (card .lines) r ⌝ }
 {
     let lines = card.lines;
     let mut kinds = [0usize; 256];
     let mut j = 0;
     while j < lines {
-        kinds[j] = card.line_kind(s, j);
+        kinds[j] = card.line_kind(sheet, j);
         j += 1;
     }
     kinds
 }
 
 // The codes of the lines.
-pub fn line_codes(s: &[u8], card: Card) -> [usize; 256]
-    requires { ⌜ Reads (now s) card ⌝ }
-    ensures { λ r. ⌜ Holds (λ j. lineOf (now (s .entry)) j .code) 0 (card .lines) r ⌝ }
+pub fn line_codes(sheet: &[u8], card: Card) -> [usize; 256]
+    requires { ⌜ Reads (now sheet) card ⌝ }
+    ensures { λ r. ⌜ Holds (λ j. lineOf (now (sheet .entry)) j .code) 0 (card .lines) r ⌝ }
 {
     let lines = card.lines;
     let mut codes = [0usize; 256];
     let mut j = 0;
     while j < lines {
-        codes[j] = card.line_code(s, j);
+        codes[j] = card.line_code(sheet, j);
         j += 1;
     }
     codes
 }
 
 // Which lines lower the norm.
-pub fn lowering_lines(s: &[u8], card: Card, norms: [u32; 32]) -> [bool; 256]
-    requires { ⌜ Accepts (now s) card norms ⌝ }
-    ensures { λ r. ⌜ Holds (lowersNorm (now (s .entry))) false (card .lines) r ⌝ }
+pub fn lowering_lines(sheet: &[u8], card: Card, norms: [u32; 32]) -> [bool; 256]
+    requires { ⌜ Accepts (now sheet) card norms ⌝ }
+    ensures { λ r. ⌜ Holds (lowersNorm (now (sheet .entry))) false (card .lines) r ⌝ }
 {
     let lines = card.lines;
     let mut lowering = [false; 256];
     let mut j = 0;
     while j < lines {
-        lowering[j] = lowers(s, card, &norms, j);
+        lowering[j] = lowers(sheet, card, &norms, j);
         j += 1;
     }
     lowering

@@ -12,11 +12,11 @@ use sheet::Card;
 use validation::checks::Checked;
 
 // Any bytes, and a table of any length; a refusal leaves the table as it was. No sheet has a field of the number Card::FIELDS: none is compared with the others.
-pub fn settle_sheet(s: &[u8], table: &mut [u32]) -> Settling
-    ensures { λ r. ⌜ settlingOf r ≡ settleOf (now (s .entry)) (now (table .entry)) .answer ⌝ }
-    ensures { λ r. ⌜ now (table .exit) ≡ settleOf (now (s .entry)) (now (table .entry)) .lent ⌝ }
+pub fn settle_sheet(sheet: &[u8], table: &mut [u32]) -> Settling
+    ensures { λ r. ⌜ settlingOf r ≡ settleOf (now (sheet .entry)) (now (table .entry)) .answer ⌝ }
+    ensures { λ r. ⌜ now (table .exit) ≡ settleOf (now (sheet .entry)) (now (table .entry)) .lent ⌝ }
 {
-    let settlement = settle_once(s, Card::FIELDS);
+    let settlement = settle_once(sheet, Card::FIELDS);
     let checked = settlement.checked;
     match checked {
         Checked::Refused { number, place } => Settling::Refused { number, place },

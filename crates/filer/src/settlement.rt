@@ -16,11 +16,11 @@ pub struct Settlement {
 }
 
 // Any bytes: checked, and settled if they are accepted. A page of a sheet needs this once.
-pub fn settle_once(s: &[u8], first: usize) -> Settlement
-    ensures { λ r. ⌜ IsSettlement (now (s .entry)) r ⌝ }
+pub fn settle_once(sheet: &[u8], first: usize) -> Settlement
+    ensures { λ r. ⌜ IsSettlement (now (sheet .entry)) r ⌝ }
     ensures { λ r. ⌜ r .first ≡ first ⌝ }
 {
-    let acceptance = accept(s);
+    let acceptance = accept(sheet);
     let checked = acceptance.checked;
     let norms = acceptance.norms;
     match checked {
@@ -39,7 +39,7 @@ pub fn settle_once(s: &[u8], first: usize) -> Settlement
             }
         }
         Checked::Passed(card) => {
-            let settled = settle(s, card, norms, first);
+            let settled = settle(sheet, card, norms, first);
             Settlement {
                 checked: Checked::Passed(card),
                 norms,

@@ -13,35 +13,35 @@ ghost use Rattle.moves.specs.Following.{Follows};
 ghost use Rattle.game.specs.Challenges.{challengeOf, firstLine, secondLine, mayChallenge, mayReply};
 
 // Whether the challenge's side may use its line.
-fn may_challenge(card: Card, s: &[u8], number: usize, a: &[u32; 32], b: &[u32; 32]) -> bool
-    requires { ⌜ Reads (now s) card ⌝ }
+fn may_challenge(card: Card, sheet: &[u8], number: usize, a: &[u32; 32], b: &[u32; 32]) -> bool
+    requires { ⌜ Reads (now sheet) card ⌝ }
     requires { ⌜ number < 2 * card .lines ⌝ }
-    ensures { λ r. ⌜ r ≡ mayChallenge (at (now (a .entry))) (at (now (b .entry))) (challengeOf (now (s .entry)) number) ⌝ }
+    ensures { λ r. ⌜ r ≡ mayChallenge (at (now (a .entry))) (at (now (b .entry))) (challengeOf (now (sheet .entry)) number) ⌝ }
 {
     let lines = card.lines;
     if number < lines {
-        may_use(card, s, number, a)
+        may_use(card, sheet, number, a)
     } else {
-        may_use(card, s, number - lines, b)
+        may_use(card, sheet, number - lines, b)
     }
 }
 
 // The first challenge from `from` up to `to` whose side may use its line; `to` where there is none.
 pub fn next_challenge(
     card: Card,
-    s: &[u8],
+    sheet: &[u8],
     from: usize,
     to: usize,
     a: &[u32; 32],
     b: &[u32; 32],
 ) -> usize
-    requires { ⌜ Reads (now s) card ⌝ }
+    requires { ⌜ Reads (now sheet) card ⌝ }
     requires { ⌜ (from ≤ to) × (to ≤ 2 * card .lines) ⌝ }
-    ensures { λ r. ⌜ r ≡ nextOf (mayChallenge (at (now (a .entry))) (at (now (b .entry)))) (challengeOf (now (s .entry))) from to ⌝ }
+    ensures { λ r. ⌜ r ≡ nextOf (mayChallenge (at (now (a .entry))) (at (now (b .entry)))) (challengeOf (now (sheet .entry))) from to ⌝ }
 {
     let mut number = from;
     while number < to {
-        if may_challenge(card, s, number, a, b) {
+        if may_challenge(card, sheet, number, a, b) {
             return number;
         }
         number += 1;
@@ -52,7 +52,7 @@ pub fn next_challenge(
 // The first line from `from` up to `to` that is a reply of the other side to a challenge; `to` where none is.
 pub fn next_answer(
     card: Card,
-    s: &[u8],
+    sheet: &[u8],
     t: &[u16; ENTRIES],
     number: usize,
     from: usize,
@@ -60,15 +60,15 @@ pub fn next_answer(
     a: &[u32; 32],
     b: &[u32; 32],
 ) -> usize
-    requires { ⌜ Reads (now s) card × Follows (now s) (now t) ⌝ }
+    requires { ⌜ Reads (now sheet) card × Follows (now sheet) (now t) ⌝ }
     requires { ⌜ (number < 2 * card .lines) × (from ≤ to) × (to ≤ card .lines) ⌝ }
-    ensures { λ r. ⌜ r ≡ nextOf (mayReply (at (now (a .entry))) (at (now (b .entry))) (challengeOf (now (s .entry)) number)) (lineOf (now (s .entry))) from to ⌝ }
+    ensures { λ r. ⌜ r ≡ nextOf (mayReply (at (now (a .entry))) (at (now (b .entry))) (challengeOf (now (sheet .entry)) number)) (lineOf (now (sheet .entry))) from to ⌝ }
 {
     let lines = card.lines;
     if number < lines {
-        next_reply(card, s, t, from, to, number, b)
+        next_reply(card, sheet, t, from, to, number, b)
     } else {
-        next_reply(card, s, t, from, to, number - lines, a)
+        next_reply(card, sheet, t, from, to, number - lines, a)
     }
 }
 

@@ -33,7 +33,7 @@ pub enum Examined {
 // The challenges at `rounds` rounds that have the numbers from `from` up to `to`, each tried against replies at a round less.
 pub fn challenge(
     card: Card,
-    s: &[u8],
+    sheet: &[u8],
     t: &[u16; ENTRIES],
     rounds: u64,
     from: usize,
@@ -42,23 +42,34 @@ pub fn challenge(
     b: &[u32; 32],
     allowance: u32,
 ) -> Examined
-    requires { ⌜ Reads (now s) card × Follows (now s) (now t) ⌝ }
+    requires { ⌜ Reads (now sheet) card × Follows (now sheet) (now t) ⌝ }
     requires { ⌜ (0 < rounds) × (rounds ≤ mostRounds) × (from ≤ to) × (to ≤ 2 * card .lines) ⌝ }
     requires { ⌜ Bounded rounds (now a) × Bounded rounds (now b) ⌝ }
     ensures { λ r. ⌜
-        countedOf r ≡ cut allowance (challenged (at (now (a .entry))) (at (now (b .entry))) (cardOf (now (s .entry)) .lines) (rounds - 1)
-        (between (challengeOf (now (s .entry))) from to)) ⌝ }
+        countedOf r ≡ cut allowance (challenged (at (now (a .entry))) (at (now (b .entry))) (cardOf (now (sheet .entry)) .lines) (rounds - 1)
+        (between (challengeOf (now (sheet .entry))) from to)) ⌝ }
 {
-    let number = next_challenge(card, s, from, to, a, b);
+    let number = next_challenge(card, sheet, from, to, a, b);
     if number == to {
         return Examined::Holds(allowance);
     }
     let next = number + 1;
     let middle = next + (to - next) / 2;
     let lines = card.lines;
-    match reply(card, s, t, rounds - 1, number, 0, lines, a, b, allowance) {
-        Examined::Holds(left) => match challenge(card, s, t, rounds, next, middle, a, b, left) {
-            Examined::Holds(rest) => challenge(card, s, t, rounds, middle, to, a, b, rest),
+    match reply(
+        card,
+        sheet,
+        t,
+        rounds - 1,
+        number,
+        0,
+        lines,
+        a,
+        b,
+        allowance,
+    ) {
+        Examined::Holds(left) => match challenge(card, sheet, t, rounds, next, middle, a, b, left) {
+            Examined::Holds(rest) => challenge(card, sheet, t, rounds, middle, to, a, b, rest),
             Examined::Fails(rest) => Examined::Fails(rest),
             Examined::Spent => Examined::Spent,
         },
@@ -71,7 +82,7 @@ pub fn challenge(
 // "at 0 rounds it holds", and otherwise it holds where all challenges to it do.
 fn reply(
     card: Card,
-    s: &[u8],
+    sheet: &[u8],
     t: &[u16; ENTRIES],
     rounds: u64,
     number: usize,
@@ -81,14 +92,14 @@ fn reply(
     b: &[u32; 32],
     allowance: u32,
 ) -> Examined
-    requires { ⌜ Reads (now s) card × Follows (now s) (now t) ⌝ }
+    requires { ⌜ Reads (now sheet) card × Follows (now sheet) (now t) ⌝ }
     requires { ⌜ (rounds < mostRounds) × (number < 2 * card .lines) × (from ≤ to) × (to ≤ card .lines) ⌝ }
     requires { ⌜ Bounded (rounds + 1) (now a) × Bounded (rounds + 1) (now b) ⌝ }
     ensures { λ r. ⌜
-        countedOf r ≡ cut allowance (replied (at (now (a .entry))) (at (now (b .entry))) (cardOf (now (s .entry)) .lines) rounds
-        (challengeOf (now (s .entry)) number) (between (lineOf (now (s .entry))) from to)) ⌝ }
+        countedOf r ≡ cut allowance (replied (at (now (a .entry))) (at (now (b .entry))) (cardOf (now (sheet .entry)) .lines) rounds
+        (challengeOf (now (sheet .entry)) number) (between (lineOf (now (sheet .entry))) from to)) ⌝ }
 {
-    let answer = next_answer(card, s, t, number, from, to, a, b);
+    let answer = next_answer(card, sheet, t, number, from, to, a, b);
     if answer == to {
         return Examined::Fails(allowance);
     }
@@ -100,16 +111,27 @@ fn reply(
     }
     let lines = card.lines;
     let mut x = *a;
-    use_line(card, s, first_line(lines, number, answer), &mut x);
+    use_line(card, sheet, first_line(lines, number, answer), &mut x);
     let mut y = *b;
-    use_line(card, s, second_line(lines, number, answer), &mut y);
+    use_line(card, sheet, second_line(lines, number, answer), &mut y);
     let next = answer + 1;
     let middle = next + (to - next) / 2;
-    match challenge(card, s, t, rounds, 0, 2 * lines, &x, &y, allowance - 1) {
+    match challenge(card, sheet, t, rounds, 0, 2 * lines, &x, &y, allowance - 1) {
         Examined::Holds(left) => Examined::Holds(left),
-        Examined::Fails(left) => match reply(card, s, t, rounds, number, next, middle, a, b, left) {
+        Examined::Fails(left) => match reply(
+            card,
+            sheet,
+            t,
+            rounds,
+            number,
+            next,
+            middle,
+            a,
+            b,
+            left,
+        ) {
             Examined::Holds(rest) => Examined::Holds(rest),
-            Examined::Fails(rest) => reply(card, s, t, rounds, number, middle, to, a, b, rest),
+            Examined::Fails(rest) => reply(card, sheet, t, rounds, number, middle, to, a, b, rest),
             Examined::Spent => Examined::Spent,
         },
         Examined::Spent => Examined::Spent,

@@ -23,12 +23,12 @@ fn less_one(field: &mut [u32], k: usize)
 }
 
 // The field uses line j.
-pub fn use_line(card: Card, s: &[u8], j: usize, field: &mut [u32])
-    requires { ⌜ Reads (now s) card ⌝ }
+pub fn use_line(card: Card, sheet: &[u8], j: usize, field: &mut [u32])
+    requires { ⌜ Reads (now sheet) card ⌝ }
     requires { ⌜ j < card .lines ⌝ }
     requires { ⌜ Bounded 1 (now field) ⌝ }
-    ensures { λ _. ⌜ at (now (field .exit)) ≡ fire (lineOf (now (s .entry)) j) (at (now (field .entry))) ⌝ }
+    ensures { λ _. ⌜ at (now (field .exit)) ≡ fire (lineOf (now (sheet .entry)) j) (at (now (field .entry))) ⌝ }
 {
-    less_one(field, card.line_kind(s, j));
-    add_counts(field, card.line_counts(s, j));
+    less_one(field, card.line_kind(sheet, j));
+    add_counts(field, card.line_counts(sheet, j));
 }

@@ -13,12 +13,12 @@ ghost use Rattle.moves.specs.Following.{Long, RowSet, FollowsFrom, Follo
 pub const ENTRIES: usize = 16_448;
 
 // The entry of a row that a line belongs to: its code.
-pub fn row_entry(card: Card, s: &[u8], line: usize) -> usize
-    requires { ⌜ Reads (now s) card ⌝ }
+pub fn row_entry(card: Card, sheet: &[u8], line: usize) -> usize
+    requires { ⌜ Reads (now sheet) card ⌝ }
     requires { ⌜ line < card .lines ⌝ }
-    ensures { λ r. ⌜ (r ≡ lineOf (now (s .entry)) line .code) × (r < mostCodes) ⌝ }
+    ensures { λ r. ⌜ (r ≡ lineOf (now (sheet .entry)) line .code) × (r < mostCodes) ⌝ }
 {
-    card.line_code(s, line)
+    card.line_code(sheet, line)
 }
 
 // An entry as the number of a line.
@@ -65,25 +65,25 @@ fn copy_row(t: &mut [u16], position: usize)
 }
 
 // The row of a line: that of the next position, with the line itself at its own code.
-fn line_row(card: Card, s: &[u8], t: &mut [u16], line: usize)
-    requires { ⌜ Reads (now s) card × FollowsFrom (now s) (line + 1) (now t) ⌝ }
+fn line_row(card: Card, sheet: &[u8], t: &mut [u16], line: usize)
+    requires { ⌜ Reads (now sheet) card × FollowsFrom (now sheet) (line + 1) (now t) ⌝ }
     requires { ⌜ line < card .lines ⌝ }
-    ensures { λ _. ⌜ FollowsFrom (now (s .entry)) line (now (t .exit)) ⌝ }
+    ensures { λ _. ⌜ FollowsFrom (now (sheet .entry)) line (now (t .exit)) ⌝ }
 {
-    let code = row_entry(card, s, line);
+    let code = row_entry(card, sheet, line);
     copy_row(t, line);
     t[line * Card::CODES + code] = line as u16;
 }
 
 // The whole table, from the end of the lines down.
-pub fn fill_table(card: Card, s: &[u8], t: &mut [u16])
-    requires { ⌜ Reads (now s) card × Long (now t) ⌝ }
-    ensures { λ _. ⌜ Follows (now (s .entry)) (now (t .exit)) ⌝ }
+pub fn fill_table(card: Card, sheet: &[u8], t: &mut [u16])
+    requires { ⌜ Reads (now sheet) card × Long (now t) ⌝ }
+    ensures { λ _. ⌜ Follows (now (sheet .entry)) (now (t .exit)) ⌝ }
 {
     let mut position = card.lines;
     fill_row(t, position, position as u16);
     while 0 < position {
         position -= 1;
-        line_row(card, s, t, position);
+        line_row(card, sheet, t, position);
     }
 }

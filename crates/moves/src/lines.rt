@@ -12,33 +12,33 @@ ghost use Rattle.moves.specs.Lines.{usable, answers, nextOf};
 ghost use Rattle.moves.specs.Following.{Follows};
 
 // Whether the field may use line j.
-pub fn may_use(card: Card, s: &[u8], j: usize, a: &[u32; 32]) -> bool
-    requires { ⌜ Reads (now s) card ⌝ }
+pub fn may_use(card: Card, sheet: &[u8], j: usize, a: &[u32; 32]) -> bool
+    requires { ⌜ Reads (now sheet) card ⌝ }
     requires { ⌜ j < card .lines ⌝ }
-    ensures { λ r. ⌜ r ≡ usable (at (now (a .entry))) (lineOf (now (s .entry)) j) ⌝ }
+    ensures { λ r. ⌜ r ≡ usable (at (now (a .entry))) (lineOf (now (sheet .entry)) j) ⌝ }
 {
-    let kind = card.line_kind(s, j);
+    let kind = card.line_kind(sheet, j);
     0 < a[kind]
 }
 
 // The first line from `from` up to `to` that is a reply of the field to a challenge by `challenge`; `to` where none is. The table leads from one line of the challenge's code to the next.
 pub fn next_reply(
     card: Card,
-    s: &[u8],
+    sheet: &[u8],
     t: &[u16; ENTRIES],
     from: usize,
     to: usize,
     challenge: usize,
     b: &[u32; 32],
 ) -> usize
-    requires { ⌜ Reads (now s) card × Follows (now s) (now t) ⌝ }
+    requires { ⌜ Reads (now sheet) card × Follows (now sheet) (now t) ⌝ }
     requires { ⌜ (from ≤ to) × (to ≤ card .lines) × (challenge < card .lines) ⌝ }
-    ensures { λ r. ⌜ r ≡ nextOf (answers (lineOf (now (s .entry)) challenge) (at (now (b .entry)))) (lineOf (now (s .entry))) from to ⌝ }
+    ensures { λ r. ⌜ r ≡ nextOf (answers (lineOf (now (sheet .entry)) challenge) (at (now (b .entry)))) (lineOf (now (sheet .entry))) from to ⌝ }
 {
-    let code = row_entry(card, s, challenge);
+    let code = row_entry(card, sheet, challenge);
     let mut line = following(t, from, code);
     while line < to {
-        if may_use(card, s, line, b) {
+        if may_use(card, sheet, line, b) {
             return line;
         }
         line = following(t, line + 1, code);

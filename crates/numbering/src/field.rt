@@ -17,11 +17,11 @@ use shelf::field::field_of;
 use validation::checks::Checked;
 
 // Any bytes, any size, any number and a buffer of any length; a refusal leaves the buffer as it was.
-pub fn shelf_field(s: &[u8], size: usize, number: u64, buffer: &mut [u16]) -> ShelfField
-    ensures { λ r. ⌜ fieldAnswer r ≡ shelfFieldOf (now (s .entry)) size number (now (buffer .entry)) .answer ⌝ }
-    ensures { λ r. ⌜ now (buffer .exit) ≡ shelfFieldOf (now (s .entry)) size number (now (buffer .entry)) .lent ⌝ }
+pub fn shelf_field(sheet: &[u8], size: usize, number: u64, buffer: &mut [u16]) -> ShelfField
+    ensures { λ r. ⌜ fieldAnswer r ≡ shelfFieldOf (now (sheet .entry)) size number (now (buffer .entry)) .answer ⌝ }
+    ensures { λ r. ⌜ now (buffer .exit) ≡ shelfFieldOf (now (sheet .entry)) size number (now (buffer .entry)) .lent ⌝ }
 {
-    let acceptance = accept(s);
+    let acceptance = accept(sheet);
     let checked = acceptance.checked;
     match checked {
         Checked::Refused { number, place } => ShelfField::Refused { number, place },

@@ -31,19 +31,19 @@ fn put_pair(out: &mut [u8], at: usize, later: usize, verdict: Verdict) -> usize
 pub fn put_pairs(
     out: &mut [u8],
     at: usize,
-    s: &[u8],
+    sheet: &[u8],
     settlement: Settlement,
     fields: usize,
 ) -> usize
-    requires { ⌜ IsSettlement (now s) settlement ⌝ }
+    requires { ⌜ IsSettlement (now sheet) settlement ⌝ }
     requires { ⌜ settlement .first ≡ 0 ⌝ }
     requires { ⌜ at + 80 * (fields - 1) ≤ length (now out) ⌝ }
-    ensures { λ r. ⌜ Appended (80 * (fields - 1)) (now (out .entry)) at (pairsText (now (s .entry)) fields) (now (out .exit)) r ⌝ }
+    ensures { λ r. ⌜ Appended (80 * (fields - 1)) (now (out .entry)) at (pairsText (now (sheet .entry)) fields) (now (out .exit)) r ⌝ }
 {
     let mut next = at;
     let mut later = 1;
     while later < fields {
-        let verdict = compare_settled(s, settlement, later);
+        let verdict = compare_settled(sheet, settlement, later);
         next = put_pair(out, next, later, verdict);
         later += 1;
     }

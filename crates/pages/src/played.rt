@@ -42,24 +42,24 @@ const BUDGET: usize = 300_000;
 const ROUNDS: u64 = 5;
 
 // Field 0 against a later field: the verdict and the prime forms against what was played.
-fn with_pair(s: &[u8], settlement: Settlement, later: usize, tally: Tally) -> Tally
-    requires { ⌜ IsSettlement (now s) settlement ⌝ }
+fn with_pair(sheet: &[u8], settlement: Settlement, later: usize, tally: Tally) -> Tally
+    requires { ⌜ IsSettlement (now sheet) settlement ⌝ }
 {
     let settled = settlement.settled;
     let last = settled.stage;
     let mut first = [0u64; 32];
-    form_settled(s, settlement, 0, &mut first);
+    form_settled(sheet, settlement, 0, &mut first);
     let mut second = [0u64; 32];
-    form_settled(s, settlement, later, &mut second);
+    form_settled(sheet, settlement, later, &mut second);
     let equal = tally::same_counts(&first, &second);
-    let unlike = tally::look_unlike(s, 0, later);
-    match compare_settled(s, settlement, later) {
+    let unlike = tally::look_unlike(sheet, 0, later);
+    match compare_settled(sheet, settlement, later) {
         Verdict::Same => {
-            let tried = player::parting(s, ROUNDS, 0, later, BUDGET);
+            let tried = player::parting(sheet, ROUNDS, 0, later, BUDGET);
             tally.with_pair(Called::Same, last, equal, unlike, tried)
         }
         Verdict::Different { stage, rounds } => {
-            let tried = player::parting(s, rounds, 0, later, BUDGET);
+            let tried = player::parting(sheet, rounds, 0, later, BUDGET);
             tally.with_pair(
                 Called::Different { stage, rounds },
                 last,
@@ -76,21 +76,21 @@ fn with_pair(s: &[u8], settlement: Settlement, later: usize, tally: Tally) -> Ta
 }
 
 // Field 0 against each later field.
-fn with_pairs(s: &[u8], settlement: Settlement, fields: usize, tally: Tally) -> Tally
-    requires { ⌜ IsSettlement (now s) settlement ⌝ }
+fn with_pairs(sheet: &[u8], settlement: Settlement, fields: usize, tally: Tally) -> Tally
+    requires { ⌜ IsSettlement (now sheet) settlement ⌝ }
 {
     let mut next = tally;
     let mut later = 1;
     while later < fields {
-        next = with_pair(s, settlement, later, next);
+        next = with_pair(sheet, settlement, later, next);
         later += 1;
     }
     next
 }
 
 // One sheet more.
-fn with_sheet(s: &[u8], count: Count) -> Count {
-    let settlement = settle_once(s, 0);
+fn with_sheet(sheet: &[u8], count: Count) -> Count {
+    let settlement = settle_once(sheet, 0);
     let checked = settlement.checked;
     let before = count.tally;
     match checked {
@@ -103,7 +103,7 @@ fn with_sheet(s: &[u8], count: Count) -> Count {
             tally: before,
         },
         Checked::Passed(card) => {
-            let tally = with_pairs(s, settlement, card.fields, before);
+            let tally = with_pairs(sheet, settlement, card.fields, before);
             Count {
                 settled: one_more(count.settled),
                 refused: count.refused,

@@ -37,7 +37,7 @@ pub enum Tried {
 // Line j as the only reply of b to the challenge by `line`, which left x: the pair that it leaves, at `rounds` rounds. "The first side stays first":
 // where the second side challenged, x is the second side.
 fn reply_holds(
-    s: &[u8],
+    sheet: &[u8],
     rounds: u64,
     second: bool,
     line: usize,
@@ -46,18 +46,18 @@ fn reply_holds(
     b: &[usize; 32],
     budget: usize,
 ) -> Play
-    requires { ⌜ (kindCount (now s) ≤ 32) × (line < 65536) × (j < 65536) ⌝ }
-    requires { ⌜ Fits (now s) rounds (now x) × Fits (now s) (rounds + 1) (now b) ⌝ }
+    requires { ⌜ (kindCount (now sheet) ≤ 32) × (line < 65536) × (j < 65536) ⌝ }
+    requires { ⌜ Fits (now sheet) rounds (now x) × Fits (now sheet) (rounds + 1) (now b) ⌝ }
     ensures { λ r. ⌜
-        countedOf r ≡ cut budget (tryReplies (leaves (challenger second) (cardOf (now (s .entry)) .lines) rounds) (lineOf (now (s .entry)) line)
-        (at (now (x .entry))) (at (now (b .entry))) (lineOf (now (s .entry)) j ∷ [])) ⌝ }
+        countedOf r ≡ cut budget (tryReplies (leaves (challenger second) (cardOf (now (sheet .entry)) .lines) rounds) (lineOf (now (sheet .entry)) line)
+        (at (now (x .entry))) (at (now (b .entry))) (lineOf (now (sheet .entry)) j ∷ [])) ⌝ }
 {
-    if may_reply(s, j, line, b) {
-        let y = field_after(s, j, b);
+    if may_reply(sheet, j, line, b) {
+        let y = field_after(sheet, j, b);
         if second {
-            pair_holds(s, rounds, &y, x, budget)
+            pair_holds(sheet, rounds, &y, x, budget)
         } else {
-            pair_holds(s, rounds, x, &y, budget)
+            pair_holds(sheet, rounds, x, &y, budget)
         }
     } else {
         Play::Fails(budget)
@@ -66,7 +66,7 @@ fn reply_holds(
 
 // "replies in line order up to the first that holds"
 fn some_reply(
-    s: &[u8],
+    sheet: &[u8],
     rounds: u64,
     second: bool,
     line: usize,
@@ -74,17 +74,17 @@ fn some_reply(
     b: &[usize; 32],
     budget: usize,
 ) -> Play
-    requires { ⌜ (kindCount (now s) ≤ 32) × (line < 65536) ⌝ }
-    requires { ⌜ Fits (now s) rounds (now x) × Fits (now s) (rounds + 1) (now b) ⌝ }
+    requires { ⌜ (kindCount (now sheet) ≤ 32) × (line < 65536) ⌝ }
+    requires { ⌜ Fits (now sheet) rounds (now x) × Fits (now sheet) (rounds + 1) (now b) ⌝ }
     ensures { λ r. ⌜
-        countedOf r ≡ cut budget (tryReplies (leaves (challenger second) (cardOf (now (s .entry)) .lines) rounds) (lineOf (now (s .entry)) line)
-        (at (now (x .entry))) (at (now (b .entry))) (cardOf (now (s .entry)) .lines)) ⌝ }
+        countedOf r ≡ cut budget (tryReplies (leaves (challenger second) (cardOf (now (sheet .entry)) .lines) rounds) (lineOf (now (sheet .entry)) line)
+        (at (now (x .entry))) (at (now (b .entry))) (cardOf (now (sheet .entry)) .lines)) ⌝ }
 {
-    let m = lines(s);
+    let m = lines(sheet);
     let mut left = budget;
     let mut j = 0;
     while j < m {
-        match reply_holds(s, rounds, second, line, j, x, b, left) {
+        match reply_holds(sheet, rounds, second, line, j, x, b, left) {
             Play::Holds(rest) => {
                 return Play::Holds(rest);
             }
@@ -102,7 +102,7 @@ fn some_reply(
 
 // Line j as the only challenge of a, if a may use it, against every reply of b.
 fn challenge_holds(
-    s: &[u8],
+    sheet: &[u8],
     rounds: u64,
     second: bool,
     j: usize,
@@ -110,15 +110,15 @@ fn challenge_holds(
     b: &[usize; 32],
     budget: usize,
 ) -> Play
-    requires { ⌜ (kindCount (now s) ≤ 32) × (j < 65536) ⌝ }
-    requires { ⌜ Fits (now s) (rounds + 1) (now a) × Fits (now s) (rounds + 1) (now b) ⌝ }
+    requires { ⌜ (kindCount (now sheet) ≤ 32) × (j < 65536) ⌝ }
+    requires { ⌜ Fits (now sheet) (rounds + 1) (now a) × Fits (now sheet) (rounds + 1) (now b) ⌝ }
     ensures { λ r. ⌜
-        countedOf r ≡ cut budget (tryChallenges (leaves (challenger second) (cardOf (now (s .entry)) .lines) rounds) (cardOf (now (s .entry)) .lines)
-        (at (now (a .entry))) (at (now (b .entry))) (lineOf (now (s .entry)) j ∷ [])) ⌝ }
+        countedOf r ≡ cut budget (tryChallenges (leaves (challenger second) (cardOf (now (sheet .entry)) .lines) rounds) (cardOf (now (sheet .entry)) .lines)
+        (at (now (a .entry))) (at (now (b .entry))) (lineOf (now (sheet .entry)) j ∷ [])) ⌝ }
 {
-    if may_use(s, j, a) {
-        let x = field_after(s, j, a);
-        some_reply(s, rounds, second, j, &x, b, budget)
+    if may_use(sheet, j, a) {
+        let x = field_after(sheet, j, a);
+        some_reply(sheet, rounds, second, j, &x, b, budget)
     } else {
         Play::Holds(budget)
     }
@@ -126,24 +126,24 @@ fn challenge_holds(
 
 // "the first challenge with no such reply ends the pair": the challenges of a in line order.
 fn every_challenge(
-    s: &[u8],
+    sheet: &[u8],
     rounds: u64,
     second: bool,
     a: &[usize; 32],
     b: &[usize; 32],
     budget: usize,
 ) -> Play
-    requires { ⌜ kindCount (now s) ≤ 32 ⌝ }
-    requires { ⌜ Fits (now s) (rounds + 1) (now a) × Fits (now s) (rounds + 1) (now b) ⌝ }
+    requires { ⌜ kindCount (now sheet) ≤ 32 ⌝ }
+    requires { ⌜ Fits (now sheet) (rounds + 1) (now a) × Fits (now sheet) (rounds + 1) (now b) ⌝ }
     ensures { λ r. ⌜
-        countedOf r ≡ cut budget (tryChallenges (leaves (challenger second) (cardOf (now (s .entry)) .lines) rounds) (cardOf (now (s .entry)) .lines)
-        (at (now (a .entry))) (at (now (b .entry))) (cardOf (now (s .entry)) .lines)) ⌝ }
+        countedOf r ≡ cut budget (tryChallenges (leaves (challenger second) (cardOf (now (sheet .entry)) .lines) rounds) (cardOf (now (sheet .entry)) .lines)
+        (at (now (a .entry))) (at (now (b .entry))) (cardOf (now (sheet .entry)) .lines)) ⌝ }
 {
-    let m = lines(s);
+    let m = lines(sheet);
     let mut left = budget;
     let mut j = 0;
     while j < m {
-        match challenge_holds(s, rounds, second, j, a, b, left) {
+        match challenge_holds(sheet, rounds, second, j, a, b, left) {
             Play::Holds(rest) => {
                 left = rest;
             }
@@ -161,10 +161,10 @@ fn every_challenge(
 
 // "A pair examined at r rounds counts 1. At 0 rounds it holds. Otherwise a challenge at r rounds is tried against replies at r - 1: lines of the first
 // side in line order, then of the second."
-fn pair_holds(s: &[u8], rounds: u64, a: &[usize; 32], b: &[usize; 32], budget: usize) -> Play
-    requires { ⌜ kindCount (now s) ≤ 32 ⌝ }
-    requires { ⌜ Fits (now s) rounds (now a) × Fits (now s) rounds (now b) ⌝ }
-    ensures { λ r. ⌜ countedOf r ≡ cut budget (examine (cardOf (now (s .entry)) .lines) rounds (at (now (a .entry))) (at (now (b .entry)))) ⌝ }
+fn pair_holds(sheet: &[u8], rounds: u64, a: &[usize; 32], b: &[usize; 32], budget: usize) -> Play
+    requires { ⌜ kindCount (now sheet) ≤ 32 ⌝ }
+    requires { ⌜ Fits (now sheet) rounds (now a) × Fits (now sheet) rounds (now b) ⌝ }
+    ensures { λ r. ⌜ countedOf r ≡ cut budget (examine (cardOf (now (sheet .entry)) .lines) rounds (at (now (a .entry))) (at (now (b .entry)))) ⌝ }
 {
     if budget == 0 {
         return Play::Spent;
@@ -172,8 +172,8 @@ fn pair_holds(s: &[u8], rounds: u64, a: &[usize; 32], b: &[usize; 32], budget: u
     if rounds == 0 {
         return Play::Holds(budget - 1);
     }
-    match every_challenge(s, rounds - 1, false, a, b, budget - 1) {
-        Play::Holds(left) => every_challenge(s, rounds - 1, true, b, a, left),
+    match every_challenge(sheet, rounds - 1, false, a, b, budget - 1) {
+        Play::Holds(left) => every_challenge(sheet, rounds - 1, true, b, a, left),
         Play::Fails(left) => Play::Fails(left),
         Play::Spent => Play::Spent,
     }
@@ -183,10 +183,10 @@ fn pair_holds(s: &[u8], rounds: u64, a: &[usize; 32], b: &[usize; 32], budget: u
 const ROUNDS: u64 = 200;
 
 // The pair at 1, 2, .. rounds, up to a limit, with so many pairs at most in all.
-fn try_rounds(s: &[u8], limit: u64, a: &[usize; 32], b: &[usize; 32], budget: usize) -> Tried
-    requires { ⌜ kindCount (now s) ≤ 32 ⌝ }
-    requires { ⌜ Fits (now s) 200 (now a) × Fits (now s) 200 (now b) ⌝ }
-    ensures { λ r. ⌜ r ≡ tried (cardOf (now (s .entry)) .lines) (at (now (a .entry))) (at (now (b .entry))) budget 0 limit ⌝ }
+fn try_rounds(sheet: &[u8], limit: u64, a: &[usize; 32], b: &[usize; 32], budget: usize) -> Tried
+    requires { ⌜ kindCount (now sheet) ≤ 32 ⌝ }
+    requires { ⌜ Fits (now sheet) 200 (now a) × Fits (now sheet) 200 (now b) ⌝ }
+    ensures { λ r. ⌜ r ≡ tried (cardOf (now (sheet .entry)) .lines) (at (now (a .entry))) (at (now (b .entry))) budget 0 limit ⌝ }
 {
     let mut left = budget;
     let mut rounds: u64 = 0;
@@ -194,7 +194,7 @@ fn try_rounds(s: &[u8], limit: u64, a: &[usize; 32], b: &[usize; 32], budget: us
         if ROUNDS <= rounds {
             return Tried::OutOfBounds(rounds);
         }
-        match pair_holds(s, rounds + 1, a, b, left) {
+        match pair_holds(sheet, rounds + 1, a, b, left) {
             Play::Holds(rest) => {
                 left = rest;
             }
@@ -212,20 +212,20 @@ fn try_rounds(s: &[u8], limit: u64, a: &[usize; 32], b: &[usize; 32], budget: us
 
 // Two fields of the sheet at 1, 2, .. rounds, up to a limit, with so many pairs at most in all. No sheet of more than 32 kinds is played, and no
 // field that it does not have.
-pub fn parting(s: &[u8], limit: u64, first: usize, second: usize, budget: usize) -> Tried
-    ensures { λ r. ⌜ r ≡ partingOf (now (s .entry)) limit first second budget ⌝ }
+pub fn parting(sheet: &[u8], limit: u64, first: usize, second: usize, budget: usize) -> Tried
+    ensures { λ r. ⌜ r ≡ partingOf (now (sheet .entry)) limit first second budget ⌝ }
 {
-    if 32 < kinds(s) {
+    if 32 < kinds(sheet) {
         return Tried::OutOfBounds(0);
     }
-    let f = fields(s);
+    let f = fields(sheet);
     if f <= first {
         return Tried::OutOfBounds(0);
     }
     if f <= second {
         return Tried::OutOfBounds(0);
     }
-    let a = field(s, first);
-    let b = field(s, second);
-    try_rounds(s, limit, &a, &b, budget)
+    let a = field(sheet, first);
+    let b = field(sheet, second);
+    try_rounds(sheet, limit, &a, &b, budget)
 }

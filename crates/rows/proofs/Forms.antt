@@ -50,7 +50,7 @@ module _ (c : Card) (F : Found (c .lines) (c .kinds) (kindNorm c)) where
   fin = finite N (c .lines) (λ l o. o) (λ l o. o) (F .positive) (equalNorm c (kindNorm c)) (tells-equal c (kindNorm c) F)
 
   -- The order of kinds as the test `earlier` and as a type.
-  pub earlier-iff : (k j : ℕ) → k < c .kinds → j < c .kinds → T (earlier (kindNorm c) k j) ↔ Earlier c j k
+  pub earlier-iff : (k j : ℕ) → k < c .kinds → j < c .kinds → T (earlier (kindNorm c) j k) ↔ Earlier c j k
   earlier-iff k j h i =
       let o = order-iff N (c .lines) (λ l o. o) (λ l o. o) (F .positive) (equalNorm c (kindNorm c)) (tells-equal c (kindNorm c) F) k j h i in
       let t = tells-earlier N (c .lines) (λ l o. o) (λ l o. o) (F .positive) (equalNorm c (kindNorm c)) (tells-equal c (kindNorm c) F) k j h i in

@@ -97,7 +97,7 @@ module _ {s kinds codes : List ℕ} {lowers : List Bool} (L : LinesAre s kinds c
 
 -- The order of kinds by the norms in the array.
 pub earlier-true : {s : List ℕ} {c : Card} {norms : List ℕ} → Accepts s c norms → (k j : ℕ) → k < kindCount s → j < kindCount s
-    → (earlier (at norms) k j ≡ true) ↔ Earlier (cardOf s) j k
+    → (earlier (at norms) j k ≡ true) ↔ Earlier (cardOf s) j k
 earlier-true {s} A k j h i =
     let e = earlier-iff (cardOf s) (certified s (A .accepted)) k j (kind-of s k h) (kind-of s j i) in
     rw (norms-at A) ((λ x. e .0 (true-holds x)), (λ x. holds-true (e .1 x)))
@@ -202,7 +202,7 @@ module _ {s : List ℕ} {c : Card} {norms kinds codes : List ℕ} {lowers : List
   line-kind : (m : ℕ) → LowersAt s m → lineOf s m .kind < kindCount s
   line-kind m w = omega (arith, kind-under (A .reads) m (omega (arith, w .0, lines-are (A .reads))), kinds-are (A .reads))
 
-  earlier-told : (m : ℕ) → LowersAt s m → (earlier (at norms) k (at kinds m) ≡ true) ↔ Earlier (cardOf s) (lineOf s m .kind) k
+  earlier-told : (m : ℕ) → LowersAt s m → (earlier (at norms) (at kinds m) k ≡ true) ↔ Earlier (cardOf s) (lineOf s m .kind) k
   earlier-told m w = rw (L .kind-is m (w .0)) (earlier-true A k (lineOf s m .kind) kind (line-kind m w))
 
   own-told : (m : ℕ) → LowersAt s m → Earlier (cardOf s) (lineOf s m .kind) k

@@ -17,7 +17,7 @@ pub record Suits (norms kinds codes : List ℕ) (lowers : List Bool) (classes ro
   pub class : at classes m ≡ at classes l
   pub lowering : getD lowers m false ≡ true
   pub code : at codes m ≡ at codes l
-  pub before : earlier (at norms) k (at kinds m) ≡ true
+  pub before : earlier (at norms) (at kinds m) k ≡ true
   pub own : rowIn rows (at kinds m) (at kinds m) ≡ 1
 
 -- b is m's kind with what l leaves, less what m leaves, in atoms.

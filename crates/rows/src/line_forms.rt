@@ -10,35 +10,35 @@ ghost use Rattle.tables.specs.Table.{Under, Atoms, formIn};
 ghost use Rattle.rows.specs.Forms.{RowSet, LoweringForms, AllForms, KindForms};
 
 // The form of what line j leaves.
-fn line_form(s: &[u8], card: Card, rows: &[u32], forms: &mut [u64], j: usize)
-    requires { ⌜ Reads (now s) card ⌝ }
+fn line_form(sheet: &[u8], card: Card, rows: &[u32], forms: &mut [u64], j: usize)
+    requires { ⌜ Reads (now sheet) card ⌝ }
     requires { ⌜ (length (now rows) ≡ 1024) × (length (now forms) ≡ 8192) ⌝ }
-    requires { ⌜ Atoms (now rows) (kindCount (now s)) ⌝ }
+    requires { ⌜ Atoms (now rows) (kindCount (now sheet)) ⌝ }
     requires { ⌜ j < card .lines ⌝ }
     requires { ⌜ Under (2 ^ 63) (now forms) ⌝ }
-    ensures { λ _. ⌜ RowSet (formIn (kindCount (now (s .entry))) (now (rows .entry)) (lineOf (now (s .entry)) j .left)) j (now (forms .entry)) (now (forms .exit)) ⌝ }
+    ensures { λ _. ⌜ RowSet (formIn (kindCount (now (sheet .entry))) (now (rows .entry)) (lineOf (now (sheet .entry)) j .left)) j (now (forms .entry)) (now (forms .exit)) ⌝ }
     ensures { λ _. ⌜ Under (2 ^ 63) (now (forms .exit)) ⌝ }
 {
     let a = j * 32;
     let e = a + 32;
-    form_of_counts(card.line_counts(s, j), rows, &mut forms[a..e]);
+    form_of_counts(card.line_counts(sheet, j), rows, &mut forms[a..e]);
 }
 
 // The forms of what all lines leave, where those of the lines that lower the norm are known.
-pub fn all_forms(s: &[u8], card: Card, lowers: &[bool], rows: &[u32], forms: &mut [u64])
-    requires { ⌜ Reads (now s) card ⌝ }
+pub fn all_forms(sheet: &[u8], card: Card, lowers: &[bool], rows: &[u32], forms: &mut [u64])
+    requires { ⌜ Reads (now sheet) card ⌝ }
     requires { ⌜ length (now lowers) ≡ card .lines ⌝ }
     requires { ⌜ (length (now rows) ≡ 1024) × (length (now forms) ≡ 8192) ⌝ }
-    requires { ⌜ Atoms (now rows) (kindCount (now s)) ⌝ }
+    requires { ⌜ Atoms (now rows) (kindCount (now sheet)) ⌝ }
     requires { ⌜ Under (2 ^ 63) (now forms) ⌝ }
-    requires { ⌜ LoweringForms (now s) (now rows) (now lowers) (now forms) ⌝ }
-    ensures { λ _. ⌜ AllForms (now (s .entry)) (now (rows .entry)) (now (forms .exit)) ⌝ }
+    requires { ⌜ LoweringForms (now sheet) (now rows) (now lowers) (now forms) ⌝ }
+    ensures { λ _. ⌜ AllForms (now (sheet .entry)) (now (rows .entry)) (now (forms .exit)) ⌝ }
 {
     let lines = card.lines;
     let mut j = 0;
     while j < lines {
         if !lowers[j] {
-            line_form(s, card, rows, forms, j);
+            line_form(sheet, card, rows, forms, j);
         }
         j += 1;
     }
@@ -46,7 +46,7 @@ pub fn all_forms(s: &[u8], card: Card, lowers: &[bool], rows: &[u32], forms: &mu
 
 // The forms of what the lines of kind k that lower the norm leave.
 pub fn kind_forms(
-    s: &[u8],
+    sheet: &[u8],
     card: Card,
     kinds: &[usize],
     lowers: &[bool],
@@ -54,12 +54,12 @@ pub fn kind_forms(
     forms: &mut [u64],
     k: usize,
 )
-    requires { ⌜ Reads (now s) card ⌝ }
+    requires { ⌜ Reads (now sheet) card ⌝ }
     requires { ⌜ (length (now kinds) ≡ card .lines) × (length (now lowers) ≡ card .lines) ⌝ }
     requires { ⌜ (length (now rows) ≡ 1024) × (length (now forms) ≡ 8192) ⌝ }
-    requires { ⌜ Atoms (now rows) (kindCount (now s)) ⌝ }
+    requires { ⌜ Atoms (now rows) (kindCount (now sheet)) ⌝ }
     requires { ⌜ Under (2 ^ 63) (now forms) ⌝ }
-    ensures { λ _. ⌜ KindForms (now (s .entry)) (now (rows .entry)) (now (kinds .entry)) (now (lowers .entry)) k (now (forms .entry)) (now (forms .exit)) ⌝ }
+    ensures { λ _. ⌜ KindForms (now (sheet .entry)) (now (rows .entry)) (now (kinds .entry)) (now (lowers .entry)) k (now (forms .entry)) (now (forms .exit)) ⌝ }
 {
     let lines = card.lines;
     let mut j = 0;
@@ -67,7 +67,7 @@ pub fn kind_forms(
         let kind = kinds[j];
         if kind == k {
             if lowers[j] {
-                line_form(s, card, rows, forms, j);
+                line_form(sheet, card, rows, forms, j);
             }
         }
         j += 1;

@@ -67,7 +67,7 @@ fn suits(
         let other = codes[m];
         if other == code {
             let kind = kinds[m];
-            if earlier(norms, k, kind) {
+            if earlier(norms, kind, k) {
                 return is_atom(rows, kind);
             }
         }
@@ -87,7 +87,7 @@ fn told(kinds: &[usize], forms: &[u64], l: usize, m: usize) -> RowCandidate
 
 // The row of kind k, of those that its lines tell.
 fn told_row(
-    s: &[u8],
+    sheet: &[u8],
     card: Card,
     norms: [u32; 32],
     kinds: &[usize],
@@ -101,11 +101,11 @@ fn told_row(
     forms: &[u64],
     k: usize,
 ) -> [u32; 32]
-    requires { ⌜ StageGiven (now s) card norms (now kinds) (now codes) (now lowers) t (now previous) (now classes) ⌝ }
+    requires { ⌜ StageGiven (now sheet) card norms (now kinds) (now codes) (now lowers) t (now previous) (now classes) ⌝ }
     requires { ⌜ (k < card .kinds) × (length (now rows) ≡ 1024) × (length (now forms) ≡ 8192) × Under (2 ^ 63) (now forms) ⌝ }
-    requires { ⌜ RowSought (now s) t k (now rows) (now forms) ⌝ }
+    requires { ⌜ RowSought (now sheet) t k (now rows) (now forms) ⌝ }
     requires { ⌜ KindMarks (now kinds) (now classes) (now marks) ⌝ }
-    ensures { λ r. ⌜ at r ≡ stageRow (cardOf (now (s .entry))) (suc t) k ⌝ }
+    ensures { λ r. ⌜ at r ≡ stageRow (cardOf (now (sheet .entry))) (suc t) k ⌝ }
 {
     let l = lowering_line(kinds, lowers, k);
     let mut m = 0;
@@ -137,7 +137,7 @@ fn was_atom(t: usize, previous: &[u32], k: usize) -> bool
 
 // The row of kind k. An atom stays an atom.
 pub fn row_of_kind(
-    s: &[u8],
+    sheet: &[u8],
     card: Card,
     norms: [u32; 32],
     kinds: &[usize],
@@ -151,17 +151,17 @@ pub fn row_of_kind(
     forms: &[u64],
     k: usize,
 ) -> [u32; 32]
-    requires { ⌜ StageGiven (now s) card norms (now kinds) (now codes) (now lowers) t (now previous) (now classes) ⌝ }
+    requires { ⌜ StageGiven (now sheet) card norms (now kinds) (now codes) (now lowers) t (now previous) (now classes) ⌝ }
     requires { ⌜ (k < card .kinds) × (length (now rows) ≡ 1024) × (length (now forms) ≡ 8192) × Under (2 ^ 63) (now forms) ⌝ }
-    requires { ⌜ RowSought (now s) t k (now rows) (now forms) ⌝ }
+    requires { ⌜ RowSought (now sheet) t k (now rows) (now forms) ⌝ }
     requires { ⌜ KindMarks (now kinds) (now classes) (now marks) ⌝ }
-    ensures { λ r. ⌜ at r ≡ stageRow (cardOf (now (s .entry))) (suc t) k ⌝ }
+    ensures { λ r. ⌜ at r ≡ stageRow (cardOf (now (sheet .entry))) (suc t) k ⌝ }
 {
     if was_atom(t, previous, k) {
         return one_token(k);
     }
     told_row(
-        s,
+        sheet,
         card,
         norms,
         kinds,

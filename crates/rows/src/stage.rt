@@ -18,7 +18,7 @@ ghost use Rattle.rows.specs.StageRows.{StageGiven, EarlierSet, KindSet, 
 
 // Sets kind k: the forms of its lowering lines, then its row.
 fn set_kind(
-    s: &[u8],
+    sheet: &[u8],
     card: Card,
     norms: [u32; 32],
     kinds: &[usize],
@@ -32,15 +32,15 @@ fn set_kind(
     forms: &mut [u64],
     k: usize,
 )
-    requires { ⌜ StageGiven (now s) card norms (now kinds) (now codes) (now lowers) t (now previous) (now classes) ⌝ }
+    requires { ⌜ StageGiven (now sheet) card norms (now kinds) (now codes) (now lowers) t (now previous) (now classes) ⌝ }
     requires { ⌜ (k < card .kinds) × (length (now rows) ≡ 1024) × (length (now forms) ≡ 8192) × Under (2 ^ 63) (now forms) ⌝ }
-    requires { ⌜ EarlierSet (now s) t k (now rows) (now forms) ⌝ }
+    requires { ⌜ EarlierSet (now sheet) t k (now rows) (now forms) ⌝ }
     requires { ⌜ KindMarks (now kinds) (now classes) (now marks) ⌝ }
-    ensures { λ _. ⌜ KindSet (now (s .entry)) t k (now (rows .entry)) (now (rows .exit)) (now (forms .entry)) (now (forms .exit)) ⌝ }
+    ensures { λ _. ⌜ KindSet (now (sheet .entry)) t k (now (rows .entry)) (now (rows .exit)) (now (forms .entry)) (now (forms .exit)) ⌝ }
 {
-    kind_forms(s, card, kinds, lowers, rows, forms, k);
+    kind_forms(sheet, card, kinds, lowers, rows, forms, k);
     let row = row_of_kind(
-        s,
+        sheet,
         card,
         norms,
         kinds,
@@ -59,7 +59,7 @@ fn set_kind(
 
 // The rows of stage t + 1, from those of stage t; of stage 1, where t is 0, from the norms alone.
 fn stage_rows(
-    s: &[u8],
+    sheet: &[u8],
     card: Card,
     norms: [u32; 32],
     kinds: &[usize],
@@ -70,9 +70,9 @@ fn stage_rows(
     classes: &[usize],
     forms: &mut [u64],
 ) -> Base
-    requires { ⌜ StageGiven (now s) card norms (now kinds) (now codes) (now lowers) t (now previous) (now classes) ⌝ }
+    requires { ⌜ StageGiven (now sheet) card norms (now kinds) (now codes) (now lowers) t (now previous) (now classes) ⌝ }
     requires { ⌜ FormTable (now forms) ⌝ }
-    ensures { λ r. ⌜ RowsFound (now (s .entry)) (suc t) (r .rows) (now (forms .exit)) ⌝ }
+    ensures { λ r. ⌜ RowsFound (now (sheet .entry)) (suc t) (r .rows) (now (forms .exit)) ⌝ }
 {
     let mut marks = [false; 8192];
     kind_marks(kinds, classes, &mut marks);
@@ -82,7 +82,7 @@ fn stage_rows(
     let mut k = earliest(&norms, n, &done);
     while k < n {
         set_kind(
-            s,
+            sheet,
             card,
             norms,
             kinds,
@@ -104,7 +104,7 @@ fn stage_rows(
 
 // The base at stage 1.
 pub fn first_rows(
-    s: &[u8],
+    sheet: &[u8],
     card: Card,
     norms: [u32; 32],
     kinds: &[usize],
@@ -112,16 +112,16 @@ pub fn first_rows(
     lowers: &[bool],
     forms: &mut [u64],
 ) -> Base
-    requires { ⌜ Accepts (now s) card norms ⌝ }
-    requires { ⌜ LinesAre (now s) (now kinds) (now codes) (now lowers) ⌝ }
+    requires { ⌜ Accepts (now sheet) card norms ⌝ }
+    requires { ⌜ LinesAre (now sheet) (now kinds) (now codes) (now lowers) ⌝ }
     requires { ⌜ FormTable (now forms) ⌝ }
-    ensures { λ r. ⌜ RowsFound (now (s .entry)) 1 (r .rows) (now (forms .exit)) ⌝ }
+    ensures { λ r. ⌜ RowsFound (now (sheet .entry)) 1 (r .rows) (now (forms .exit)) ⌝ }
 {
     let none = [0u32; 1024];
     let one = [0usize; 256];
     let lines = card.lines;
     stage_rows(
-        s,
+        sheet,
         card,
         norms,
         kinds,
@@ -136,7 +136,7 @@ pub fn first_rows(
 
 // The base at stage t + 1, from the base and the classes at stage t.
 pub fn next_rows(
-    s: &[u8],
+    sheet: &[u8],
     card: Card,
     norms: [u32; 32],
     kinds: &[usize],
@@ -147,15 +147,15 @@ pub fn next_rows(
     t: usize,
     forms: &mut [u64],
 ) -> Base
-    requires { ⌜ Accepts (now s) card norms ⌝ }
-    requires { ⌜ LinesAre (now s) (now kinds) (now codes) (now lowers) ⌝ }
+    requires { ⌜ Accepts (now sheet) card norms ⌝ }
+    requires { ⌜ LinesAre (now sheet) (now kinds) (now codes) (now lowers) ⌝ }
     requires { ⌜ FormTable (now forms) ⌝ }
     requires { ⌜ (length (now previous) ≡ 1024) × (length (now classes) ≡ length (now kinds)) × Under 256 (now classes) ⌝ }
-    requires { ⌜ (1 ≤ t) × BaseAt (now s) t (now previous) × Classes (now s) (t - 1) (now classes) ⌝ }
-    ensures { λ r. ⌜ RowsFound (now (s .entry)) (t + 1) (r .rows) (now (forms .exit)) ⌝ }
+    requires { ⌜ (1 ≤ t) × BaseAt (now sheet) t (now previous) × Classes (now sheet) (t - 1) (now classes) ⌝ }
+    ensures { λ r. ⌜ RowsFound (now (sheet .entry)) (t + 1) (r .rows) (now (forms .exit)) ⌝ }
 {
     stage_rows(
-        s,
+        sheet,
         card,
         norms,
         kinds,

@@ -13,91 +13,94 @@ fn wide(x: u8) -> usize
 }
 
 // Byte i.
-fn byte_at(s: &[u8], i: usize) -> usize
-    ensures { λ r. ⌜ (r ≡ byte (now (s .entry)) i) × (r < 256) ⌝ }
+fn byte_at(sheet: &[u8], i: usize) -> usize
+    ensures { λ r. ⌜ (r ≡ byte (now (sheet .entry)) i) × (r < 256) ⌝ }
 {
-    if i < s.len() { wide(s[i]) } else { 0 }
+    if i < sheet.len() { wide(sheet[i]) } else { 0 }
 }
 
 // The two bytes from i on, "low byte first".
-fn number_at(s: &[u8], i: usize) -> usize
+fn number_at(sheet: &[u8], i: usize) -> usize
     requires { ⌜ i < 1000000000 ⌝ }
-    ensures { λ r. ⌜ (r ≡ u16At (now (s .entry)) i) × (r < 65536) ⌝ }
+    ensures { λ r. ⌜ (r ≡ u16At (now (sheet .entry)) i) × (r < 65536) ⌝ }
 {
-    byte_at(s, i) + 256 * byte_at(s, i + 1)
+    byte_at(sheet, i) + 256 * byte_at(sheet, i + 1)
 }
 
 // "kinds n"
-pub fn kinds(s: &[u8]) -> usize
-    ensures { λ r. ⌜ (r ≡ kindCount (now (s .entry))) × (r < 65536) ⌝ }
+pub fn kinds(sheet: &[u8]) -> usize
+    ensures { λ r. ⌜ (r ≡ kindCount (now (sheet .entry))) × (r < 65536) ⌝ }
 {
-    number_at(s, 0)
+    number_at(sheet, 0)
 }
 
 // "lines m"
-pub fn lines(s: &[u8]) -> usize
-    ensures { λ r. ⌜ (r ≡ lineCount (now (s .entry))) × (r < 65536) ⌝ }
+pub fn lines(sheet: &[u8]) -> usize
+    ensures { λ r. ⌜ (r ≡ lineCount (now (sheet .entry))) × (r < 65536) ⌝ }
 {
-    number_at(s, 4)
+    number_at(sheet, 4)
 }
 
 // "fields f"
-pub fn fields(s: &[u8]) -> usize
-    ensures { λ r. ⌜ (r ≡ fieldCount (now (s .entry))) × (r < 65536) ⌝ }
+pub fn fields(sheet: &[u8]) -> usize
+    ensures { λ r. ⌜ (r ≡ fieldCount (now (sheet .entry))) × (r < 65536) ⌝ }
 {
-    number_at(s, 6)
+    number_at(sheet, 6)
 }
 
 // Where line j starts; for j the number of lines, where the fields start.
-fn line_start(s: &[u8], j: usize) -> usize
-    requires { ⌜ (kindCount (now s) ≤ 32) × (j < 65536) ⌝ }
-    ensures { λ r. ⌜ (r ≡ linesOffset + j * (2 + kindCount (now (s .entry)))) × (r < 10000000) ⌝ }
+fn line_start(sheet: &[u8], j: usize) -> usize
+    requires { ⌜ (kindCount (now sheet) ≤ 32) × (j < 65536) ⌝ }
+    ensures { λ r. ⌜ (r ≡ linesOffset + j * (2 + kindCount (now (sheet .entry)))) × (r < 10000000) ⌝ }
 {
-    20 + j * (2 + kinds(s))
+    20 + j * (2 + kinds(sheet))
 }
 
 // The kind of line j.
-pub fn line_kind(s: &[u8], j: usize) -> usize
-    requires { ⌜ (kindCount (now s) ≤ 32) × (j < 65536) ⌝ }
-    ensures { λ r. ⌜ r ≡ lineOf (now (s .entry)) j .kind ⌝ }
+pub fn line_kind(sheet: &[u8], j: usize) -> usize
+    requires { ⌜ (kindCount (now sheet) ≤ 32) × (j < 65536) ⌝ }
+    ensures { λ r. ⌜ r ≡ lineOf (now (sheet .entry)) j .kind ⌝ }
 {
-    byte_at(s, line_start(s, j))
+    byte_at(sheet, line_start(sheet, j))
 }
 
 // The code of line j.
-pub fn line_code(s: &[u8], j: usize) -> usize
-    requires { ⌜ (kindCount (now s) ≤ 32) × (j < 65536) ⌝ }
-    ensures { λ r. ⌜ r ≡ lineOf (now (s .entry)) j .code ⌝ }
+pub fn line_code(sheet: &[u8], j: usize) -> usize
+    requires { ⌜ (kindCount (now sheet) ≤ 32) × (j < 65536) ⌝ }
+    ensures { λ r. ⌜ r ≡ lineOf (now (sheet .entry)) j .code ⌝ }
 {
-    byte_at(s, line_start(s, j) + 1)
+    byte_at(sheet, line_start(sheet, j) + 1)
 }
 
 // How many tokens of kind k, one of the card's, line j leaves.
-pub fn line_left(s: &[u8], j: usize, k: usize) -> usize
-    requires { ⌜ (kindCount (now s) ≤ 32) × (j < 65536) × (k < kindCount (now s)) ⌝ }
-    ensures { λ r. ⌜ (r ≡ lineOf (now (s .entry)) j .left k) × (r < 256) ⌝ }
+pub fn line_left(sheet: &[u8], j: usize, k: usize) -> usize
+    requires { ⌜ (kindCount (now sheet) ≤ 32) × (j < 65536) × (k < kindCount (now sheet)) ⌝ }
+    ensures { λ r. ⌜ (r ≡ lineOf (now (sheet .entry)) j .left k) × (r < 256) ⌝ }
 {
-    byte_at(s, line_start(s, j) + 2 + k)
+    byte_at(sheet, line_start(sheet, j) + 2 + k)
 }
 
 // How many tokens of kind k, one of the card's, field i has.
-pub fn field_count(s: &[u8], i: usize, k: usize) -> usize
-    requires { ⌜ (kindCount (now s) ≤ 32) × (i < 65536) × (k < kindCount (now s)) ⌝ }
-    ensures { λ r. ⌜ (r ≡ fieldOf (now (s .entry)) i k) × (r < 65536) ⌝ }
+pub fn field_count(sheet: &[u8], i: usize, k: usize) -> usize
+    requires { ⌜ (kindCount (now sheet) ≤ 32) × (i < 65536) × (k < kindCount (now sheet)) ⌝ }
+    ensures { λ r. ⌜ (r ≡ fieldOf (now (sheet .entry)) i k) × (r < 65536) ⌝ }
 {
-    number_at(s, line_start(s, lines(s)) + 2 * kinds(s) * i + 2 * k)
+    number_at(
+        sheet,
+        line_start(sheet, lines(sheet)) + 2 * kinds(sheet) * i + 2 * k,
+    )
 }
 
 // Field i, with room for 200 rounds.
-pub fn field(s: &[u8], i: usize) -> [usize; 32]
-    requires { ⌜ (kindCount (now s) ≤ 32) × (i < 65536) ⌝ }
-    ensures { λ r. ⌜ (at r ≡ fieldOf (now (s .entry)) i) × Fits (now (s .entry)) 200 r ⌝ }
+pub fn field(sheet: &[u8], i: usize) -> [usize; 32]
+    requires { ⌜ (kindCount (now sheet) ≤ 32) × (i < 65536) ⌝ }
+    ensures { λ r. ⌜ (at r ≡ fieldOf (now (sheet .entry)) i) × Fits (now (sheet .entry)) 200 r ⌝ }
 {
-    let n = kinds(s);
+    let n = kinds(sheet);
     let mut counts = [0usize; 32];
     let mut k = 0;
     while k < n {
-        counts[k] = field_count(s, i, k);
+        counts[k] = field_count(sheet, i, k);
         k += 1;
     }
     counts

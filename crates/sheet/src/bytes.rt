@@ -11,24 +11,24 @@ fn wide(x: u8) -> usize
 }
 
 // Byte i, 0 past the end.
-pub fn byte_at(s: &[u8], i: usize) -> usize
-    ensures { λ r. ⌜ (r ≡ byte (now (s .entry)) i) × (r < 256) ⌝ }
+pub fn byte_at(sheet: &[u8], i: usize) -> usize
+    ensures { λ r. ⌜ (r ≡ byte (now (sheet .entry)) i) × (r < 256) ⌝ }
 {
-    if i < s.len() { wide(s[i]) } else { 0 }
+    if i < sheet.len() { wide(sheet[i]) } else { 0 }
 }
 
 // Two bytes from i on, low byte first.
-pub fn u16_at(s: &[u8], i: usize) -> usize
+pub fn u16_at(sheet: &[u8], i: usize) -> usize
     requires { ⌜ i + 1 < 2 ^ 64 ⌝ }
-    ensures { λ r. ⌜ (r ≡ u16At (now (s .entry)) i) × (r < 65536) ⌝ }
+    ensures { λ r. ⌜ (r ≡ u16At (now (sheet .entry)) i) × (r < 65536) ⌝ }
 {
-    byte_at(s, i) + 256 * byte_at(s, i + 1)
+    byte_at(sheet, i) + 256 * byte_at(sheet, i + 1)
 }
 
 // Four bytes from i on, low byte first.
-pub fn u32_at(s: &[u8], i: usize) -> usize
+pub fn u32_at(sheet: &[u8], i: usize) -> usize
     requires { ⌜ i + 3 < 2 ^ 64 ⌝ }
-    ensures { λ r. ⌜ (r ≡ u32At (now (s .entry)) i) × (r < 2 ^ 32) ⌝ }
+    ensures { λ r. ⌜ (r ≡ u32At (now (sheet .entry)) i) × (r < 2 ^ 32) ⌝ }
 {
-    u16_at(s, i) + 65536 * u16_at(s, i + 2)
+    u16_at(sheet, i) + 65536 * u16_at(sheet, i + 2)
 }

@@ -73,14 +73,14 @@ impl Card {
     }
 
     // The header's numbers, whatever they are.
-    pub fn of_header(s: &[u8]) -> Card
-        ensures { λ r. ⌜ r ≡ headerOf (now (s .entry)) ⌝ }
+    pub fn of_header(sheet: &[u8]) -> Card
+        ensures { λ r. ⌜ r ≡ headerOf (now (sheet .entry)) ⌝ }
     {
         Card {
-            kinds: u16_at(s, 0),
-            codes: u16_at(s, 2),
-            lines: u16_at(s, 4),
-            fields: u16_at(s, 6),
+            kinds: u16_at(sheet, 0),
+            codes: u16_at(sheet, 2),
+            lines: u16_at(sheet, 4),
+            fields: u16_at(sheet, 6),
         }
     }
 
@@ -101,46 +101,46 @@ impl Card {
     }
 
     // The kind of line j.
-    pub fn line_kind(self, s: &[u8], j: usize) -> usize
-        requires { ⌜ Reads (now s) self ⌝ }
+    pub fn line_kind(self, sheet: &[u8], j: usize) -> usize
+        requires { ⌜ Reads (now sheet) self ⌝ }
         requires { ⌜ j < self .lines ⌝ }
-        ensures { λ r. ⌜ r ≡ lineOf (now (s .entry)) j .kind ⌝ }
+        ensures { λ r. ⌜ r ≡ lineOf (now (sheet .entry)) j .kind ⌝ }
     {
-        byte_at(s, self.line_start(j))
+        byte_at(sheet, self.line_start(j))
     }
 
     // The code of line j.
-    pub fn line_code(self, s: &[u8], j: usize) -> usize
-        requires { ⌜ Reads (now s) self ⌝ }
+    pub fn line_code(self, sheet: &[u8], j: usize) -> usize
+        requires { ⌜ Reads (now sheet) self ⌝ }
         requires { ⌜ j < self .lines ⌝ }
-        ensures { λ r. ⌜ r ≡ lineOf (now (s .entry)) j .code ⌝ }
+        ensures { λ r. ⌜ r ≡ lineOf (now (sheet .entry)) j .code ⌝ }
     {
-        byte_at(s, self.line_start(j) + 1)
+        byte_at(sheet, self.line_start(j) + 1)
     }
 
     // The counts of line j: the part of the sheet's own bytes that starts two bytes into the line.
-    pub fn line_counts(self, s: &[u8], j: usize) -> &[u8]
-        requires { ⌜ Reads (now s) self ⌝ }
+    pub fn line_counts(self, sheet: &[u8], j: usize) -> &[u8]
+        requires { ⌜ Reads (now sheet) self ⌝ }
         requires { ⌜ j < self .lines ⌝ }
-        ensures { λ r. ⌜ now r ≡ lineCounts (now (s .entry)) j ⌝ }
+        ensures { λ r. ⌜ now r ≡ lineCounts (now (sheet .entry)) j ⌝ }
     {
         let start = self.line_start(j) + 2;
         let end = start + self.kinds;
-        &s[start..end]
+        &sheet[start..end]
     }
 
     // Field i by value, 0 past the card's kinds.
-    pub fn field(self, s: &[u8], i: usize) -> [u32; Card::KINDS]
-        requires { ⌜ Reads (now s) self ⌝ }
+    pub fn field(self, sheet: &[u8], i: usize) -> [u32; Card::KINDS]
+        requires { ⌜ Reads (now sheet) self ⌝ }
         requires { ⌜ i < self .fields ⌝ }
-        ensures { λ r. ⌜ r ≡ fieldCounts (now (s .entry)) i ⌝ }
+        ensures { λ r. ⌜ r ≡ fieldCounts (now (sheet .entry)) i ⌝ }
     {
         let kinds = self.kinds;
         let start = self.field_start(i);
         let mut f = [0u32; Card::KINDS];
         let mut k = 0;
         while k < kinds {
-            f[k] = u16_at(s, start + 2 * k) as u32;
+            f[k] = u16_at(sheet, start + 2 * k) as u32;
             k += 1;
         }
         f

@@ -38,17 +38,17 @@ fn widened(counts: &[u16]) -> [u64; 32]
 }
 
 // The counts of the field of a size and a number.
-pub fn numbered_field(s: &[u8], numbers: &[u64], out: &mut [u8]) -> Reply
+pub fn numbered_field(sheet: &[u8], numbers: &[u64], out: &mut [u8]) -> Reply
     requires { ⌜ mostText ≤ length (now out) ⌝ }
-    ensures { λ r. ⌜ Tells (fieldTold (now (s .entry)) (now (numbers .entry))) (now (out .entry)) (now (out .exit)) r ⌝ }
+    ensures { λ r. ⌜ Tells (fieldTold (now (sheet .entry)) (now (numbers .entry))) (now (out .entry)) (now (out .exit)) r ⌝ }
 {
     if numbers.len() != 2 {
         return no_call();
     }
     let mut counts = shelf_room();
-    match shelf_field(s, numbers[0] as usize, numbers[1], &mut counts) {
+    match shelf_field(sheet, numbers[0] as usize, numbers[1], &mut counts) {
         ShelfField::Written => {
-            let card = Card::of_header(s);
+            let card = Card::of_header(sheet);
             let n = card.kinds;
             let wide = widened(&counts[..n]);
             let length = put_form_line(out, 0, &wide[..n]);

@@ -25,14 +25,14 @@ fn put_shelved(out: &mut [u8], at: usize, size: usize, number: u64) -> usize
 }
 
 // The size and the number of a field.
-pub fn field_number(s: &[u8], numbers: &[u64], out: &mut [u8]) -> Reply
+pub fn field_number(sheet: &[u8], numbers: &[u64], out: &mut [u8]) -> Reply
     requires { ⌜ mostText ≤ length (now out) ⌝ }
-    ensures { λ r. ⌜ Tells (numberTold (now (s .entry)) (now (numbers .entry))) (now (out .entry)) (now (out .exit)) r ⌝ }
+    ensures { λ r. ⌜ Tells (numberTold (now (sheet .entry)) (now (numbers .entry))) (now (out .entry)) (now (out .exit)) r ⌝ }
 {
     if numbers.len() != 1 {
         return no_call();
     }
-    match shelf_number(s, numbers[0] as usize) {
+    match shelf_number(sheet, numbers[0] as usize) {
         ShelfNumber::Given { size, number } => {
             let length = put_shelved(out, 0, size, number);
             Reply {

@@ -32,17 +32,22 @@ fn put_squads(out: &mut [u8], at: usize, count: u64, remainder: &[u64]) -> usize
 }
 
 // How often one field goes into another, and the counts of what is left.
-pub fn count_squads(s: &[u8], numbers: &[u64], out: &mut [u8]) -> Reply
+pub fn count_squads(sheet: &[u8], numbers: &[u64], out: &mut [u8]) -> Reply
     requires { ⌜ mostText ≤ length (now out) ⌝ }
-    ensures { λ r. ⌜ Tells (squadsTold (now (s .entry)) (now (numbers .entry))) (now (out .entry)) (now (out .exit)) r ⌝ }
+    ensures { λ r. ⌜ Tells (squadsTold (now (sheet .entry)) (now (numbers .entry))) (now (out .entry)) (now (out .exit)) r ⌝ }
 {
     if numbers.len() != 2 {
         return no_call();
     }
     let mut remainder = remainder_room();
-    match squads(s, numbers[0] as usize, numbers[1] as usize, &mut remainder) {
+    match squads(
+        sheet,
+        numbers[0] as usize,
+        numbers[1] as usize,
+        &mut remainder,
+    ) {
         Squads::Counted { count } => {
-            let card = Card::of_header(s);
+            let card = Card::of_header(sheet);
             let n = card.kinds;
             let length = put_squads(out, 0, count, &remainder[..n]);
             Reply {

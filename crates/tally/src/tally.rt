@@ -305,22 +305,22 @@ pub fn same_counts(a: &[u64], b: &[u64]) -> bool
 }
 
 // Whether two fields look unlike: they have other counts of some kind.
-pub fn look_unlike(s: &[u8], first: usize, second: usize) -> bool
-    ensures { λ r. ⌜ Tests r (Unlike (now (s .entry)) first second) ⌝ }
+pub fn look_unlike(sheet: &[u8], first: usize, second: usize) -> bool
+    ensures { λ r. ⌜ Tests r (Unlike (now (sheet .entry)) first second) ⌝ }
 {
-    if 32 < kinds(s) {
+    if 32 < kinds(sheet) {
         return false;
     }
-    if fields(s) <= first {
+    if fields(sheet) <= first {
         return false;
     }
-    if fields(s) <= second {
+    if fields(sheet) <= second {
         return false;
     }
-    let n = kinds(s);
+    let n = kinds(sheet);
     let mut k = 0;
     while k < n {
-        if field_count(s, first, k) != field_count(s, second, k) {
+        if field_count(sheet, first, k) != field_count(sheet, second, k) {
             return true;
         }
         k += 1;

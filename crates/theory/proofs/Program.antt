@@ -125,7 +125,7 @@ module _ (c : Card) (w : ℕ → ℕ) (F : Found (c .lines) (c .kinds) w) where
   pub record Candidate (q k : ℕ) (l : Line) : Type 0 where
     pub line : Line
     pub lowers : Lowers c w line
-    pub before : T (earlier w k (line .kind))
+    pub before : T (earlier w (line .kind) k)
     pub own : rowBy q (line .kind) ≡ unit (line .kind)
     pub code : line .code ≡ l .code
     pub row-told : rowBy q k ⊕ formBy q (line .left) ≡ unit (line .kind) ⊕ formBy q (l .left)

@@ -56,12 +56,12 @@ fn put_rows(out: &mut [u8], at: usize, n: usize, table: &[u32]) -> usize
 }
 
 // The stage and the rows of a settled sheet.
-fn put_settled(out: &mut [u8], s: &[u8], stage: usize, table: &[u32]) -> Reply
+fn put_settled(out: &mut [u8], sheet: &[u8], stage: usize, table: &[u32]) -> Reply
     requires { ⌜ mostText ≤ length (now out) ⌝ }
-    requires { ⌜ kindCount (now s) ≤ mostKinds ⌝ }
-    ensures { λ r. ⌜ Tells (told (given (stagesLine stage ++ rowLines (kindCount (now (s .entry))) (now (table .entry))))) (now (out .entry)) (now (out .exit)) r ⌝ }
+    requires { ⌜ kindCount (now sheet) ≤ mostKinds ⌝ }
+    ensures { λ r. ⌜ Tells (told (given (stagesLine stage ++ rowLines (kindCount (now (sheet .entry))) (now (table .entry))))) (now (out .entry)) (now (out .exit)) r ⌝ }
 {
-    let card = Card::of_header(s);
+    let card = Card::of_header(sheet);
     let at_rows = put_stages(out, 0, stage);
     let length = put_rows(out, at_rows, card.kinds, table);
     Reply {
@@ -71,16 +71,16 @@ fn put_settled(out: &mut [u8], s: &[u8], stage: usize, table: &[u32]) -> Reply
 }
 
 // settle.
-pub fn settle(s: &[u8], numbers: &[u64], out: &mut [u8]) -> Reply
+pub fn settle(sheet: &[u8], numbers: &[u64], out: &mut [u8]) -> Reply
     requires { ⌜ mostText ≤ length (now out) ⌝ }
-    ensures { λ r. ⌜ Tells (settleTold (now (s .entry)) (now (numbers .entry))) (now (out .entry)) (now (out .exit)) r ⌝ }
+    ensures { λ r. ⌜ Tells (settleTold (now (sheet .entry)) (now (numbers .entry))) (now (out .entry)) (now (out .exit)) r ⌝ }
 {
     if numbers.len() != 0 {
         return no_call();
     }
     let mut table = table_room();
-    match settle_sheet(s, &mut table) {
-        Settling::Settled { stage } => put_settled(out, s, stage, &table),
+    match settle_sheet(sheet, &mut table) {
+        Settling::Settled { stage } => put_settled(out, sheet, stage, &table),
         Settling::Refused { number, place } => refuse(out, number, place),
     }
 }
@@ -103,18 +103,18 @@ fn put_row_of(out: &mut [u8], table: &[u32], n: usize, kind: usize) -> Reply
 }
 
 // row K.
-pub fn settled_row(s: &[u8], numbers: &[u64], out: &mut [u8]) -> Reply
+pub fn settled_row(sheet: &[u8], numbers: &[u64], out: &mut [u8]) -> Reply
     requires { ⌜ mostText ≤ length (now out) ⌝ }
-    ensures { λ r. ⌜ Tells (rowTold (now (s .entry)) (now (numbers .entry))) (now (out .entry)) (now (out .exit)) r ⌝ }
+    ensures { λ r. ⌜ Tells (rowTold (now (sheet .entry)) (now (numbers .entry))) (now (out .entry)) (now (out .exit)) r ⌝ }
 {
     if numbers.len() != 1 {
         return no_call();
     }
     let kind = numbers[0] as usize;
     let mut table = table_room();
-    match settle_sheet(s, &mut table) {
+    match settle_sheet(sheet, &mut table) {
         Settling::Settled { stage: _ } => {
-            let card = Card::of_header(s);
+            let card = Card::of_header(sheet);
             put_row_of(out, &table, card.kinds, kind)
         }
         Settling::Refused { number, place } => refuse(out, number, place),

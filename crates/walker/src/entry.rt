@@ -109,18 +109,18 @@ fn spend(allowance: u32) -> Played
 // "It tries 1, 2, up to the limit", each time from the pair itself, which counts 1.
 fn try_rounds(
     card: Card,
-    s: &[u8],
+    sheet: &[u8],
     t: &[u16; ENTRIES],
     a: &[u32; 32],
     b: &[u32; 32],
     limit: u64,
     allowance: u32,
 ) -> Played
-    requires { ⌜ Reads (now s) card × Follows (now s) (now t) ⌝ }
+    requires { ⌜ Reads (now sheet) card × Follows (now sheet) (now t) ⌝ }
     requires { ⌜ limit ≤ mostRounds ⌝ }
     requires { ⌜ Bounded mostRounds (now a) × Bounded mostRounds (now b) ⌝ }
     ensures { λ r. ⌜
-        Plays r (within allowance (model.walk (cardOf (now (s .entry)) .lines) (at (now (a .entry))) (at (now (b .entry))) 1 limit)) ⌝ }
+        Plays r (within allowance (model.walk (cardOf (now (sheet .entry)) .lines) (at (now (a .entry))) (at (now (b .entry))) 1 limit)) ⌝ }
 {
     let challenges = 2 * card.lines;
     let mut left = allowance;
@@ -129,7 +129,7 @@ fn try_rounds(
         if left == 0 {
             return spend(allowance);
         }
-        match challenge(card, s, t, rounds, 0, challenges, a, b, left - 1) {
+        match challenge(card, sheet, t, rounds, 0, challenges, a, b, left - 1) {
             Examined::Holds(rest) => {
                 left = rest;
             }
@@ -152,16 +152,16 @@ fn try_rounds(
 // The walk on a card that was read, by a desk that there is: 11 and 13 are checked, the fields are read, and the table of the lines that follow is made, 33 KB in this frame.
 fn walk_card(
     card: Card,
-    s: &[u8],
+    sheet: &[u8],
     first: usize,
     second: usize,
     limit: u64,
     desk: usize,
     session: Session,
 ) -> Walked
-    requires { ⌜ Reads (now s) card ⌝ }
+    requires { ⌜ Reads (now sheet) card ⌝ }
     requires { ⌜ desk ≤ lastDesk ⌝ }
-    ensures { λ r. ⌜ walkedOf r ≡ walkOf (now (s .entry)) first second limit desk (sessionOf session) ⌝ }
+    ensures { λ r. ⌜ walkedOf r ≡ walkOf (now (sheet .entry)) first second limit desk (sessionOf session) ⌝ }
 {
     let fields = card.fields;
     if fields <= first {
@@ -173,31 +173,31 @@ fn walk_card(
     if ROUNDS < limit {
         return refuse(13, 0, session);
     }
-    let a = card.field(s, first);
-    let b = card.field(s, second);
+    let a = card.field(sheet, first);
+    let b = card.field(sheet, second);
     let mut t = [0u16; ENTRIES];
-    fill_table(card, s, &mut t);
+    fill_table(card, sheet, &mut t);
     let allowance = left_of(desk, session);
-    let played = try_rounds(card, s, &t, &a, &b, limit, allowance);
+    let played = try_rounds(card, sheet, &t, &a, &b, limit, allowance);
     draw(played, desk, session)
 }
 
 // Walk: "two fields, a round limit 0 to 8, a session", and its desk: "16 a desk over 7, place 0, before the header is looked at".
 pub fn walk(
-    s: &[u8],
+    sheet: &[u8],
     first: usize,
     second: usize,
     limit: u64,
     desk: usize,
     session: Session,
 ) -> Walked
-    ensures { λ r. ⌜ walkedOf r ≡ walkOf (now (s .entry)) first second limit desk (sessionOf session) ⌝ }
+    ensures { λ r. ⌜ walkedOf r ≡ walkOf (now (sheet .entry)) first second limit desk (sessionOf session) ⌝ }
 {
     if DESKS <= desk {
         return refuse(16, 0, session);
     }
-    match check_sheet(s) {
-        Checked::Passed(card) => walk_card(card, s, first, second, limit, desk, session),
+    match check_sheet(sheet) {
+        Checked::Passed(card) => walk_card(card, sheet, first, second, limit, desk, session),
         Checked::Refused { number, place } => refuse(number, place, session),
     }
 }

@@ -41,11 +41,11 @@ unfolding lesserOf
 lesser-both x y n m = rw (ne-eqb x 0 n, lesserOf, ne-eqb y 0 m, sooner)
 
 -- "by norm, then by number"
-pub earlier-tie : (w : ℕ → ℕ) (k j : ℕ) → w j ≡ w k → earlier w k j ≡ ltb j k
+pub earlier-tie : (w : ℕ → ℕ) (k j : ℕ) → w j ≡ w k → earlier w j k ≡ ltb j k
 unfolding earlier
 earlier-tie w k j e = rw (le-ltb (w j) (w k) (omega arith), earlier, eq-eqb (w j) (w k) e)
 
-pub earlier-norm : (w : ℕ → ℕ) (k j : ℕ) → ¬ (w j ≡ w k) → earlier w k j ≡ ltb (w j) (w k)
+pub earlier-norm : (w : ℕ → ℕ) (k j : ℕ) → ¬ (w j ≡ w k) → earlier w j k ≡ ltb (w j) (w k)
 unfolding earlier
 earlier-norm w k j n = rw (ne-eqb (w j) (w k) n, earlier) (either-false (ltb (w j) (w k)))
   where

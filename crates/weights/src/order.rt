@@ -5,16 +5,16 @@ ghost use Rattle.model.specs.Field.{at};
 ghost use Rattle.model.specs.Base as base;
 ghost use Rattle.model.specs.Limits.{mostKinds};
 
-// "Kinds are ordered by norm, then by number": whether kind j comes before kind k.
-pub fn earlier(norms: &[u32; 32], k: usize, j: usize) -> bool
-    requires { ⌜ k < mostKinds ⌝ }
-    requires { ⌜ j < mostKinds ⌝ }
-    ensures { λ r. ⌜ r ≡ base.earlier (at (now (norms .entry))) k j ⌝ }
+// "Kinds are ordered by norm, then by number": whether the kind comes before the other.
+pub fn earlier(norms: &[u32; 32], kind: usize, other: usize) -> bool
+    requires { ⌜ kind < mostKinds ⌝ }
+    requires { ⌜ other < mostKinds ⌝ }
+    ensures { λ r. ⌜ r ≡ base.earlier (at (now (norms .entry))) kind other ⌝ }
 {
-    let own = norms[k];
-    let other = norms[j];
-    if other == own {
-        return j < k;
+    let own = norms[kind];
+    let its = norms[other];
+    if own == its {
+        return kind < other;
     }
-    other < own
+    own < its
 }

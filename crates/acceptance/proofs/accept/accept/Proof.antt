@@ -8,7 +8,7 @@ use Rattle.acceptance.proofs.accept.accept.Statement.{statement}
 use Rattle.acceptance.proofs.accept.accept.Tie as tie
 
 -- The card was read from the sheet.
-card-told : (c : tie.After-card) → Reads (c .before .before .before .before .args .s .now) (c .card .given .0 .0)
+card-told : (c : tie.After-card) → Reads (c .before .before .before .before .args .sheet .now) (c .card .given .0 .0)
 card-told c = sheet-read _ _ (sym (c .before .before .check-sheet .ensures) ∙ c .card .given .1)
 
 check-sheet-requires : tie.Need-check-sheet-requires

@@ -20,10 +20,10 @@ abbrev μ-loop : tie.MeasureT-loop
 μ-loop s card rows first t parted fields next₀ own j₀ next j = fields - j
 
 -- The forms fit 64 bits.
-fits : (c : tie.Else1 Inv-loop μ-loop) → FieldsFit (c .before .before .before .args .s .now) (c .before .before .before .args .rows .now)
+fits : (c : tie.Else1 Inv-loop μ-loop) → FieldsFit (c .before .before .before .args .sheet .now) (c .before .before .before .args .rows .now)
 fits c =
     let b = c .before .before .before in
-    fields-fit (b .args .s .now) (b .pre .1 .0) (λ k. omega (arith, c .before .before .shared-slice-known .given k)) (b .args .t) (b .args .rows .now) (b .pre .1 .1 .0 .1) (b .pre .1 .1 .1 .0)
+    fields-fit (b .args .sheet .now) (b .pre .1 .0) (λ k. omega (arith, c .before .before .shared-slice-known .given k)) (b .args .t) (b .args .rows .now) (b .pre .1 .1 .0 .1) (b .pre .1 .1 .1 .0)
 
 returns : tie.Need-returns Inv-loop μ-loop
 returns c = λ h j l. absurd (omega (arith, fields-are (c .before .before .before .pre .0)))
@@ -69,8 +69,8 @@ loop-again : tie.Need-loop-again Inv-loop μ-loop
 loop-again c =
     let b = c .before .before .before .before .before .before .before .before in
     let l = c .before .before .before .loop in
-    let i : b .args .first < fieldCount (b .args .s .now) = omega (arith, fields-are (b .pre .0), c .before .before .before .before .before .if1 .left) in
-    let j : l .j < fieldCount (b .args .s .now) = omega (arith, fields-are (b .pre .0), c .before .before .loop-test .taken) in
+    let i : b .args .first < fieldCount (b .args .sheet .now) = omega (arith, fields-are (b .pre .0), c .before .before .before .before .before .if1 .left) in
+    let j : l .j < fieldCount (b .args .sheet .now) = omega (arith, fields-are (b .pre .0), c .before .before .loop-test .taken) in
     let e : b .args .t ≡ suc (b .args .t - 1) = omega (arith, b .pre .1 .1 .0 .1) in
     filled-more (l .inv) _ (c .before .before .loop-test .taken)
     (c .parted-by-form .ensures (b .args .first) (b .args .t - 1) e (b .pre .1 .1 .1 .0) (c .before .before .before .before .field-form .ensures) (b .pre .1 .1 .1 .1 i (l .j) j))

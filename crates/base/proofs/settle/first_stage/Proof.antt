@@ -27,7 +27,7 @@ stage-of-requires c κs =
           b .pre .1 .0,
           (
             (omega arith, omega arith),
-            ((f .ensures, c .before .before .parted-by-norms .ensures), (few-lines (b .pre .0 .reads) (b .pre .1 .0), bounds-first (b .args .s .now) 0 mostLines)),
+            ((f .ensures, c .before .before .parted-by-norms .ensures), (few-lines (b .pre .0 .reads) (b .pre .1 .0), bounds-first (b .args .sheet .now) 0 mostLines)),
           ),
         ),
       ),

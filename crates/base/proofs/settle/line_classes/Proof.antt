@@ -12,7 +12,7 @@ all-forms-requires c κs =
     let b = c .before .before .before .before .before .before .before .before in
     let L = b .pre .1 .1 .0 in
     let g = b .pre .1 .1 .1 .1 in
-    let atoms = base-atoms (b .args .s .now) (b .pre .1 .0) (g .0) (b .args .rows .now) (g .1 .base-is) in
+    let atoms = base-atoms (b .args .sheet .now) (b .pre .1 .0) (g .0) (b .args .rows .now) (g .1 .base-is) in
     (b .pre .0, (L .lowers-long ∙ sym (lines-are (b .pre .0)), ((b .pre .1 .1 .1 .0 .0, g .1 .table .long), (atoms, (g .1 .table .small, lowering-forms L (b .pre .1 .0) (g .0) (g .1))))))
 
 classes-requires : tie.Need-classes-requires

@@ -73,8 +73,8 @@ stage-of-requires c κs =
           (
             (omega arith, omega (arith, b .pre .1 .1 .0 .2)),
             (
-              (f .ensures, parted-before (b .args .s .now) (b .args .held .parted) (b .args .first) (b .args .t) (H .parted-is)),
-              (omega (arith, few-lines (b .pre .0 .reads) (b .pre .1 .0)), bounds-before (b .args .s .now) (b .args .held .classes) (b .args .t) (b .pre .1 .1 .0 .1) (b .pre .0 .accepted) (H .classes-bound)),
+              (f .ensures, parted-before (b .args .sheet .now) (b .args .held .parted) (b .args .first) (b .args .t) (H .parted-is)),
+              (omega (arith, few-lines (b .pre .0 .reads) (b .pre .1 .0)), bounds-before (b .args .sheet .now) (b .args .held .classes) (b .args .t) (b .pre .1 .1 .0 .1) (b .pre .0 .accepted) (H .classes-bound)),
             ),
           ),
         ),

@@ -39,7 +39,7 @@ returns c =
     held-end (b .pre .0 .reads) (b .pre .0 .accepted) (b .pre .1 .0) (l .held) (l .inv .0) (l .inv .1) (c .before .before .before .is-settled .ensures .0 (c .before .before .if1 .taken))
 
 -- Where the stage is not settled, the next one is no later than the settled one, and so at most n.
-more : (c : tie.Else1 Inv-loop μ-loop) → Unsettled (c .before .before .before .before .before .before .before .before .before .before .before .before .args .s .now) (c .before .before .loop .t + 1)
+more : (c : tie.Else1 Inv-loop μ-loop) → Unsettled (c .before .before .before .before .before .before .before .before .before .before .before .before .args .sheet .now) (c .before .before .loop .t + 1)
 more c =
     let b = c .before .before .before .before .before .before .before .before .before .before .before .before in
     let l = c .before .before .loop in

@@ -11,8 +11,8 @@ use Rattle.base.proofs.settle.stage_of.Tie as tie
 rows-all : (b : tie.Start) → length (b .args .base .rows) ≡ 1024
 rows-all b = search needs
 
-found : (b : tie.Start) → RowsFound (b .args .s .now) (suc (b .args .t - 1)) (b .args .base .rows) (b .args .forms .now)
-found b = found-before (b .args .s .now) (b .args .base .rows) (b .args .forms .now) (b .args .t) (b .pre .1 .1 .1 .0 .0) (b .pre .1 .1 .1 .1 .0 .0)
+found : (b : tie.Start) → RowsFound (b .args .sheet .now) (suc (b .args .t - 1)) (b .args .base .rows) (b .args .forms .now)
+found b = found-before (b .args .sheet .now) (b .args .base .rows) (b .args .forms .now) (b .args .t) (b .pre .1 .1 .1 .0 .0) (b .pre .1 .1 .1 .1 .0 .0)
 
 slice-aggregate-line-classes : tie.Need-slice-aggregate-line-classes
 slice-aggregate-line-classes c = sym (rows-all (c .before .before .before .before .before .before .before .before))

@@ -13,7 +13,7 @@ compare-settled-requires : tie.Need-compare-settled-requires
 compare-settled-requires c κs = search needs
 
 returns : tie.Need-returns
-returns c = c .compare-settled .ensures ∙ ap (λ (n : ℕ). compareOf (c .before .before .before .args .s .now) n (c .before .before .before .args .second)) (c .before .settle-once .ensures .1)
+returns c = c .compare-settled .ensures ∙ ap (λ (n : ℕ). compareOf (c .before .before .before .args .sheet .now) n (c .before .before .before .args .second)) (c .before .settle-once .ensures .1)
 
 pub compare-spec : {M : Type 1} → statement M
 compare-spec = tie.close (tie.spec settle-once-requires compare-settled-requires returns)

@@ -19,7 +19,7 @@ card c = c .before .checked2 .given .0 .0
 passed : (c : tie.After-known-told2) → start c .args .settlement .checked ≡ Passed (card c)
 passed c = c .before .checked2 .given .1
 
-bytes : (c : tie.After-known-told2) → Bytes (start c .args .s .now)
+bytes : (c : tie.After-known-told2) → Bytes (start c .args .sheet .now)
 bytes c = λ k. omega (arith, c .before .before .before .shared-slice-known .given k)
 
 enum-known-checked : tie.Need-enum-known-checked

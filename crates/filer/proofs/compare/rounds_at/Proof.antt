@@ -15,7 +15,7 @@ use Rattle.filer.proofs.compare.rounds_at.Statement.{statement}
 use Rattle.filer.proofs.compare.rounds_at.Tie as tie
 
 abbrev sheet : tie.After-gain → List ℕ
-sheet c = c .before .before .before .before .before .before .before .args .s .now
+sheet c = c .before .before .before .before .before .before .before .args .sheet .now
 
 -- The two numbers are the norms of the fields, and the rounds are by the smaller.
 first-norm : (c : tie.After-gain) → c .before .before .before .before .field-norm .result ≡ norm (cardOf (sheet c)) (fieldOf (sheet c) (c .before .before .before .before .before .before .before .args .first))
@@ -43,7 +43,7 @@ by-second c = rw (other-smaller (c .before .before .before .before .before .fiel
 gain-small : (c : tie.After-gain) → c .gain .result + 1 < 2 ^ 64
 gain-small c =
     let b = c .before .before .before .before .before .before .before in
-    rw (c .gain .ensures) (gain-fits (b .args .s .now) (b .pre .0 .accepted) (λ k. omega (arith, c .before .before .before .before .before .before .shared-slice-known .given k)))
+    rw (c .gain .ensures) (gain-fits (b .args .sheet .now) (b .pre .0 .accepted) (λ k. omega (arith, c .before .before .before .before .before .before .shared-slice-known .given k)))
 
 field-requires : tie.Need-field-requires
 field-requires c κs = search needs

@@ -23,10 +23,10 @@ card c = c .before .checked2 .given .0 .0
 passed : (c : tie.After-known-told2) → start c .args .settlement .checked ≡ Passed (card c)
 passed c = c .before .checked2 .given .1
 
-read : (c : tie.After-known-told2) → Reads (start c .args .s .now) (card c)
+read : (c : tie.After-known-told2) → Reads (start c .args .sheet .now) (card c)
 read c = was-accepted (start c .pre) (card c) (passed c) .reads
 
-bytes : (c : tie.After-known-told2) → Bytes (start c .args .s .now)
+bytes : (c : tie.After-known-told2) → Bytes (start c .args .sheet .now)
 bytes c = λ k. omega (arith, c .before .before .before .before .shared-slice-known .given k)
 
 -- The form has a count for each kind of the card.

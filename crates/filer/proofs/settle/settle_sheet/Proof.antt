@@ -15,13 +15,13 @@ use Rattle.filer.proofs.settle.settle_sheet.Tie as tie
 abbrev card : tie.After-known-told2 → Card
 card c = c .before .checked2 .given .0 .0
 
-settled : (c : tie.After-known-told2) → IsSettlement (c .before .before .before .before .before .before .args .s .now) (c .before .before .before .settle-once .result)
+settled : (c : tie.After-known-told2) → IsSettlement (c .before .before .before .before .before .before .args .sheet .now) (c .before .before .before .settle-once .result)
 settled c = c .before .before .before .settle-once .ensures .0
 
 passed : (c : tie.After-known-told2) → c .before .before .before .settle-once .result .checked ≡ Passed (card c)
 passed c = c .before .checked2 .given .1
 
-read : (c : tie.After-known-told2) → Reads (c .before .before .before .before .before .before .args .s .now) (card c)
+read : (c : tie.After-known-told2) → Reads (c .before .before .before .before .before .before .args .sheet .now) (card c)
 read c = was-accepted (settled c) (card c) (passed c) .reads
 
 settle-once-requires : tie.Need-settle-once-requires

@@ -81,7 +81,7 @@ challenge-number : (t : ℕ) (c : challenge-lts.Else1 (challenge-calls t) (chall
 challenge-number t c =
     let a = c .before .before .before .args in
     let n : (c .before .next-challenge .result ≡ a .to) → ⊥ = c .if1 .left in
-    let w = least-within (λ k. mayChallenge (at (a .a .now)) (at (a .b .now)) (challengeOf (a .s .now) k)) (a .from) (a .to) (c .before .before .before .pre .1 .1 .0 .2) in
+    let w = least-within (λ k. mayChallenge (at (a .a .now)) (at (a .b .now)) (challengeOf (a .sheet .now) k)) (a .from) (a .to) (c .before .before .before .pre .1 .1 .0 .2) in
     (omega (arith, w .0, c .before .next-challenge .ensures), omega (arith, w .1, c .before .next-challenge .ensures))
 
 challenge-add-next : (t : ℕ) → challenge-lts.Need-add-next (challenge-calls t) (challenge-at t) challenge.Post
@@ -181,7 +181,7 @@ reply-line : (t : ℕ) (c : reply-lts.Else1 (reply-calls t) (reply-at t) reply.P
 reply-line t c =
     let a = c .before .before .before .args in
     let n : (c .before .next-answer .result ≡ a .to) → ⊥ = c .if1 .left in
-    let w = least-within (λ k. mayReply (at (a .a .now)) (at (a .b .now)) (challengeOf (a .s .now) (a .number)) (lineOf (a .s .now) k)) (a .from) (a .to) (c .before .before .before .pre .1 .1 .0 .2) in
+    let w = least-within (λ k. mayReply (at (a .a .now)) (at (a .b .now)) (challengeOf (a .sheet .now) (a .number)) (lineOf (a .sheet .now) k)) (a .from) (a .to) (c .before .before .before .pre .1 .1 .0 .2) in
     (omega (arith, w .0, c .before .next-answer .ensures), omega (arith, w .1, c .before .next-answer .ensures))
 
 reply-returns : (t : ℕ) → reply-lts.Need-returns (reply-calls t) (reply-at t) reply.Post
@@ -249,9 +249,9 @@ left-bounded : (t : ℕ) (c : reply-lts.After-use-line2 (reply-calls t) (reply-a
 left-bounded t c =
     let a = c .before .before .before .before .before .before .before .before .before .before .before .before .before .before .args in
     let p = c .before .before .before .before .before .before .before .before .before .before .before .before .before .before .pre .1 in (
-      fire-bounded (a .rounds) (lineOf (a .s .now) (c .before .before .before .before .before .before .before .first-line .result)) (a .a .now) (c .before .before .before .before .before .use-line .last .1 .1 .1 .0) (p .1 .0 .0) (left-under (a .s .now) (c .before .before .before .before .before .before .before .first-line .result) (λ k. omega (arith, c .before .before .before .before .before .before .before .before .before .before .before .before .before .shared-slice-known .given k)))
+      fire-bounded (a .rounds) (lineOf (a .sheet .now) (c .before .before .before .before .before .before .before .first-line .result)) (a .a .now) (c .before .before .before .before .before .use-line .last .1 .1 .1 .0) (p .1 .0 .0) (left-under (a .sheet .now) (c .before .before .before .before .before .before .before .first-line .result) (λ k. omega (arith, c .before .before .before .before .before .before .before .before .before .before .before .before .before .shared-slice-known .given k)))
           (c .before .before .before .before .before .use-line .ensures) (c .before .before .before .before .before .use-line .kept .1 .1 .1 .0) (p .1 .1 .0),
-      fire-bounded (a .rounds) (lineOf (a .s .now) (c .before .before .second-line .result)) (a .b .now) (c .use-line2 .last .1 .1 .1 .0) (p .1 .0 .0) (left-under (a .s .now) (c .before .before .second-line .result) (λ k. omega (arith, c .before .before .before .before .before .before .before .before .before .before .before .before .before .shared-slice-known .given k)))
+      fire-bounded (a .rounds) (lineOf (a .sheet .now) (c .before .before .second-line .result)) (a .b .now) (c .use-line2 .last .1 .1 .1 .0) (p .1 .0 .0) (left-under (a .sheet .now) (c .before .before .second-line .result) (λ k. omega (arith, c .before .before .before .before .before .before .before .before .before .before .before .before .before .shared-slice-known .given k)))
           (c .use-line2 .ensures) (c .use-line2 .kept .1 .1 .1 .0) (p .1 .1 .1),
     )
 

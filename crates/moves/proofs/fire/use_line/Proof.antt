@@ -26,19 +26,19 @@ shorter : (c : tie.After-line-counts) → length (c .line-counts .result .now) �
 shorter c =
     let a = c .before .before .before .before .before .before .before .before .before .args in
     let read = c .before .before .before .before .before .before .before .before .before .pre .0 in
-    omega (arith, ap length (c .line-counts .ensures), line-counts-length (a .s .now) (a .j), kinds-are read, kinds-most read, c .before .before .before .before .before .before .before .before .before .pre .1 .1 .long, c .before .before .before .before .less-one .kept .0)
+    omega (arith, ap length (c .line-counts .ensures), line-counts-length (a .sheet .now) (a .j), kinds-are read, kinds-most read, c .before .before .before .before .before .before .before .before .before .pre .1 .1 .long, c .before .before .before .before .less-one .kept .0)
 
 -- The counts are those that the line leaves.
-leaves : (c : tie.After-line-counts) → at (c .line-counts .result .now) ≡ lineOf (c .before .before .before .before .before .before .before .before .before .args .s .now) (c .before .before .before .before .before .before .before .before .before .args .j) .left
-leaves c = ap at (c .line-counts .ensures) ∙ line-counts-at (c .before .before .before .before .before .before .before .before .before .args .s .now) (c .before .before .before .before .before .before .before .before .before .args .j)
+leaves : (c : tie.After-line-counts) → at (c .line-counts .result .now) ≡ lineOf (c .before .before .before .before .before .before .before .before .before .args .sheet .now) (c .before .before .before .before .before .before .before .before .before .args .j) .left
+leaves c = ap at (c .line-counts .ensures) ∙ line-counts-at (c .before .before .before .before .before .before .before .before .before .args .sheet .now) (c .before .before .before .before .before .before .before .before .before .args .j)
 
 add-counts-requires : tie.Need-add-counts-requires
 add-counts-requires c κs =
     let a = c .before .before .before .before .before .before .before .before .before .args in
     record {
       within = shorter c;
-      fits = addable (lineOf (a .s .now) (a .j)) (c .before .before .before .before .less-one .last .0) (c .line-counts .result .now) (leaves c)
-          (left-under (a .s .now) (a .j) (λ k. omega (arith, c .before .before .before .before .before .before .before .before .shared-slice-known .given k)))
+      fits = addable (lineOf (a .sheet .now) (a .j)) (c .before .before .before .before .less-one .last .0) (c .line-counts .result .now) (leaves c)
+          (left-under (a .sheet .now) (a .j) (λ k. omega (arith, c .before .before .before .before .before .before .before .before .shared-slice-known .given k)))
           (less-bounded 1 _ _ _ (c .before .before .before .before .less-one .ensures) (c .before .before .before .before .less-one .kept .0) (c .before .before .before .before .before .before .before .before .before .pre .1 .1));
     }
 
@@ -48,7 +48,7 @@ same-length c = search needs
 returns : tie.Need-returns
 returns c =
     let a = c .before .before .before .before .before .before .before .before .before .before .before .before .args in
-    fired (lineOf (a .s .now) (a .j)) (c .before .before .before .before .before .before .before .before .line-kind .result) (a .field .now) (c .before .before .before .before .before .before .before .less-one .last .0) (c .before .before .before .line-counts .result .now) (c .before .before .add-counts .last .0)
+    fired (lineOf (a .sheet .now) (a .j)) (c .before .before .before .before .before .before .before .before .line-kind .result) (a .field .now) (c .before .before .before .before .before .before .before .less-one .last .0) (c .before .before .before .line-counts .result .now) (c .before .before .add-counts .last .0)
     (c .before .before .before .before .before .before .before .before .line-kind .ensures)
     (c .before .before .before .before .before .before .before .less-one .ensures)
     (leaves (c .before .before .before))

@@ -47,7 +47,7 @@ loop-again c =
     let w = c .before .before .before .before in
     let b = w .before .before .before .before .before in
     let l = w .before .before .before .loop in
-    (w .sweep .ensures ∙ ap (λ (xs : List ℕ). sweepOf (b .args .s .now) (at xs)) (l .inv .0) ∙ swept-next (b .pre) (l .turn), search needs)
+    (w .sweep .ensures ∙ ap (λ (xs : List ℕ). sweepOf (b .args .sheet .now) (at xs)) (l .inv .0) ∙ swept-next (b .pre) (l .turn), search needs)
 
 returns-2 : tie.Need-returns-2 Inv-loop μ-loop
 returns-2 c =

@@ -23,7 +23,7 @@ abbrev μ-loop : tie.MeasureT-loop
 loop-holds : tie.Need-loop-holds Inv-loop μ-loop
 loop-holds c =
     let a = c .before .args in
-    (search needs, found-start (a .card .kinds) (at (a .values .now)) (lineOf (a .s .now)) (a .card .lines))
+    (search needs, found-start (a .card .kinds) (at (a .values .now)) (lineOf (a .sheet .now)) (a .card .lines))
 
 sub-j : tie.Need-sub-j Inv-loop μ-loop
 sub-j c = search needs
@@ -74,7 +74,7 @@ loop-again c =
     let value = v .read-value .ensures
     ∙ ap (λ x. min x (suc normLimit)) (part-left R (l .j - 1) _ (v .before .line-counts .ensures) (λ n f. readValue n (at (a .values .now)) f)) in (
       search needs,
-      found-more (a .card .kinds) (at (a .values .now)) (lineOf (a .s .now)) (a .card .lines) (kinds-most R) (l .j) (v .before .before .before .loop-test .taken) (l .inv .0)
+      found-more (a .card .kinds) (at (a .values .now)) (lineOf (a .sheet .now)) (a .card .lines) (kinds-most R) (l .j) (v .before .before .before .loop-test .taken) (l .inv .0)
           (kind-under R (l .j - 1) (omega arith)) (l .next) _ _ _ (v .before .before .line-kind .ensures) (l .inv .1) value (c .lesser .ensures),
     )
 

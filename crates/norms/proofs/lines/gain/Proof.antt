@@ -19,7 +19,7 @@ abbrev μ-loop : tie.MeasureT-loop
 loop-holds : tie.Need-loop-holds Inv-loop μ-loop
 loop-holds c =
     let a = c .before .args in
-    (search needs, gain-start (a .s .now) (a .card .lines))
+    (search needs, gain-start (a .sheet .now) (a .card .lines))
 
 sub-j : tie.Need-sub-j Inv-loop μ-loop
 sub-j c = search needs
@@ -38,7 +38,7 @@ loop-again c =
     let a = c .before .before .before .before .before .args in
     let l = c .before .before .before .loop in (
       search needs,
-      gain-more (a .s .now) (a .card .lines) (l .j) (l .most) (c .before .line-gain .result) (c .greater .result) (c .before .before .loop-test .taken) (l .inv .0) (l .inv .1)
+      gain-more (a .sheet .now) (a .card .lines) (l .j) (l .most) (c .before .line-gain .result) (c .greater .result) (c .before .before .loop-test .taken) (l .inv .0) (l .inv .1)
           (c .before .line-gain .ensures) (c .greater .ensures),
     )
 

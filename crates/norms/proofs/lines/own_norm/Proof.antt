@@ -23,7 +23,7 @@ wide32-requires c κs = search needs
 returns : tie.Need-returns
 returns c =
     let b = c .before .before .before .before in
-    c .wide32 .ensures ∙ norm-at (b .pre .0) (c .before .before .line-kind .result) ∙ ap (kindNorm (cardOf (b .args .s .now))) (c .before .before .line-kind .ensures)
+    c .wide32 .ensures ∙ norm-at (b .pre .0) (c .before .before .line-kind .result) ∙ ap (kindNorm (cardOf (b .args .sheet .now))) (c .before .before .line-kind .ensures)
 
 pub own-norm-spec : {M : Type 1} → statement M
 own-norm-spec =

@@ -18,10 +18,10 @@ start c = c .before .before .before .before .before .before
 abbrev card : tie.After-known-told2 → Card
 card c = c .before .checked2 .given .0 .0
 
-accepts : (c : tie.After-known-told2) → Accepts (start c .args .s .now) (card c) (c .before .before .before .accept .result .norms)
+accepts : (c : tie.After-known-told2) → Accepts (start c .args .sheet .now) (card c) (c .before .before .before .accept .result .norms)
 accepts c = acceptance-accepts _ _ (c .before .before .before .accept .ensures) _ (c .before .checked2 .given .1)
 
-kinds : (c : tie.After-known-told2) → card c .kinds ≡ kindCount (start c .args .s .now)
+kinds : (c : tie.After-known-told2) → card c .kinds ≡ kindCount (start c .args .sheet .now)
 kinds c = kinds-are (accepts c .reads)
 
 accept-requires : tie.Need-accept-requires

@@ -39,7 +39,7 @@ returns c =
     let form = c .before .before .before .before .before .before .form-settled .last .1 .1 .1 .0 in
     let l = length-take-le (start .args .card .kinds) form (omega arith) in
     let part = form-part (start .pre .1 .0) (start .args .field) (replicate 32 0) form (start .pre .1 .1 .0) (omega arith) (c .before .before .before .before .before .before .form-settled .ensures .1) in
-    reads-as 701 (fieldAt (start .args .s .now) (start .args .field)) (c .before .before .put-field .ensures) (omega arith)
+    reads-as 701 (fieldAt (start .args .sheet .now) (start .args .field)) (c .before .before .put-field .ensures) (omega arith)
     (ap (fieldText (start .args .field)) part)
 
 pub put-settled-field-spec : {M : Type 1} → statement M

@@ -18,7 +18,7 @@ abbrev μ-loop : tie.MeasureT-loop
 μ-loop out₀ start s settlement fields next₀ later₀ out next later = fields - later
 
 loop-holds : tie.Need-loop-holds Inv-loop μ-loop
-loop-holds c = let start = c .before .before in (omega arith, omega arith, no-text (pairAt (start .args .s .now)) 80 1 (start .args .out .now) (start .args .at))
+loop-holds c = let start = c .before .before in (omega arith, omega arith, no-text (pairAt (start .args .sheet .now)) 80 1 (start .args .out .now) (start .args .at))
 
 compare-settled-requires : tie.Need-compare-settled-requires Inv-loop μ-loop
 compare-settled-requires c κs = c .before .before .before .before .pre .0
@@ -38,7 +38,7 @@ loop-again : tie.Need-loop-again Inv-loop μ-loop
 loop-again c =
     let start = c .before .before .before .before .before .before .before .before .before in
     let loop = c .before .before .before .before .before .before in
-    let s = start .args .s .now in
+    let s = start .args .sheet .now in
     let verdict = c .before .before .before .before .compare-settled .ensures ∙ ap (λ (i : ℕ). compareOf s i (loop .loop .later)) (start .pre .1 .0) in (
       omega arith,
       omega arith,
@@ -54,8 +54,8 @@ unfolding pairsText
 returns c =
     let start = c .before .before .before .before in
     let all : c .before .loop .later - 1 ≡ start .args .fields - 1 = omega arith in
-    reads-as (80 * (start .args .fields - 1)) (pairsText (start .args .s .now) (start .args .fields)) (c .before .loop .inv .2) (omega arith)
-    (ap (λ (i : ℕ). concat (listFrom (pairAt (start .args .s .now)) 1 i)) all)
+    reads-as (80 * (start .args .fields - 1)) (pairsText (start .args .sheet .now) (start .args .fields)) (c .before .loop .inv .2) (omega arith)
+    (ap (λ (i : ℕ). concat (listFrom (pairAt (start .args .sheet .now)) 1 i)) all)
 
 pub put-pairs-spec : {M : Type 1} → statement M
 put-pairs-spec =

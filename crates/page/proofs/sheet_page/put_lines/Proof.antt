@@ -73,7 +73,7 @@ same-length c = search needs
 returns : tie.Need-returns
 returns c =
     let start = c .before .before .before .before .before .before .before .before .before .before .before .before .before .before .before .before .before .before .before .before .before .before .before in
-    let s = start .args .s .now in
+    let s = start .args .sheet .now in
     let accepts = start .pre .1 .1 .0 in
     let few = kinds-most (accepts .reads) in
     let most = fields-most (accepts .reads) in

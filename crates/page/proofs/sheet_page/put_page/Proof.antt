@@ -31,14 +31,14 @@ same-length c = search needs
 
 returns : tie.Need-returns
 returns c =
-    reads-as mostPage (pageOf (c .before .before .before .before .before .before .before .before .before .before .args .s .now)) (c .before .before .put-refused .ensures) (omega arith) (page-refusal (c .before .before .before .before .before .before .before .settle-once .ensures .0) _ _ (c .before .before .before .before .before .checked .given .1))
+    reads-as mostPage (pageOf (c .before .before .before .before .before .before .before .before .before .before .args .sheet .now)) (c .before .before .put-refused .ensures) (omega arith) (page-refusal (c .before .before .before .before .before .before .before .settle-once .ensures .0) _ _ (c .before .before .before .before .before .checked .given .1))
 
 same-length-2 : tie.Need-same-length-2
 same-length-2 c = search needs
 
 returns-2 : tie.Need-returns-2
 returns-2 c =
-    reads-as mostPage (pageOf (c .before .before .before .before .before .before .before .before .before .before .args .s .now)) (c .before .before .put-lines .ensures) (omega arith) (page-lines (was-accepted (c .before .before .before .before .before .before .before .settle-once .ensures .0) _ (c .before .before .before .before .before .checked2 .given .1)))
+    reads-as mostPage (pageOf (c .before .before .before .before .before .before .before .before .before .before .args .sheet .now)) (c .before .before .put-lines .ensures) (omega arith) (page-lines (was-accepted (c .before .before .before .before .before .before .before .settle-once .ensures .0) _ (c .before .before .before .before .before .checked2 .given .1)))
 
 pub put-page-spec : {M : Type 1} → statement M
 put-page-spec =

@@ -28,7 +28,7 @@ no-call-requires c κs = search needs
 returns : tie.Need-returns
 returns c =
     told-as _ (tells-nothing (c .before .before .before .before .before .args .out .now) (c .no-call .result) (c .no-call .ensures))
-    (query-none (c .before .before .before .before .before .args .s .now) (c .before .before .before .before .before .args .words .now) (c .before .before .word-end .result) (c .before .before .word-end .ensures) (c .before .if1 .taken))
+    (query-none (c .before .before .before .before .before .args .sheet .now) (c .before .before .before .before .before .args .words .now) (c .before .before .word-end .result) (c .before .before .word-end .ensures) (c .before .if1 .taken))
 
 slice-aggregate-verb-of : tie.Need-slice-aggregate-verb-of
 slice-aggregate-verb-of c = sym (length-take-le _ _ (omega (arith, c .before .if1 .left)))
@@ -69,7 +69,7 @@ returns-2 c =
     let start = c .before .before .before .before .before .before .before .before .before .before .before .before .before in
     let said = ap (λ (r : Count). countOf r (c .before .before .before .before .numbers-in .last .1 .0)) (sym (c .before .enum-told .given .1)) ∙ c .before .before .before .before .numbers-in .ensures .0 in
     told-as _ (tells-nothing (start .args .out .now) (c .no-call2 .result) (c .no-call2 .ensures))
-    (query-verb (start .args .s .now) (start .args .words .now) (c .before .before .before .before .before .before .before .before .before .before .word-end .result) (c .before .before .before .before .before .before .before .before .before .before .word-end .ensures) (omega (arith, c .before .before .before .before .before .before .before .before .before .if1 .left)) (c .before .before .before .before .before .before .before .verb-of .result) nothing (c .before .before .before .before .before .before .before .verb-of .ensures) said)
+    (query-verb (start .args .sheet .now) (start .args .words .now) (c .before .before .before .before .before .before .before .before .before .before .word-end .result) (c .before .before .before .before .before .before .before .before .before .before .word-end .ensures) (omega (arith, c .before .before .before .before .before .before .before .before .before .if1 .left)) (c .before .before .before .before .before .before .before .verb-of .result) nothing (c .before .before .before .before .before .before .before .verb-of .ensures) said)
 
 array-share-prefix-values : tie.Need-array-share-prefix-values
 array-share-prefix-values c = few c
@@ -86,7 +86,7 @@ returns-3 c =
     let start = c .before .before .before .before .before .before .before .before .before .before .before .before .before .before .before .before in
     let said = ap (λ (r : Count). countOf r (c .before .before .before .before .before .before .before .numbers-in .last .1 .0)) (sym (c .before .before .before .before .count .given .1)) ∙ c .before .before .before .before .before .before .before .numbers-in .ensures .0 in
     told-as _ (c .call .ensures)
-    (query-verb (start .args .s .now) (start .args .words .now) (c .before .before .before .before .before .before .before .before .before .before .before .before .before .word-end .result) (c .before .before .before .before .before .before .before .before .before .before .before .before .before .word-end .ensures) (omega (arith, c .before .before .before .before .before .before .before .before .before .before .before .before .if1 .left)) (c .before .before .before .before .before .before .before .before .before .before .verb-of .result) _ (c .before .before .before .before .before .before .before .before .before .before .verb-of .ensures) said)
+    (query-verb (start .args .sheet .now) (start .args .words .now) (c .before .before .before .before .before .before .before .before .before .before .before .before .before .word-end .result) (c .before .before .before .before .before .before .before .before .before .before .before .before .before .word-end .ensures) (omega (arith, c .before .before .before .before .before .before .before .before .before .before .before .before .if1 .left)) (c .before .before .before .before .before .before .before .before .before .before .verb-of .result) _ (c .before .before .before .before .before .before .before .before .before .before .verb-of .ensures) said)
 
 pub answer-spec : {M : Type 1} → statement M
 answer-spec =

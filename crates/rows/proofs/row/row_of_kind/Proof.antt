@@ -27,7 +27,7 @@ returns c =
     let G = b .pre .0 in
     let h = b .pre .1 .0 .0 in
     let a = c .before .before .was-atom .ensures .0 (c .before .if1 .taken) in
-    c .one-token .ensures ∙ atom-kept (b .args .s .now) (G .accepts .accepted) (b .args .k) (omega (arith, h, kinds-are (G .accepts .reads))) (b .args .t) (b .args .previous .now) (b .args .classes .now) (G .follows) (a .0) (a .1)
+    c .one-token .ensures ∙ atom-kept (b .args .sheet .now) (G .accepts .accepted) (b .args .k) (omega (arith, h, kinds-are (G .accepts .reads))) (b .args .t) (b .args .previous .now) (b .args .classes .now) (G .follows) (a .0) (a .1)
 
 told-row-requires : tie.Need-told-row-requires
 told-row-requires c κs = search needs

@@ -46,7 +46,7 @@ shared-slice-read-kind c = search needs
 earlier-requires : tie.Need-earlier-requires
 earlier-requires c κs =
     let b = c .before .before .before .before .before .before .before .before .before .before .before .before .before .before in
-    (b .pre .1 .1 .1 .0, b .pre .1 .1 .0 (b .args .m) (b .pre .1 .1 .1 .2))
+    (b .pre .1 .1 .0 (b .args .m) (b .pre .1 .1 .1 .2), b .pre .1 .1 .1 .0)
 
 is-atom-requires : tie.Need-is-atom-requires
 is-atom-requires c κs =

@@ -51,7 +51,7 @@ returns c =
     let st = c .before .before .before .before .before in
     let z : c .before .loop .k ≡ c .before .before .before .kinds .result = omega arith in
     record {
-      field = filled-all _ _ _ (c .before .loop .inv .1) (λ q h. fire-past (st .args .s .now) 1 (st .args .j) q (st .args .a .now) (st .pre .1) (omega (arith, z, c .before .before .before .kinds .ensures)));
+      field = filled-all _ _ _ (c .before .loop .inv .1) (λ q h. fire-past (st .args .sheet .now) 1 (st .args .j) q (st .args .a .now) (st .pre .1) (omega (arith, z, c .before .before .before .kinds .ensures)));
       grown = c .before .loop .inv .1 .most;
       size = c .before .loop .inv .1 .same;
     }

@@ -45,9 +45,9 @@ returns c =
     let a = c .before .before .before .before .args in
     let inv = c .before .loop .inv in
     let z : c .before .loop .k ≡ c .before .before .kinds .result = omega arith in
-    let e : at (c .before .loop .counts) ≡ fieldOf (a .s .now) (a .i) =
-    filled-all _ _ _ (inv .1) (λ q h. field-past (a .s .now) (a .i) q (omega (arith, z, c .before .before .kinds .ensures)) ∙ sym (zeros-at 32 q)) in
-    (e, read-fits (a .s .now) (a .i) (c .before .loop .counts) e (inv .1 .most) (inv .1 .same))
+    let e : at (c .before .loop .counts) ≡ fieldOf (a .sheet .now) (a .i) =
+    filled-all _ _ _ (inv .1) (λ q h. field-past (a .sheet .now) (a .i) q (omega (arith, z, c .before .before .kinds .ensures)) ∙ sym (zeros-at 32 q)) in
+    (e, read-fits (a .sheet .now) (a .i) (c .before .loop .counts) e (inv .1 .most) (inv .1 .same))
 
 pub field-spec : {M : Type 1} → statement M
 field-spec =

@@ -35,7 +35,7 @@ number-at-requires : tie.Need-number-at-requires
 number-at-requires c κs = omega (arith, product-most (2 * c .kinds .result) (c .before .before .before .before .args .i) 64 65535 (omega arith) (omega arith))
 
 returns : tie.Need-returns
-returns c = (c .number-at .ensures .0 ∙ field-at (c .before .before .before .before .before .args .s .now) (c .before .before .before .before .before .args .i) (c .before .before .before .before .before .args .k) (c .before .before .before .lines .result) (c .before .kinds .result) (c .before .before .line-start .result) (c .before .before .before .lines .ensures .0) (c .before .kinds .ensures .0) (c .before .before .line-start .ensures .0) (c .before .before .before .before .before .pre .2), c .number-at .ensures .1)
+returns c = (c .number-at .ensures .0 ∙ field-at (c .before .before .before .before .before .args .sheet .now) (c .before .before .before .before .before .args .i) (c .before .before .before .before .before .args .k) (c .before .before .before .lines .result) (c .before .kinds .result) (c .before .before .line-start .result) (c .before .before .before .lines .ensures .0) (c .before .kinds .ensures .0) (c .before .before .line-start .ensures .0) (c .before .before .before .before .before .pre .2), c .number-at .ensures .1)
 
 pub field-count-spec : {M : Type 1} → statement M
 field-count-spec =

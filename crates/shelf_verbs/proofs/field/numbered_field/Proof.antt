@@ -28,7 +28,7 @@ few c =
     omega (
       arith,
       ap (λ (x : Card). x .kinds) (c .of-header .ensures),
-      shelved-few (start .args .s .now) (getD (start .args .numbers .now) 0 0) (getD (start .args .numbers .now) 1 0) (c .before .before .before .before .before .before .before .before .shelf-room .result) (ap fieldAnswer (sym (c .before .enum-told .given .1)) ∙ c .before .before .before .before .shelf-field .ensures .0),
+      shelved-few (start .args .sheet .now) (getD (start .args .numbers .now) 0 0) (getD (start .args .numbers .now) 1 0) (c .before .before .before .before .before .before .before .before .shelf-room .result) (ap fieldAnswer (sym (c .before .enum-told .given .1)) ∙ c .before .before .before .before .shelf-field .ensures .0),
     )
 
 no-call-requires : tie.Need-no-call-requires
@@ -102,7 +102,7 @@ returns-2 c =
     told-as _ (tells-answer (c .before .before .put-form-line .ensures))
     (ap (λ (l : List ℕ). told (given (countsLine l))) (ap (λ (k : ℕ). take k wide) (sym (length-take-le n counts (few header))) ∙ c .before .before .before .before .before .widened .ensures)
     ∙ ap (λ (x : Card). told (given (countsLine (take (x .kinds) counts)))) (header .of-header .ensures)
-    ∙ ap told (counts-answered (kindCount (start .args .s .now)) (shelfFieldOf (start .args .s .now) (getD (start .args .numbers .now) 0 0) (getD (start .args .numbers .now) 1 0)) (header .before .before .before .before .before .before .before .before .shelf-room .ensures) (header .before .before .before .before .shelf-field .ensures .1) answers)
+    ∙ ap told (counts-answered (kindCount (start .args .sheet .now)) (shelfFieldOf (start .args .sheet .now) (getD (start .args .numbers .now) 0 0) (getD (start .args .numbers .now) 1 0)) (header .before .before .before .before .before .before .before .before .shelf-room .ensures) (header .before .before .before .before .shelf-field .ensures .1) answers)
     ∙ two-taken _ (start .args .numbers .now) (header .before .before .before .before .before .before .before .before .before .if1 .left))
 
 same-length-2 : tie.Need-same-length-2
@@ -114,7 +114,7 @@ returns-3 c =
     let start = c .before .before .before .before .before .before .before .before .before .before .before .before .before .before .before .before .before in
     let answers = ap fieldAnswer (sym (c .before .before .before .before .before .number .given .1)) ∙ c .before .before .before .before .before .before .before .before .shelf-field .ensures .0 in
     told-as _ (c .before .before .refuse .ensures)
-    (ap told (counts-refused (kindCount (start .args .s .now)) (shelfFieldOf (start .args .s .now) (getD (start .args .numbers .now) 0 0) (getD (start .args .numbers .now) 1 0)) (c .before .before .before .before .before .before .before .before .before .before .before .before .shelf-room .ensures) (c .before .before .before .before .before .before .before .before .shelf-field .ensures .1) _ _ answers)
+    (ap told (counts-refused (kindCount (start .args .sheet .now)) (shelfFieldOf (start .args .sheet .now) (getD (start .args .numbers .now) 0 0) (getD (start .args .numbers .now) 1 0)) (c .before .before .before .before .before .before .before .before .before .before .before .before .shelf-room .ensures) (c .before .before .before .before .before .before .before .before .shelf-field .ensures .1) _ _ answers)
     ∙ two-taken _ (start .args .numbers .now) (c .before .before .before .before .before .before .before .before .before .before .before .before .before .if1 .left))
 
 pub numbered-field-spec : {M : Type 1} → statement M

@@ -9,7 +9,7 @@ use Rattle.weights.proofs.Bounds.{counts-fit}
 use Rattle.squads.proofs.entry.is_empty.Statement.{statement}
 use Rattle.squads.proofs.entry.is_empty.Tie as tie
 
-counts-are : (c : tie.After-field) → at (c .field .result) ≡ fieldOf (c .before .before .args .s .now) (c .before .before .args .field)
+counts-are : (c : tie.After-field) → at (c .field .result) ≡ fieldOf (c .before .before .args .sheet .now) (c .before .before .args .field)
 counts-are c = ap at (c .field .ensures) ∙ field-counts-at (c .before .before .pre .0) (c .before .before .args .field)
 
 field-requires : tie.Need-field-requires
@@ -21,7 +21,7 @@ field-tokens-requires c κs =
     let few = kinds-most (s .pre .0) in (
       few,
       counts-fit (s .args .card .kinds) (λ _. 1) (at (c .field .result)) few (λ k. omega arith)
-          (λ k. omega (arith, ap (λ (f : Field). f k) (counts-are c), field-under (s .args .s .now) (s .args .field) (λ i. omega (arith, c .before .shared-slice-known .given i)) k)),
+          (λ k. omega (arith, ap (λ (f : Field). f k) (counts-are c), field-under (s .args .sheet .now) (s .args .field) (λ i. omega (arith, c .before .shared-slice-known .given i)) k)),
     )
 
 returns : tie.Need-returns

@@ -26,7 +26,7 @@ few c =
     omega (
       arith,
       ap (λ (x : Card). x .kinds) (c .before .of-header .ensures),
-      squads-few (start .args .s .now) (getD (start .args .numbers .now) 0 0) (getD (start .args .numbers .now) 1 0) (c .before .before .before .before .before .before .before .before .before .before .remainder-room .result) _
+      squads-few (start .args .sheet .now) (getD (start .args .numbers .now) 0 0) (getD (start .args .numbers .now) 1 0) (c .before .before .before .before .before .before .before .before .before .before .remainder-room .result) _
           (ap squadsAnswer (sym (c .before .before .before .count .given .1)) ∙ c .before .before .before .before .before .before .squads .ensures .0),
     )
 
@@ -87,7 +87,7 @@ returns-2 c =
     let count = k .before .before .before .count .given .0 .0 in
     told-as _ (tells-answer (c .before .before .put-squads .ensures))
     (ap (λ (x : Card). told (given (squadsLine count (take (x .kinds) remainder)))) (k .before .of-header .ensures)
-    ∙ ap told (lent-answered squadsLine (kindCount (start .args .s .now)) (squadsOf (start .args .s .now) i j) (k .before .before .before .before .before .before .before .before .before .before .remainder-room .ensures) (k .before .before .before .before .before .before .squads .ensures .1) count
+    ∙ ap told (lent-answered squadsLine (kindCount (start .args .sheet .now)) (squadsOf (start .args .sheet .now) i j) (k .before .before .before .before .before .before .before .before .before .before .remainder-room .ensures) (k .before .before .before .before .before .before .squads .ensures .1) count
     (ap squadsAnswer (sym (k .before .before .before .count .given .1)) ∙ k .before .before .before .before .before .before .squads .ensures .0))
     ∙ two-taken _ (start .args .numbers .now) (k .before .before .before .before .before .before .before .before .before .before .before .if1 .left))
 
@@ -101,7 +101,7 @@ returns-3 c =
     let i = getD (start .args .numbers .now) 0 0 in
     let j = getD (start .args .numbers .now) 1 0 in
     told-as _ (c .before .before .refuse .ensures)
-    (ap told (lent-refused squadsLine (kindCount (start .args .s .now)) (squadsOf (start .args .s .now) i j) (c .before .before .before .before .before .before .before .before .before .before .before .before .remainder-room .ensures) (c .before .before .before .before .before .before .before .before .squads .ensures .1) _ _
+    (ap told (lent-refused squadsLine (kindCount (start .args .sheet .now)) (squadsOf (start .args .sheet .now) i j) (c .before .before .before .before .before .before .before .before .before .before .before .before .remainder-room .ensures) (c .before .before .before .before .before .before .before .before .squads .ensures .1) _ _
     (ap squadsAnswer (sym (c .before .before .before .before .before .number .given .1)) ∙ c .before .before .before .before .before .before .before .before .squads .ensures .0))
     ∙ two-taken _ (start .args .numbers .now) (c .before .before .before .before .before .before .before .before .before .before .before .before .before .if1 .left))
 

@@ -18,19 +18,19 @@ kinds-requires : tie.Need-kinds-requires Inv-loop μ-loop
 kinds-requires c κs = search needs
 
 returns : tie.Need-returns Inv-loop μ-loop
-returns c = none-unlike (c .before .before .before .args .s .now) (c .before .before .before .args .first) (c .before .before .before .args .second) (λ h f g. omega (arith, c .before .kinds .ensures, c .if1 .taken))
+returns c = none-unlike (c .before .before .before .args .sheet .now) (c .before .before .before .args .first) (c .before .before .before .args .second) (λ h f g. omega (arith, c .before .kinds .ensures, c .if1 .taken))
 
 fields-requires : tie.Need-fields-requires Inv-loop μ-loop
 fields-requires c κs = search needs
 
 returns-2 : tie.Need-returns-2 Inv-loop μ-loop
-returns-2 c = none-unlike (c .before .before .before .before .before .args .s .now) (c .before .before .before .before .before .args .first) (c .before .before .before .before .before .args .second) (λ h f g. omega (arith, c .before .fields .ensures, c .if2 .taken))
+returns-2 c = none-unlike (c .before .before .before .before .before .args .sheet .now) (c .before .before .before .before .before .args .first) (c .before .before .before .before .before .args .second) (λ h f g. omega (arith, c .before .fields .ensures, c .if2 .taken))
 
 fields-requires-2 : tie.Need-fields-requires-2 Inv-loop μ-loop
 fields-requires-2 c κs = search needs
 
 returns-3 : tie.Need-returns-3 Inv-loop μ-loop
-returns-3 c = none-unlike (c .before .before .before .before .before .before .before .args .s .now) (c .before .before .before .before .before .before .before .args .first) (c .before .before .before .before .before .before .before .args .second) (λ h f g. omega (arith, c .before .fields2 .ensures, c .if3 .taken))
+returns-3 c = none-unlike (c .before .before .before .before .before .before .before .args .sheet .now) (c .before .before .before .before .before .before .before .args .first) (c .before .before .before .before .before .before .before .args .second) (λ h f g. omega (arith, c .before .fields2 .ensures, c .if3 .taken))
 
 kinds-requires-2 : tie.Need-kinds-requires-2 Inv-loop μ-loop
 kinds-requires-2 c κs = search needs

@@ -8,10 +8,10 @@ use Rattle.validation.proofs.checks.check_sheet.Statement.{statement}
 use Rattle.validation.proofs.checks.check_sheet.Tie as tie
 
 -- What a card tells that passed the first part, and one that passed the second.
-numbers-told : (c : tie.After-card) → (c .card .given .0 .0 ≡ headerOf (c .before .before .before .before .args .s .now)) × (firstOf (numberChecks (c .before .before .before .before .args .s .now)) ≡ clear)
+numbers-told : (c : tie.After-card) → (c .card .given .0 .0 ≡ headerOf (c .before .before .before .before .args .sheet .now)) × (firstOf (numberChecks (c .before .before .before .before .args .sheet .now)) ≡ clear)
 numbers-told c = passed-found _ _ _ (sym (c .before .before .check-numbers .ensures) ∙ c .card .given .1)
 
-layout-told : (c : tie.After-card2) → (c .card2 .given .0 .0 ≡ headerOf (c .before .before .before .before .before .before .before .before .args .s .now)) × (firstOf (layoutChecks (c .before .before .before .before .before .before .before .before .args .s .now)) ≡ clear)
+layout-told : (c : tie.After-card2) → (c .card2 .given .0 .0 ≡ headerOf (c .before .before .before .before .before .before .before .before .args .sheet .now)) × (firstOf (layoutChecks (c .before .before .before .before .before .before .before .before .args .sheet .now)) ≡ clear)
 layout-told c =
     let t = passed-found _ _ _ (sym (c .before .before .check-layout .ensures) ∙ c .card2 .given .1) in
     (t .0 ∙ numbers-told (c .before .before .before .before) .0, t .1)

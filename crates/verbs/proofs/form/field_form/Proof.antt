@@ -26,7 +26,7 @@ few c =
     omega (
       arith,
       ap (λ (x : Card). x .kinds) (c .before .of-header .ensures),
-      formed-few (c .before .before .before .before .before .before .before .before .before .before .before .before .before .args .s .now) (getD (c .before .before .before .before .before .before .before .before .before .before .before .before .before .args .numbers .now) 0 0) (c .before .before .before .before .before .before .before .before .form-room .result) (ap formingOf (sym (c .before .before .enum-told .given .1)) ∙ c .before .before .before .before .before .prime-form .ensures .0),
+      formed-few (c .before .before .before .before .before .before .before .before .before .before .before .before .before .args .sheet .now) (getD (c .before .before .before .before .before .before .before .before .before .before .before .before .before .args .numbers .now) 0 0) (c .before .before .before .before .before .before .before .before .form-room .result) (ap formingOf (sym (c .before .before .enum-told .given .1)) ∙ c .before .before .before .before .before .prime-form .ensures .0),
     )
 
 no-call-requires : tie.Need-no-call-requires
@@ -81,7 +81,7 @@ returns-2 c =
     let answers = ap formingOf (sym (c .before .before .before .before .before .before .enum-told .given .1)) ∙ c .before .before .before .before .before .before .before .before .before .prime-form .ensures .0 in
     told-as _ (tells-answer (c .before .before .put-form-line .ensures))
     (ap (λ (x : Card). told (given (countsLine (take (x .kinds) form)))) (c .before .before .before .before .before .of-header .ensures)
-    ∙ ap told (counts-answered (kindCount (start .args .s .now)) (formOf (start .args .s .now) field) (c .before .before .before .before .before .before .before .before .before .before .before .before .form-room .ensures) (c .before .before .before .before .before .before .before .before .before .prime-form .ensures .1) answers)
+    ∙ ap told (counts-answered (kindCount (start .args .sheet .now)) (formOf (start .args .sheet .now) field) (c .before .before .before .before .before .before .before .before .before .before .before .before .form-room .ensures) (c .before .before .before .before .before .before .before .before .before .prime-form .ensures .1) answers)
     ∙ one-taken _ (start .args .numbers .now) (c .before .before .before .before .before .before .before .before .before .before .before .before .before .if1 .left))
 
 same-length-2 : tie.Need-same-length-2
@@ -94,7 +94,7 @@ returns-3 c =
     let field = getD (start .args .numbers .now) 0 0 in
     let answers = ap formingOf (sym (c .before .before .before .before .before .number .given .1)) ∙ c .before .before .before .before .before .before .before .before .prime-form .ensures .0 in
     told-as _ (c .before .before .refuse .ensures)
-    (ap told (counts-refused (kindCount (start .args .s .now)) (formOf (start .args .s .now) field) (c .before .before .before .before .before .before .before .before .before .before .before .form-room .ensures) (c .before .before .before .before .before .before .before .before .prime-form .ensures .1) _ _ answers)
+    (ap told (counts-refused (kindCount (start .args .sheet .now)) (formOf (start .args .sheet .now) field) (c .before .before .before .before .before .before .before .before .before .before .before .form-room .ensures) (c .before .before .before .before .before .before .before .before .prime-form .ensures .1) _ _ answers)
     ∙ one-taken _ (start .args .numbers .now) (c .before .before .before .before .before .before .before .before .before .before .before .before .if1 .left))
 
 pub field-form-spec : {M : Type 1} → statement M

@@ -37,7 +37,7 @@ slice-aggregate-put-settled c = search needs
 put-settled-requires : tie.Need-put-settled-requires
 put-settled-requires c κs = (
   omega (arith, c .before .before .before .before .before .before .before .before .before .before .before .before .before .pre),
-  settled-few (c .before .before .before .before .before .before .before .before .before .before .before .before .before .args .s .now) (c .before .before .before .before .before .before .before .before .table-room .result) (c .before .before .before .stage .given .0 .0) (ap settlingOf (sym (c .before .before .before .stage .given .1)) ∙ c .before .before .before .before .before .before .settle-sheet .ensures .0),
+  settled-few (c .before .before .before .before .before .before .before .before .before .before .before .before .before .args .sheet .now) (c .before .before .before .before .before .before .before .before .table-room .result) (c .before .before .before .stage .given .0 .0) (ap settlingOf (sym (c .before .before .before .stage .given .1)) ∙ c .before .before .before .before .before .before .settle-sheet .ensures .0),
 )
 
 enum-known-number : tie.Need-enum-known-number
@@ -55,7 +55,7 @@ returns-2 c =
     let start = c .before .before .before .before .before .before .before .before .before .before .before .before .before .before .before .before in
     let answers = ap settlingOf (sym (c .before .before .before .before .before .before .stage .given .1)) ∙ c .before .before .before .before .before .before .before .before .before .settle-sheet .ensures .0 in
     told-as _ (c .before .before .put-settled .ensures)
-    (ap told (settle-answered (start .args .s .now) (c .before .before .before .before .before .before .before .before .before .before .before .table-room .result) (c .before .before .before .before .before .before .before .before .before .settle-sheet .last .1 .0) (c .before .before .before .before .before .before .before .before .before .before .before .table-room .ensures) (c .before .before .before .before .before .before .before .before .before .settle-sheet .ensures .1) (c .before .before .before .before .before .before .stage .given .0 .0) answers)
+    (ap told (settle-answered (start .args .sheet .now) (c .before .before .before .before .before .before .before .before .before .before .before .table-room .result) (c .before .before .before .before .before .before .before .before .before .settle-sheet .last .1 .0) (c .before .before .before .before .before .before .before .before .before .before .before .table-room .ensures) (c .before .before .before .before .before .before .before .before .before .settle-sheet .ensures .1) (c .before .before .before .before .before .before .stage .given .0 .0) answers)
     ∙ none-taken _ (start .args .numbers .now) (c .before .before .before .before .before .before .before .before .before .before .before .before .if1 .left))
 
 same-length-2 : tie.Need-same-length-2
@@ -67,7 +67,7 @@ returns-3 c =
     let start = c .before .before .before .before .before .before .before .before .before .before .before .before .before .before .before in
     let answers = ap settlingOf (sym (c .before .before .before .before .before .number .given .1)) ∙ c .before .before .before .before .before .before .before .before .settle-sheet .ensures .0 in
     told-as _ (c .before .before .refuse .ensures)
-    (ap told (settle-refused (start .args .s .now) (c .before .before .before .before .before .before .before .before .before .before .table-room .result) (c .before .before .before .before .before .before .before .before .settle-sheet .last .1 .0) (c .before .before .before .before .before .before .before .before .before .before .table-room .ensures) (c .before .before .before .before .before .before .before .before .settle-sheet .ensures .1) _ _ answers)
+    (ap told (settle-refused (start .args .sheet .now) (c .before .before .before .before .before .before .before .before .before .before .table-room .result) (c .before .before .before .before .before .before .before .before .settle-sheet .last .1 .0) (c .before .before .before .before .before .before .before .before .before .before .table-room .ensures) (c .before .before .before .before .before .before .before .before .settle-sheet .ensures .1) _ _ answers)
     ∙ none-taken _ (start .args .numbers .now) (c .before .before .before .before .before .before .before .before .before .before .before .if1 .left))
 
 pub settle-spec : {M : Type 1} → statement M

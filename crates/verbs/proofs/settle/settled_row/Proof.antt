@@ -63,7 +63,7 @@ returns-2 c =
     let answers = ap settlingOf (sym (c .before .before .before .before .before .before .enum-told .given .1)) ∙ c .before .before .before .before .before .before .before .before .before .settle-sheet .ensures .0 in
     told-as _ (c .before .before .put-row-of .ensures)
     (ap (λ (x : Card). told (rowIn (x .kinds) kind table (rowCheckOf (x .kinds) kind table))) (c .before .before .before .before .before .of-header .ensures)
-    ∙ ap told (row-answered (start .args .s .now) (c .before .before .before .before .before .before .before .before .before .before .before .table-room .result) table (c .before .before .before .before .before .before .before .before .before .before .before .table-room .ensures) (c .before .before .before .before .before .before .before .before .before .settle-sheet .ensures .1) kind _ answers)
+    ∙ ap told (row-answered (start .args .sheet .now) (c .before .before .before .before .before .before .before .before .before .before .before .table-room .result) table (c .before .before .before .before .before .before .before .before .before .before .before .table-room .ensures) (c .before .before .before .before .before .before .before .before .before .settle-sheet .ensures .1) kind _ answers)
     ∙ one-taken _ (start .args .numbers .now) (c .before .before .before .before .before .before .before .before .before .before .before .before .before .if1 .left))
 
 same-length-2 : tie.Need-same-length-2
@@ -76,7 +76,7 @@ returns-3 c =
     let kind = getD (start .args .numbers .now) 0 0 in
     let answers = ap settlingOf (sym (c .before .before .before .before .before .number .given .1)) ∙ c .before .before .before .before .before .before .before .before .settle-sheet .ensures .0 in
     told-as _ (c .before .before .refuse .ensures)
-    (ap told (row-refused (start .args .s .now) (c .before .before .before .before .before .before .before .before .before .before .table-room .result) (c .before .before .before .before .before .before .before .before .settle-sheet .last .1 .0) (c .before .before .before .before .before .before .before .before .before .before .table-room .ensures) (c .before .before .before .before .before .before .before .before .settle-sheet .ensures .1) kind _ _ answers)
+    (ap told (row-refused (start .args .sheet .now) (c .before .before .before .before .before .before .before .before .before .before .table-room .result) (c .before .before .before .before .before .before .before .before .settle-sheet .last .1 .0) (c .before .before .before .before .before .before .before .before .before .before .table-room .ensures) (c .before .before .before .before .before .before .before .before .settle-sheet .ensures .1) kind _ _ answers)
     ∙ one-taken _ (start .args .numbers .now) (c .before .before .before .before .before .before .before .before .before .before .before .before .if1 .left))
 
 pub settled-row-spec : {M : Type 1} → statement M

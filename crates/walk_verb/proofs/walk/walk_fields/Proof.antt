@@ -41,7 +41,7 @@ returns-3 : tie.Need-returns-3
 unfolding walkTold
 returns-3 c =
     told-as _ (tells-nothing (c .before .before .before .before .before .before .before .before .args .out .now) (c .no-call3 .result) (c .no-call3 .ensures))
-    (allowance-past (c .before .before .before .before .before .before .before .before .args .s .now) _ _ _ _ _ (c .before .if3 .taken) ∙ five-taken _ (c .before .before .before .before .before .before .before .before .args .numbers .now) (omega (arith, c .before .before .before .before .if1 .left)) (omega (arith, c .before .before .before .if2 .left)))
+    (allowance-past (c .before .before .before .before .before .before .before .before .args .sheet .now) _ _ _ _ _ (c .before .if3 .taken) ∙ five-taken _ (c .before .before .before .before .before .before .before .before .args .numbers .now) (omega (arith, c .before .before .before .before .if1 .left)) (omega (arith, c .before .before .before .if2 .left)))
 
 desk-of-requires : tie.Need-desk-of-requires
 desk-of-requires c κs = search needs
@@ -77,7 +77,7 @@ returns-4 : tie.Need-returns-4
 unfolding walkTold
 returns-4 c =
     let start = c .before .before .before .before .before .before .before .before .before .before .before .before .before .before .before .before .before .before in
-    let s = start .args .s .now in
+    let s = start .args .sheet .now in
     let i = getD (start .args .numbers .now) 0 0 in
     let j = getD (start .args .numbers .now) 1 0 in
     let limit = getD (start .args .numbers .now) 2 0 in

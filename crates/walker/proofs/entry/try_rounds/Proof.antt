@@ -41,8 +41,8 @@ loop-holds c =
       omega arith,
       omega arith,
       omega arith,
-      ap (walkFrom (cardOf (a .s .now) .lines) (at (a .a .now)) (at (a .b .now)) (a .allowance) (a .allowance) 1) z
-          ∙ starts (cardOf (a .s .now) .lines) (at (a .a .now)) (at (a .b .now)) (a .allowance) 1 (a .limit),
+      ap (walkFrom (cardOf (a .sheet .now) .lines) (at (a .a .now)) (at (a .b .now)) (a .allowance) (a .allowance) 1) z
+          ∙ starts (cardOf (a .sheet .now) .lines) (at (a .a .now)) (at (a .b .now)) (a .allowance) 1 (a .limit),
     )
 
 spend-requires : tie.Need-spend-requires Inv-loop μ-loop
@@ -54,8 +54,8 @@ returns c =
     let a = c .before .before .before .before .before .before .args in
     let l = c .before .before .before .loop in
     plays-as (c .spend .result) (c .spend .ensures)
-    (tries-spent (cardOf (a .s .now) .lines) (at (a .a .now)) (at (a .b .now)) (a .allowance) (l .left) (l .rounds) (a .limit + 1 - l .rounds) (l .inv .2) (a .limit - l .rounds) (omega (arith, c .before .before .loop-test .taken))
-    (sym (pair-spent (cardOf (a .s .now) .lines) (at (a .a .now)) (at (a .b .now)) (l .left) (l .rounds) (c .before .if1 .taken)))
+    (tries-spent (cardOf (a .sheet .now) .lines) (at (a .a .now)) (at (a .b .now)) (a .allowance) (l .left) (l .rounds) (a .limit + 1 - l .rounds) (l .inv .2) (a .limit - l .rounds) (omega (arith, c .before .before .loop-test .taken))
+    (sym (pair-spent (cardOf (a .sheet .now) .lines) (at (a .a .now)) (at (a .b .now)) (l .left) (l .rounds) (c .before .if1 .taken)))
     ∙ l .inv .3)
 
 sub-challenge : tie.Need-sub-challenge Inv-loop μ-loop
@@ -69,7 +69,7 @@ challenge-requires c κs =
     (p .0, (omega (arith, l .inv), (bounded-less mostRounds (l .rounds) _ h (p .1 .1 .0), bounded-less mostRounds (l .rounds) _ h (p .1 .1 .1))))
 
 -- What the pair comes to at these rounds.
-pair-examined : (c : tie.After-challenge Inv-loop μ-loop) → countedOf (c .challenge .result) ≡ cut (c .before .before .before .loop .left) (examine (cardOf (c .before .before .before .before .before .before .args .s .now) .lines) (c .before .before .before .loop .rounds) (at (c .before .before .before .before .before .before .args .a .now)) (at (c .before .before .before .before .before .before .args .b .now)))
+pair-examined : (c : tie.After-challenge Inv-loop μ-loop) → countedOf (c .challenge .result) ≡ cut (c .before .before .before .loop .left) (examine (cardOf (c .before .before .before .before .before .before .args .sheet .now) .lines) (c .before .before .before .loop .rounds) (at (c .before .before .before .before .before .before .args .a .now)) (at (c .before .before .before .before .before .before .args .b .now)))
 pair-examined c =
     let l = c .before .before .before .loop in
     c .challenge .ensures ∙ pair-challenged (c .before .before .before .before .before .before .pre .0 .0) (l .rounds) (l .left) (at (c .before .before .before .before .before .before .args .a .now)) (at (c .before .before .before .before .before .before .args .b .now)) (c .before .if1 .left) (λ z. omega (arith, l .inv .0))
@@ -84,14 +84,14 @@ sub-t17 : tie.Need-sub-t17 Inv-loop μ-loop
 sub-t17 c =
     let a = c .before .before .before .before .before .before .before .before .before .args in
     let l = c .before .before .before .before .before .before .loop in
-    omega (arith, l .inv .2, tries-within (cardOf (a .s .now) .lines) (at (a .a .now)) (at (a .b .now)) (a .allowance) (l .left) (l .rounds) (a .limit + 1 - l .rounds) (l .inv .2) false _ (sym (pair-examined (c .before .before .before)) ∙ ap countedOf (c .before .rest2 .given .1)))
+    omega (arith, l .inv .2, tries-within (cardOf (a .sheet .now) .lines) (at (a .a .now)) (at (a .b .now)) (a .allowance) (l .left) (l .rounds) (a .limit + 1 - l .rounds) (l .inv .2) false _ (sym (pair-examined (c .before .before .before)) ∙ ap countedOf (c .before .rest2 .given .1)))
 
 returns-2 : tie.Need-returns-2 Inv-loop μ-loop
 returns-2 c =
     let a = c .before .before .before .before .before .before .before .before .before .args in
     let l = c .before .before .before .before .before .before .loop in
     plays-of
-    (tries-apart (cardOf (a .s .now) .lines) (at (a .a .now)) (at (a .b .now)) (a .allowance) (l .left) (l .rounds) (a .limit + 1 - l .rounds) (l .inv .2) (a .limit - l .rounds) (omega (arith, c .before .before .before .before .before .loop-test .taken)) _ (sym (pair-examined (c .before .before .before)) ∙ ap countedOf (c .before .rest2 .given .1))
+    (tries-apart (cardOf (a .sheet .now) .lines) (at (a .a .now)) (at (a .b .now)) (a .allowance) (l .left) (l .rounds) (a .limit + 1 - l .rounds) (l .inv .2) (a .limit - l .rounds) (omega (arith, c .before .before .before .before .before .loop-test .taken)) _ (sym (pair-examined (c .before .before .before)) ∙ ap countedOf (c .before .rest2 .given .1))
     ∙ l .inv .3)
 
 enum-told : tie.Need-enum-told Inv-loop μ-loop
@@ -105,7 +105,7 @@ returns-3 c =
     let a = c .before .before .before .before .before .before .before .before .before .args in
     let l = c .before .before .before .before .before .before .loop in
     plays-as (c .spend2 .result) (c .spend2 .ensures)
-    (tries-spent (cardOf (a .s .now) .lines) (at (a .a .now)) (at (a .b .now)) (a .allowance) (l .left) (l .rounds) (a .limit + 1 - l .rounds) (l .inv .2) (a .limit - l .rounds) (omega (arith, c .before .before .before .before .before .loop-test .taken)) (sym (pair-examined (c .before .before .before)) ∙ ap countedOf (c .before .enum-told .given .1))
+    (tries-spent (cardOf (a .sheet .now) .lines) (at (a .a .now)) (at (a .b .now)) (a .allowance) (l .left) (l .rounds) (a .limit + 1 - l .rounds) (l .inv .2) (a .limit - l .rounds) (omega (arith, c .before .before .before .before .before .loop-test .taken)) (sym (pair-examined (c .before .before .before)) ∙ ap countedOf (c .before .enum-told .given .1))
     ∙ l .inv .3)
 
 add-rounds : tie.Need-add-rounds Inv-loop μ-loop
@@ -122,9 +122,9 @@ loop-again c =
     let z : a .limit + 1 - (l .rounds + 1) ≡ a .limit - l .rounds = omega arith in (
       omega arith,
       omega (arith, c .before .before .before .before .before .loop-test .taken),
-      tries-within (cardOf (a .s .now) .lines) (at (a .a .now)) (at (a .b .now)) (a .allowance) (l .left) (l .rounds) (a .limit + 1 - l .rounds) (l .inv .2) true _ e,
-      ap (walkFrom (cardOf (a .s .now) .lines) (at (a .a .now)) (at (a .b .now)) (a .allowance) (c .before .rest .given .0 .0) (l .rounds + 1)) z
-          ∙ tries-on (cardOf (a .s .now) .lines) (at (a .a .now)) (at (a .b .now)) (a .allowance) (l .left) (l .rounds) (a .limit + 1 - l .rounds) (l .inv .2) (a .limit - l .rounds) (omega (arith, c .before .before .before .before .before .loop-test .taken)) _ e
+      tries-within (cardOf (a .sheet .now) .lines) (at (a .a .now)) (at (a .b .now)) (a .allowance) (l .left) (l .rounds) (a .limit + 1 - l .rounds) (l .inv .2) true _ e,
+      ap (walkFrom (cardOf (a .sheet .now) .lines) (at (a .a .now)) (at (a .b .now)) (a .allowance) (c .before .rest .given .0 .0) (l .rounds + 1)) z
+          ∙ tries-on (cardOf (a .sheet .now) .lines) (at (a .a .now)) (at (a .b .now)) (a .allowance) (l .left) (l .rounds) (a .limit + 1 - l .rounds) (l .inv .2) (a .limit - l .rounds) (omega (arith, c .before .before .before .before .before .loop-test .taken)) _ e
           ∙ l .inv .3,
     )
 
@@ -135,7 +135,7 @@ returns-4 : tie.Need-returns-4 Inv-loop μ-loop
 returns-4 c =
     let a = c .before .before .before .before .args in
     let l = c .before .loop in
-    plays-of (none-left (cardOf (a .s .now) .lines) (at (a .a .now)) (at (a .b .now)) (a .allowance) (l .left) (l .rounds) (a .limit + 1 - l .rounds) (l .inv .2) (omega (arith, c .loop-test .left)) ∙ l .inv .3)
+    plays-of (none-left (cardOf (a .sheet .now) .lines) (at (a .a .now)) (at (a .b .now)) (a .allowance) (l .left) (l .rounds) (a .limit + 1 - l .rounds) (l .inv .2) (omega (arith, c .loop-test .left)) ∙ l .inv .3)
 
 pub try-rounds-spec : {M : Type 1} → statement M
 try-rounds-spec =

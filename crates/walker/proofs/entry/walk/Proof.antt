@@ -14,7 +14,7 @@ refuse-requires c κs = search needs
 returns : tie.Need-returns
 returns c =
     let a = c .before .before .before .args in
-    c .refuse .ensures ∙ desk-refused (a .s .now) (a .first) (a .second) (a .limit) (a .desk) (sessionOf (a .session)) (omega (arith, c .before .if1 .taken))
+    c .refuse .ensures ∙ desk-refused (a .sheet .now) (a .first) (a .second) (a .limit) (a .desk) (sessionOf (a .session)) (omega (arith, c .before .if1 .taken))
 
 check-sheet-requires : tie.Need-check-sheet-requires
 check-sheet-requires c κs = search needs
@@ -41,7 +41,7 @@ returns-3 : tie.Need-returns-3
 returns-3 c =
     let a = c .before .before .before .before .before .before .before .args in
     c .refuse2 .ensures
-    ∙ sheet-refused (a .s .now) (a .first) (a .second) (a .limit) (a .desk) (sessionOf (a .session)) (omega (arith, c .before .before .before .before .before .if1 .left)) _ _
+    ∙ sheet-refused (a .sheet .now) (a .first) (a .second) (a .limit) (a .desk) (sessionOf (a .session)) (omega (arith, c .before .before .before .before .before .if1 .left)) _ _
     (checked-refused _ _ _ (sym (c .before .before .before .before .check-sheet .ensures) ∙ c .before .before .number .given .1))
 
 pub walk-spec : {M : Type 1} → statement M

@@ -21,16 +21,16 @@ returns c =
     let a = c .before .before .before .args in
     let read = c .before .before .before .pre in
     c .refuse .ensures
-    ∙ first-refused (a .s .now) (a .first) (a .second) (a .limit) (a .desk) (sessionOf (a .session)) (read .1) (read .0 .passed) (omega (arith, fields-are (read .0), c .before .if1 .taken))
+    ∙ first-refused (a .sheet .now) (a .first) (a .second) (a .limit) (a .desk) (sessionOf (a .session)) (read .1) (read .0 .passed) (omega (arith, fields-are (read .0), c .before .if1 .taken))
 
 refuse-requires-2 : tie.Need-refuse-requires-2
 refuse-requires-2 c κs = search needs
 
 -- The first number is a field's, and the second.
-first-field : (c : tie.Else1) → c .before .before .args .first < fieldCount (c .before .before .args .s .now)
+first-field : (c : tie.Else1) → c .before .before .args .first < fieldCount (c .before .before .args .sheet .now)
 first-field c = omega (arith, fields-are (c .before .before .pre .0), c .if1 .left)
 
-second-field : (c : tie.Else2) → c .before .before .before .args .second < fieldCount (c .before .before .before .args .s .now)
+second-field : (c : tie.Else2) → c .before .before .before .args .second < fieldCount (c .before .before .before .args .sheet .now)
 second-field c = omega (arith, fields-are (c .before .before .before .pre .0), c .if2 .left)
 
 returns-2 : tie.Need-returns-2
@@ -38,7 +38,7 @@ returns-2 c =
     let a = c .before .before .before .before .args in
     let read = c .before .before .before .before .pre in
     c .refuse2 .ensures
-    ∙ second-refused (a .s .now) (a .first) (a .second) (a .limit) (a .desk) (sessionOf (a .session)) (read .1) (read .0 .passed) (first-field (c .before .before))
+    ∙ second-refused (a .sheet .now) (a .first) (a .second) (a .limit) (a .desk) (sessionOf (a .session)) (read .1) (read .0 .passed) (first-field (c .before .before))
     (omega (arith, fields-are (read .0), c .before .if2 .taken))
 
 refuse-requires-3 : tie.Need-refuse-requires-3
@@ -49,7 +49,7 @@ returns-3 c =
     let a = c .before .before .before .before .before .args in
     let read = c .before .before .before .before .before .pre in
     c .refuse3 .ensures
-    ∙ limit-refused (a .s .now) (a .first) (a .second) (a .limit) (a .desk) (sessionOf (a .session)) (read .1) (read .0 .passed) (first-field (c .before .before .before)) (second-field (c .before .before)) (omega (arith, c .before .if3 .taken))
+    ∙ limit-refused (a .sheet .now) (a .first) (a .second) (a .limit) (a .desk) (sessionOf (a .session)) (read .1) (read .0 .passed) (first-field (c .before .before .before)) (second-field (c .before .before)) (omega (arith, c .before .if3 .taken))
 
 field-requires : tie.Need-field-requires
 field-requires c κs = search needs
@@ -88,7 +88,7 @@ returns-4 c =
     let a = c .before .before .before .before .before .before .before .before .before .before .before .before .before .before .before .args in
     let read = c .before .before .before .before .before .before .before .before .before .before .before .before .before .before .before .pre in
     c .draw .ensures
-    ∙ call-walks (a .s .now) (a .first) (a .second) (a .limit) (a .desk) (sessionOf (a .session)) (read .1) (read .0 .passed) (first-field (c .before .before .before .before .before .before .before .before .before .before .before .before .before)) (second-field (c .before .before .before .before .before .before .before .before .before .before .before .before)) (omega (arith, c .before .before .before .before .before .before .before .before .before .before .before .if3 .left)) _ _ _
+    ∙ call-walks (a .sheet .now) (a .first) (a .second) (a .limit) (a .desk) (sessionOf (a .session)) (read .1) (read .0 .passed) (first-field (c .before .before .before .before .before .before .before .before .before .before .before .before .before)) (second-field (c .before .before .before .before .before .before .before .before .before .before .before .before)) (omega (arith, c .before .before .before .before .before .before .before .before .before .before .before .if3 .left)) _ _ _
     (ap at (c .before .before .before .before .before .before .before .before .before .before .field .ensures) ∙ field-counts-at (read .0) (a .first))
     (ap at (c .before .before .before .before .before .before .before .before .before .field2 .ensures) ∙ field-counts-at (read .0) (a .second))
     (c .before .before .before .before .before .left-of .ensures) (c .before .try-rounds .result) (c .before .try-rounds .ensures)
