@@ -12,7 +12,7 @@ use Rattle.filing.proofs.print_page.Tie as tie
 
 fits : (c : tie.After-print-arg) → c .before .before .length .given .0 .0 ≤ length (c .before .before .before .before .before .write-page .last .1 .0)
 fits c =
-    omega (arith, written-within (c .before .before .before .before .before .before .before .before .args .s .now) (replicate 73319 0) (c .before .before .length .given .0 .0) (ap writingOf (sym (c .before .before .length .given .1)) ∙ c .before .before .before .before .before .write-page .ensures .0))
+    omega (arith, written-within (c .before .before .before .before .before .before .before .before .args .sheet .now) (replicate 73319 0) (c .before .before .length .given .0 .0) (ap writingOf (sym (c .before .before .length .given .1)) ∙ c .before .before .before .before .before .write-page .ensures .0))
 
 slice-aggregate-write-page : tie.Need-slice-aggregate-write-page
 slice-aggregate-write-page c = search needs
