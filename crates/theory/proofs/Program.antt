@@ -17,7 +17,8 @@ use Rattle.theory.proofs.Moves.{expands-map, weigh-fire}
 use Rattle.theory.proofs.Normed.{Normed}
 use Rattle.theory.proofs.Stages.{Stage, level, level-cong}
 use Rattle.theory.proofs.Rank.{Within}
-use Rattle.theory.proofs.Base.{Base, Prime, Atom, Made, form, form-iff, candidate}
+use Rattle.theory.proofs.Base.{Base, Prime, Atom, Made, form}
+use Rattle.theory.proofs.Unique.{form-iff, candidate}
 use Rattle.theory.proofs.Settle.{tidy-within}
 use Rattle.theory.proofs.Decide.{Finite}
 use Rattle.theory.proofs.Count.{past, past-whole, level-low, level-base}

@@ -17,7 +17,8 @@ use Rattle.theory.proofs.Field.{weigh-unit, weigh-weights}
 use Rattle.theory.proofs.Normed.{Normed, norm, Tidy}
 use Rattle.theory.proofs.Stages.{Alike, level, Stage, level-cong}
 use Rattle.theory.proofs.Rank.{rank, rank-norm, rank-number, Within, decomp}
-use Rattle.theory.proofs.Base.{Base, Prime, Atom, Made, unique, form, unit-some}
+use Rattle.theory.proofs.Base.{Base, Prime, Atom, Made, form, unit-some}
+use Rattle.theory.proofs.Unique.{unique}
 use Rattle.theory.proofs.Settle.{Whole, Settled}
 use Rattle.theory.proofs.Decide.{Finite, list-finite}
 use Rattle.theory.proofs.Count.{past, past-whole, level-low, level-base, passes-settled, settles}
