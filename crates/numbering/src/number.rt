@@ -15,7 +15,7 @@ use weights::fields::field_tokens;
 // "fields of up to 16 tokens"
 pub const TOKENS: usize = 16;
 
-// Any bytes, and any field number.
+// Shelf number, of any bytes and any field number.
 pub fn shelf_number(sheet: &[u8], field: usize) -> ShelfNumber
     ensures { λ r. ⌜ numberAnswer r ≡ shelfNumberOf (now (sheet .entry)) field ⌝ }
 {
@@ -27,7 +27,7 @@ pub fn shelf_number(sheet: &[u8], field: usize) -> ShelfNumber
     }
 }
 
-// The same of a sheet that was accepted.
+// Shelf number, of a sheet that was accepted.
 fn number_accepted(sheet: &[u8], card: Card, field: usize) -> ShelfNumber
     requires { ⌜ Reads (now sheet) card × Accepted (now sheet) ⌝ }
     ensures { λ r. ⌜ numberAnswer r ≡ shelfNumberOf (now (sheet .entry)) field ⌝ }

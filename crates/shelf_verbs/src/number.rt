@@ -11,14 +11,14 @@ ghost use Prim.Native.Nat.{_+_, _≤_};
 ghost use lib.ListN.{length};
 ghost use Rattle.text.specs.Appended.{Appended};
 ghost use Rattle.replies.specs.Told.{Tells};
-ghost use Rattle.shelf_verbs.specs.Texts.{shelvedLine};
+ghost use Rattle.shelf_verbs.specs.Texts.{mostShelved, shelvedLine};
 ghost use Rattle.replies.specs.Texts.{mostText};
 ghost use Rattle.shelf_verbs.specs.Calls.{numberTold};
 
 // `size S number X`.
 fn put_shelved(out: &mut [u8], at: usize, size: usize, number: u64) -> usize
-    requires { ⌜ at + 54 ≤ length (now out) ⌝ }
-    ensures { λ r. ⌜ Appended 54 (now (out .entry)) at (shelvedLine size number) (now (out .exit)) r ⌝ }
+    requires { ⌜ at + mostShelved ≤ length (now out) ⌝ }
+    ensures { λ r. ⌜ Appended mostShelved (now (out .entry)) at (shelvedLine size number) (now (out .exit)) r ⌝ }
 {
     let last = put_two_labelled(out, at, b"size ", size as u64, b" number ", number);
     put_byte(out, last, b'\n')

@@ -6,14 +6,14 @@ use replies::reply::refuse;
 use sheet::Card;
 use squads::Squads;
 use squads::squads;
-use text::put_labelled_form;
+use text::put_labelled_counts;
 ghost use mathlib.Core.Path.{_≡_};
-ghost use Prim.Native.Nat.{_+_, _*_, _≤_};
+ghost use Prim.Native.Nat.{_+_, _≤_};
 ghost use lib.ListN.{length};
 ghost use Rattle.text.specs.Appended.{Appended};
 ghost use Rattle.replies.specs.Told.{Tells};
 ghost use Rattle.replies.specs.Texts.{mostText};
-ghost use Rattle.squads_verb.specs.Texts.{remainderRoom, squadsLine};
+ghost use Rattle.squads_verb.specs.Texts.{remainderRoom, mostSquads, squadsLine};
 ghost use Rattle.squads_verb.specs.Calls.{squadsTold};
 
 // Room for the remainder on any card.
@@ -25,10 +25,10 @@ fn remainder_room() -> [u64; 32]
 
 // `squads Q = COUNTS`.
 fn put_squads(out: &mut [u8], at: usize, count: u64, remainder: &[u64]) -> usize
-    requires { ⌜ at + (30 + 21 * length (now remainder)) ≤ length (now out) ⌝ }
-    ensures { λ r. ⌜ Appended (30 + 21 * length (now (remainder .entry))) (now (out .entry)) at (squadsLine count (now (remainder .entry))) (now (out .exit)) r ⌝ }
+    requires { ⌜ at + mostSquads (length (now remainder)) ≤ length (now out) ⌝ }
+    ensures { λ r. ⌜ Appended (mostSquads (length (now (remainder .entry)))) (now (out .entry)) at (squadsLine count (now (remainder .entry))) (now (out .exit)) r ⌝ }
 {
-    put_labelled_form(out, at, b"squads ", count, remainder)
+    put_labelled_counts(out, at, b"squads ", count, remainder)
 }
 
 // How often one field goes into another, and the counts of what is left.

@@ -6,7 +6,7 @@ use replies::reply::Reply;
 use replies::reply::no_call;
 use replies::reply::refuse;
 use sheet::Card;
-use text::put_form_line;
+use text::put_counts_line;
 ghost use mathlib.Core.Path.{_≡_};
 ghost use Prim.Native.Nat.{_≤_};
 ghost use lib.ListN.{length};
@@ -35,7 +35,7 @@ pub fn field_form(sheet: &[u8], numbers: &[u64], out: &mut [u8]) -> Reply
         Forming::Written => {
             let card = Card::of_header(sheet);
             let n = card.kinds;
-            let length = put_form_line(out, 0, &form[..n]);
+            let length = put_counts_line(out, 0, &form[..n]);
             Reply {
                 outcome: Outcome::Answered,
                 length,

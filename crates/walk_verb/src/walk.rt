@@ -2,11 +2,11 @@
 use replies::reply::Outcome;
 use replies::reply::Reply;
 use replies::reply::no_call;
+use walk_text::put_walk;
 use walker::Answer;
 use walker::DESKS;
 use walker::Session;
 use walker::walk;
-use walkline::put_walk;
 ghost use mathlib.Core.Path.{_≡_};
 ghost use Prim.Native.Nat.{_≤_};
 ghost use lib.ListN.{getD, length};
