@@ -10,10 +10,10 @@ use Rattle.model.specs.Walk.{examine}
 use Rattle.model.specs.Sheet.{kindCount, fieldCount, cardOf, fieldOf}
 use Rattle.theory.specs.Game as game
 use Rattle.theory.specs.Counted.{Counted, holds, fails, spent, cut}
-use Rattle.player.specs.declared.game.Play.{Play}
-use Rattle.player.specs.declared.game.Play.the-variants.{Holds, Fails, Spent}
-use Rattle.player.specs.declared.game.Tried.{Tried}
-use Rattle.player.specs.declared.game.Tried.the-variants.{Parted, Held, OutOfBudget, OutOfBounds}
+use Rattle.test_player.specs.declared.game.Play.{Play}
+use Rattle.test_player.specs.declared.game.Play.the-variants.{Holds, Fails, Spent}
+use Rattle.test_player.specs.declared.game.Tried.{Tried}
+use Rattle.test_player.specs.declared.game.Tried.the-variants.{Parted, Held, OutOfBudget, OutOfBounds}
 
 -- A part of the game, counted: what each case of the enum stands for.
 abbrev pub countedOf : Play → Counted

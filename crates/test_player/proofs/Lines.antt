@@ -13,11 +13,15 @@ use Rattle.model.specs.Walk.{Seen, tryReplies, tryChallenges, examine}
 use Rattle.theory.specs.Counted.{Counted, holds, fails, outcome, cut, leaves}
 use Rattle.theory.proofs.Counted.{follow, followed, pair-next}
 use Rattle.theory.proofs.Runs.{Runs, run-end, run-first, one-passed, one-played, challenges, replies}
-use Rattle.player.specs.Played.{challenger}
+use Rattle.test_player.specs.Played.{challenger}
 
 -- The lines of a sheet from number j on.
 abbrev pub linesFrom : List ℕ → ℕ → List Line
 linesFrom s j = listFrom (lineOf s) j (lineCount s - j)
+
+-- What a run through the lines of a sheet comes to with a budget is what it comes to from line j on with what is left of it.
+abbrev pub Remains : (List Line → Seen) → List ℕ → ℕ → ℕ → ℕ → Type 0
+Remains run s budget left j = cut left (run (linesFrom s j)) ≡ cut budget (run (cardOf s .lines))
 
 -- A run through the lines of a sheet; what all of them come to is `whole`.
 module _ {p : Line → Bool} {h : Bool} {one : Line → Seen} {run : List Line → Seen} (runs : Runs p h one run) (s : List ℕ) where

@@ -5,17 +5,17 @@ use mathlib.Core.Path.{_≡_, ap}
 use Prim.Native.Nat.{_-_, _≤_}
 use Rattle.model.specs.Field.{at}
 use Rattle.model.specs.Sheet.{cardOf}
-use Rattle.player.specs.Played.{countedOf, tried}
+use Rattle.test_player.specs.Played.{countedOf, tried}
 use Rattle.second_reader.proofs.Counts.{fits-fewer}
-use Rattle.player.proofs.Rounds.{rounds-start, rounds-end, rounds-bound, rounds-next}
-use Rattle.player.proofs.game.try_rounds.Statement.{statement}
-use Rattle.player.proofs.game.try_rounds.Tie as tie
+use Rattle.test_player.proofs.Rounds.{rounds-start, rounds-end, rounds-bound, rounds-next}
+use Rattle.test_player.proofs.game.try_rounds.Statement.{statement}
+use Rattle.test_player.proofs.game.try_rounds.Tie as tie
 
 abbrev Inv-loop : tie.InvT-loop
-Inv-loop s limit a b budget left₀ rounds₀ left rounds = (rounds ≤ limit) × (tried (cardOf s .lines) (at a) (at b) left rounds (limit - rounds) ≡ tried (cardOf s .lines) (at a) (at b) budget 0 limit)
+Inv-loop s limit first second budget left₀ rounds₀ left rounds = (rounds ≤ limit) × (tried (cardOf s .lines) (at first) (at second) left rounds (limit - rounds) ≡ tried (cardOf s .lines) (at first) (at second) budget 0 limit)
 
 abbrev μ-loop : tie.MeasureT-loop
-μ-loop s limit a b budget left₀ rounds₀ left rounds = limit - rounds
+μ-loop s limit first second budget left₀ rounds₀ left rounds = limit - rounds
 
 loop-holds : tie.Need-loop-holds Inv-loop μ-loop
 loop-holds c = (omega arith, rounds-start _ _ _ _ 0 _)
@@ -27,7 +27,10 @@ add-pair-holds : tie.Need-add-pair-holds Inv-loop μ-loop
 add-pair-holds c = search needs
 
 pair-holds-requires : tie.Need-pair-holds-requires Inv-loop μ-loop
-pair-holds-requires c κs = (c .before .before .before .before .pre .0, (fits-fewer _ (omega (arith, c .if1 .left)) (c .before .before .before .before .pre .1 .0), fits-fewer _ (omega (arith, c .if1 .left)) (c .before .before .before .before .pre .1 .1)))
+pair-holds-requires c κs =
+    let start = c .before .before .before .before in
+    let few = c .if1 .left in
+    (start .pre .0, (fits-fewer _ (omega (arith, few)) (start .pre .1 .0), fits-fewer _ (omega (arith, few)) (start .pre .1 .1)))
 
 enum-known-rest : tie.Need-enum-known-rest Inv-loop μ-loop
 enum-known-rest c = search needs
@@ -39,13 +42,17 @@ add-t12 : tie.Need-add-t12 Inv-loop μ-loop
 add-t12 c = search needs
 
 returns-2 : tie.Need-returns-2 Inv-loop μ-loop
-returns-2 c = rounds-next _ _ _ _ _ (c .before .before .before .before .before .loop .inv .1) (c .before .before .before .before .loop-test .taken) (c .before .before .before .if1 .left) (c .before .before .pair-holds .ensures) (ap countedOf (c .enum-told .given .1))
+returns-2 c =
+    let played = c .before .before in
+    rounds-next _ _ _ _ _ (played .before .before .before .loop .inv .1) (played .before .before .loop-test .taken) (played .before .if1 .left) (played .pair-holds .ensures) (ap countedOf (c .enum-told .given .1))
 
 enum-told-2 : tie.Need-enum-told-2 Inv-loop μ-loop
 enum-told-2 c = search needs
 
 returns-3 : tie.Need-returns-3 Inv-loop μ-loop
-returns-3 c = rounds-next _ _ _ _ _ (c .before .before .before .before .before .loop .inv .1) (c .before .before .before .before .loop-test .taken) (c .before .before .before .if1 .left) (c .before .before .pair-holds .ensures) (ap countedOf (c .enum-told2 .given .1))
+returns-3 c =
+    let played = c .before .before in
+    rounds-next _ _ _ _ _ (played .before .before .before .loop .inv .1) (played .before .before .loop-test .taken) (played .before .if1 .left) (played .pair-holds .ensures) (ap countedOf (c .enum-told2 .given .1))
 
 add-rounds : tie.Need-add-rounds Inv-loop μ-loop
 add-rounds c = search needs
@@ -54,10 +61,9 @@ loop-less : tie.Need-loop-less Inv-loop μ-loop
 loop-less c = search needs
 
 loop-again : tie.Need-loop-again Inv-loop μ-loop
-loop-again c = (
-  omega (arith, c .before .before .before .before .before .loop-test .taken),
-  rounds-next _ _ _ _ _ (c .before .before .before .before .before .before .loop .inv .1) (c .before .before .before .before .before .loop-test .taken) (c .before .before .before .before .if1 .left) (c .before .before .before .pair-holds .ensures) (ap countedOf (c .before .rest .given .1)),
-)
+loop-again c =
+    let played = c .before .before .before in
+    (omega (arith, played .before .before .loop-test .taken), rounds-next _ _ _ _ _ (played .before .before .before .loop .inv .1) (played .before .before .loop-test .taken) (played .before .if1 .left) (played .pair-holds .ensures) (ap countedOf (c .before .rest .given .1)))
 
 returns-4 : tie.Need-returns-4 Inv-loop μ-loop
 returns-4 c = rounds-end _ _ _ _ _ (c .before .loop .inv .1) (c .loop-test .left)

@@ -9,9 +9,9 @@ use Rattle.model.specs.Card.{Line}
 use Rattle.model.specs.Sheet.{kindCount, fieldCount, cardOf, fieldOf}
 use Rattle.model.specs.Walk.{examine}
 use Rattle.theory.specs.Counted.{Counted, cut}
-use Rattle.player.specs.Played.{mostKindsPlayed, mostRoundsPlayed, next, tried, partingOf}
-use Rattle.player.specs.declared.game.Tried.{Tried}
-use Rattle.player.specs.declared.game.Tried.the-variants.{Held, OutOfBounds}
+use Rattle.test_player.specs.Played.{mostKindsPlayed, mostRoundsPlayed, next, tried, partingOf}
+use Rattle.test_player.specs.declared.game.Tried.{Tried}
+use Rattle.test_player.specs.declared.game.Tried.the-variants.{Held, OutOfBounds}
 
 module _ (xs : List Line) (a b : Field) (v r : ℕ) where
   -- No number of rounds is left, the next lies past the bound, or it is tried.

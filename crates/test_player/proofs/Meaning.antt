@@ -14,11 +14,11 @@ use Rattle.theory.specs.Game.{Holds}
 use Rattle.theory.proofs.Exec.{Tells}
 use Rattle.theory.proofs.Walks.{tells-examine, Holds-less, walk-parts, walk-holds}
 use Rattle.theory.proofs.Counted.{over, under}
-use Rattle.player.specs.declared.game.Tried.{Tried}
-use Rattle.player.specs.declared.game.Tried.the-variants.{Parted, Held, OutOfBudget, OutOfBounds}
-use Rattle.player.specs.Played.{mostKindsPlayed, mostRoundsPlayed, tried, partingOf}
-use Rattle.player.specs.Meaning.{Means}
-use Rattle.player.proofs.Rounds.{tried-none, tried-bound, tried-one, kinds-bound, first-bound, second-bound, fields-tried}
+use Rattle.test_player.specs.declared.game.Tried.{Tried}
+use Rattle.test_player.specs.declared.game.Tried.the-variants.{Parted, Held, OutOfBudget, OutOfBounds}
+use Rattle.test_player.specs.Played.{mostKindsPlayed, mostRoundsPlayed, tried, partingOf}
+use Rattle.test_player.specs.Meaning.{Means}
+use Rattle.test_player.proofs.Rounds.{tried-none, tried-bound, tried-one, kinds-bound, first-bound, second-bound, fields-tried}
 
 -- The pairs of one number of rounds.
 walk-one : (xs : List Line) (a b : Field) (r : ℕ) → walk xs a b r (suc zero) .count ≡ examine xs r a b .count
