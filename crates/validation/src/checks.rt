@@ -13,11 +13,11 @@ pub enum Checked {
     Refused { number: usize, place: usize },
 }
 
-// "out of range"
-pub fn outside(low: usize, high: usize, x: usize) -> bool
-    ensures { λ r. ⌜ r ≡ outsideOf low high x ⌝ }
+// "out of range": whether a number is below the low end or above the high one.
+pub fn outside(low: usize, high: usize, number: usize) -> bool
+    ensures { λ r. ⌜ r ≡ outsideOf low high number ⌝ }
 {
-    x < low || high < x
+    number < low || high < number
 }
 
 // 1 to 5: the length, and the header's four numbers.
