@@ -13,44 +13,31 @@ use crate::settlement::Settlement;
 use crate::settlement::settle_once;
 use norms::lines::gain;
 use sheet::Card;
+use stages::parting::parted;
 use validation::checks::Checked;
+use validation::fields::check_fields;
 use weights::fields::field_norm;
 
 // Any bytes, and any two field numbers.
 pub fn compare(sheet: &[u8], first: usize, second: usize) -> Verdict
     ensures { λ r. ⌜ verdictOf r ≡ compareOf (now (sheet .entry)) first second ⌝ }
 {
-    compare_settled(sheet, settle_once(sheet, first), second)
+    compare_settled(sheet, settle_once(sheet), first, second)
 }
 
-// The same of a sheet that was settled: its first field against another.
-pub fn compare_settled(sheet: &[u8], settlement: Settlement, second: usize) -> Verdict
+// The same of a sheet that was settled.
+pub fn compare_settled(sheet: &[u8], settlement: Settlement, first: usize, second: usize) -> Verdict
     requires { ⌜ IsSettlement (now sheet) settlement ⌝ }
-    ensures { λ r. ⌜ verdictOf r ≡ compareOf (now (sheet .entry)) (settlement .first) second ⌝ }
+    ensures { λ r. ⌜ verdictOf r ≡ compareOf (now (sheet .entry)) first second ⌝ }
 {
-    let first = settlement.first;
     let checked = settlement.checked;
-    match checked {
+    match check_fields(checked, first, second) {
         Checked::Refused { number, place } => Verdict::Refused { number, place },
         Checked::Passed(card) => {
-            let fields = card.fields;
-            if fields <= first {
-                return Verdict::Refused {
-                    number: 11,
-                    place: 0,
-                };
-            }
-            if fields <= second {
-                return Verdict::Refused {
-                    number: 11,
-                    place: 1,
-                };
-            }
             let norms = settlement.norms;
             let settled = settlement.settled;
             let last = settled.stage;
-            let parted = settled.parted;
-            let stage = parted[second];
+            let stage = parted(sheet, card, norms, settled, first, second);
             if last < stage {
                 return Verdict::Same;
             }

@@ -10,6 +10,7 @@ ghost use Rattle.norms.specs.Norms.{Accepts};
 ghost use Rattle.filer.specs.Settlement.{IsSettlement};
 ghost use Rattle.text.specs.Appended.{Appended};
 ghost use Rattle.listing.specs.Line.{fieldText, fieldsText};
+ghost use Rattle.page.specs.Lengths.{mostField};
 
 // The line of one field of a settled sheet.
 fn put_settled_field(
@@ -23,8 +24,8 @@ fn put_settled_field(
     requires { ⌜ IsSettlement (now sheet) settlement ⌝ }
     requires { ⌜ Accepts (now sheet) card (settlement .norms) ⌝ }
     requires { ⌜ field < card .fields ⌝ }
-    requires { ⌜ at + 701 ≤ length (now out) ⌝ }
-    ensures { λ r. ⌜ Appended 701 (now (out .entry)) at (fieldText field (primeForm (now (sheet .entry)) field)) (now (out .exit)) r ⌝ }
+    requires { ⌜ at + mostField ≤ length (now out) ⌝ }
+    ensures { λ r. ⌜ Appended mostField (now (out .entry)) at (fieldText field (primeForm (now (sheet .entry)) field)) (now (out .exit)) r ⌝ }
 {
     let n = card.kinds;
     let mut form = [0u64; 32];
@@ -42,8 +43,8 @@ pub fn put_fields(
 ) -> usize
     requires { ⌜ IsSettlement (now sheet) settlement ⌝ }
     requires { ⌜ Accepts (now sheet) card (settlement .norms) ⌝ }
-    requires { ⌜ at + 701 * card .fields ≤ length (now out) ⌝ }
-    ensures { λ r. ⌜ Appended (701 * card .fields) (now (out .entry)) at (fieldsText (now (sheet .entry)) (card .fields)) (now (out .exit)) r ⌝ }
+    requires { ⌜ at + mostField * card .fields ≤ length (now out) ⌝ }
+    ensures { λ r. ⌜ Appended (mostField * card .fields) (now (out .entry)) at (fieldsText (now (sheet .entry)) (card .fields)) (now (out .exit)) r ⌝ }
 {
     let fields = card.fields;
     let mut next = at;

@@ -22,12 +22,13 @@ ghost use Rattle.model.specs.Page.{lines, pageOf};
 ghost use Rattle.norms.specs.Norms.{Accepts};
 ghost use Rattle.filer.specs.Settlement.{IsSettlement, tableIn};
 ghost use Rattle.text.specs.Appended.{Appended};
-ghost use Rattle.page.specs.Writing.{writingOf, writePageOf, mostPage};
+ghost use Rattle.page.specs.Lengths.{mostPage};
+ghost use Rattle.page.specs.Writing.{writingOf, writePageOf};
 
 // "at most 12,821 bytes"
 pub const INPUT: usize = 12821;
 
-// No page is longer.
+// No page is longer: mostPage of specs/Lengths.antt, to which `blank` holds it.
 pub const PAGE: usize = 73319;
 
 // What the page function answers. specs/Writing.antt gives the cases their numbers and values.
@@ -53,8 +54,10 @@ pub fn write_page(sheet: &[u8], out: &mut [u8]) -> Writing
     Writing::Written { length }
 }
 
-// A page with nothing on it: a caller's proof does not see its bytes.
-fn blank() -> [u8; PAGE] {
+// A page with nothing on it: a caller's proof does not see its bytes, but that they are as many as the longest page has, so that no other function goes by the number.
+fn blank() -> [u8; PAGE]
+    ensures { λ r. ⌜ length r ≡ mostPage ⌝ }
+{
     [0u8; PAGE]
 }
 
@@ -73,7 +76,7 @@ fn put_page(out: &mut [u8], sheet: &[u8]) -> usize
     requires { ⌜ mostPage ≤ length (now out) ⌝ }
     ensures { λ r. ⌜ Appended mostPage (now (out .entry)) 0 (pageOf (now (sheet .entry))) (now (out .exit)) r ⌝ }
 {
-    let settlement = settle_once(sheet, 0);
+    let settlement = settle_once(sheet);
     let checked = settlement.checked;
     match checked {
         Checked::Refused { number, place } => put_refused(out, 0, number, place),
@@ -84,7 +87,6 @@ fn put_page(out: &mut [u8], sheet: &[u8]) -> usize
 // The lines of an accepted sheet.
 fn put_lines(out: &mut [u8], sheet: &[u8], settlement: Settlement, card: Card) -> usize
     requires { ⌜ IsSettlement (now sheet) settlement ⌝ }
-    requires { ⌜ settlement .first ≡ 0 ⌝ }
     requires { ⌜ Accepts (now sheet) card (settlement .norms) ⌝ }
     requires { ⌜ mostPage ≤ length (now out) ⌝ }
     ensures { λ r. ⌜ Appended mostPage (now (out .entry)) 0 (lines (now (sheet .entry)) (tableOf (now (sheet .entry))) (kindNorm (cardOf (now (sheet .entry))))) (now (out .exit)) r ⌝ }
@@ -103,13 +105,13 @@ fn put_lines(out: &mut [u8], sheet: &[u8], settlement: Settlement, card: Card) -
     put_pairs(out, at_pairs, sheet, settlement, fields)
 }
 
-// The rows of n kinds with n counts to a row, at the front of an array.
-fn table_of(base: Base, n: usize) -> [u32; 1024]
-    requires { ⌜ n ≤ mostKinds ⌝ }
-    ensures { λ r. ⌜ take (n * n) r ≡ tableIn n (base .rows) ⌝ }
+// The rows of so many kinds, with as many counts to a row, at the front of an array.
+fn table_of(base: Base, kinds: usize) -> [u32; 1024]
+    requires { ⌜ kinds ≤ mostKinds ⌝ }
+    ensures { λ r. ⌜ take (kinds * kinds) r ≡ tableIn kinds (base .rows) ⌝ }
 {
     let rows = base.rows;
     let mut table = [0u32; 1024];
-    write_table(&rows, n, &mut table);
+    write_table(&rows, kinds, &mut table);
     table
 }

@@ -18,18 +18,18 @@ use quotients::divide::divide;
 use sheet::Card;
 use tables::table::Base;
 use validation::checks::Checked;
+use validation::fields::check_fields;
 use weights::fields::field_tokens;
 
-// Any bytes, any two field numbers and a buffer of any length; a refusal leaves the buffer as it was. The sheet is settled once, and no field is compared with the
-// others.
+// Any bytes, any two field numbers and a buffer of any length; a refusal leaves the buffer as it was. The sheet is settled once.
 pub fn squads(sheet: &[u8], whole: usize, squad: usize, remainder: &mut [u64]) -> Squads
     ensures { λ r. ⌜ squadsAnswer r ≡ squadsOf (now (sheet .entry)) whole squad (now (remainder .entry)) .answer ⌝ }
     ensures { λ r. ⌜ now (remainder .exit) ≡ squadsOf (now (sheet .entry)) whole squad (now (remainder .entry)) .lent ⌝ }
 {
-    let settlement = settle_once(sheet, Card::FIELDS);
+    let settlement = settle_once(sheet);
     let checked = settlement.checked;
     let settled = settlement.settled;
-    match checked {
+    match check_fields(checked, whole, squad) {
         Checked::Refused { number, place } => Squads::Refused { number, place },
         Checked::Passed(card) => squads_accepted(
             sheet,
@@ -42,7 +42,7 @@ pub fn squads(sheet: &[u8], whole: usize, squad: usize, remainder: &mut [u64]) -
     }
 }
 
-// The same of a sheet that was accepted, by its final base.
+// The same of two fields of a sheet that was accepted, by its final base.
 fn squads_accepted(
     sheet: &[u8],
     card: Card,
@@ -53,22 +53,10 @@ fn squads_accepted(
 ) -> Squads
     requires { ⌜ Reads (now sheet) card × Accepted (now sheet) ⌝ }
     requires { ⌜ BaseAt (now sheet) (settledStage (cardOf (now sheet))) (base .rows) ⌝ }
+    requires { ⌜ (whole < card .fields) × (squad < card .fields) ⌝ }
     ensures { λ r. ⌜ squadsAnswer r ≡ squadsOf (now (sheet .entry)) whole squad (now (remainder .entry)) .answer ⌝ }
     ensures { λ r. ⌜ now (remainder .exit) ≡ squadsOf (now (sheet .entry)) whole squad (now (remainder .entry)) .lent ⌝ }
 {
-    let fields = card.fields;
-    if fields <= whole {
-        return Squads::Refused {
-            number: 11,
-            place: 0,
-        };
-    }
-    if fields <= squad {
-        return Squads::Refused {
-            number: 11,
-            place: 1,
-        };
-    }
     if is_empty(sheet, card, squad) {
         return Squads::Refused {
             number: 17,

@@ -48,19 +48,19 @@ slice-aggregate-divide-2 c = sym (length-take-le _ _ (squad-long (c .before .bef
 
 divide-requires : tie.Need-divide-requires
 divide-requires c κs =
-    let k = c .before .before .before in
-    let s = start k in
-    can-divide (s .args .sheet .now) (s .args .whole) (s .args .squad) _ _ (whole-form k) (squad-form k) (s .pre .0 .1) (s .pre .1 .1 .1 .0) _ (s .pre .1 .1 .1 .1)
+    let after-prime-counts2 = c .before .before .before in
+    let s = start after-prime-counts2 in
+    can-divide (s .args .sheet .now) (s .args .whole) (s .args .squad) _ _ (whole-form after-prime-counts2) (squad-form after-prime-counts2) (s .pre .0 .1) (s .pre .1 .1 .1 .0) _ (s .pre .1 .1 .1 .1)
 
 same-length : tie.Need-same-length
 same-length c = search needs
 
 returns : tie.Need-returns
 returns c =
-    let k = c .before .before .before .before .before .before in
-    let s = start k in
-    let e = c .before .before .divide .ensures in
-    divides (s .args .sheet .now) (s .args .whole) (s .args .squad) _ _ (whole-form k) (squad-form k) _ _ _ (e .0) (e .1)
+    let after-prime-counts2 = c .before .before .before .before .before .before in
+    let divide = c .before .before .divide .ensures in
+    let s = start after-prime-counts2 in
+    divides (s .args .sheet .now) (s .args .whole) (s .args .squad) _ _ (whole-form after-prime-counts2) (squad-form after-prime-counts2) _ _ _ (divide .0) (divide .1)
 
 pub divide-forms-spec : {M : Type 1} → statement M
 divide-forms-spec =
