@@ -108,20 +108,20 @@ enum { LIMBATUE_TOGETHER = 0, LIMBATUE_APART = 1, LIMBATUE_SPENT = 2 };
 #define LIMBATUE_SHELF_NUMBER_ANSWER 2
 #define LIMBATUE_SQUADS_ANSWER 1
 
-/* Bytes of stack that must be left where a call is made. Taken are, as measured: settle 131,064, compare 127,608, prime form 131,400, walk 79,920 at most, page
- * 215,224, shelf number 6,296, shelf field 6,408, squads 135,688, the others under 256. Stated is each with 4,096 more, for memcpy, memset and the loader, which may be
+/* Bytes of stack that must be left where a call is made. Taken are, as measured: settle 115,992, compare 111,912, prime form 116,328, walk 81,220 at most, page
+ * 211,016, shelf number 6,296, shelf field 6,408, squads 120,616, the others under 256. Stated is each with 4,096 more, for memcpy, memset and the loader, which may be
  * asked for them at a first call, and rounded up to pages of 4,096. In the repository ./stack measures the archive again, and fails where under 4,096 are left. */
 #define LIMBATUE_VERSION_STACK 8192
 #define LIMBATUE_NUMBERS_STACK 8192
-#define LIMBATUE_SETTLE_STACK 135168
+#define LIMBATUE_SETTLE_STACK 122880
 #define LIMBATUE_ROW_CHECK_STACK 8192
-#define LIMBATUE_COMPARE_STACK 135168
-#define LIMBATUE_PRIME_FORM_STACK 139264
+#define LIMBATUE_COMPARE_STACK 118784
+#define LIMBATUE_PRIME_FORM_STACK 122880
 #define LIMBATUE_WALK_STACK 86016
-#define LIMBATUE_PAGE_STACK 221184
+#define LIMBATUE_PAGE_STACK 217088
 #define LIMBATUE_SHELF_NUMBER_STACK 12288
 #define LIMBATUE_SHELF_FIELD_STACK 12288
-#define LIMBATUE_SQUADS_STACK 143360
+#define LIMBATUE_SQUADS_STACK 126976
 #define LIMBATUE_STACK_MOST LIMBATUE_PAGE_STACK
 
 /* The version of the library that was linked; LIMBATUE_VERSION is that of this header. */

@@ -20,13 +20,13 @@ pub struct Acceptance {
 }
 
 // "A sheet is accepted when none of 1 to 10 applies to it", of any bytes of any length.
-pub fn accept(s: &[u8]) -> Acceptance
-    ensures { λ r. ⌜ r ≡ acceptanceOf (now (s .entry)) ⌝ }
+pub fn accept(sheet: &[u8]) -> Acceptance
+    ensures { λ r. ⌜ r ≡ acceptanceOf (now (sheet .entry)) ⌝ }
 {
-    match check_sheet(s) {
+    match check_sheet(sheet) {
         Checked::Refused { number, place } => refuse(number, place),
         Checked::Passed(card) => {
-            let norms = kind_norms(s, card);
+            let norms = kind_norms(sheet, card);
             match check_norms(card, &norms) {
                 Checked::Refused { number, place } => refuse(number, place),
                 Checked::Passed(card) => Acceptance {

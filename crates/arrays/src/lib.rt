@@ -5,3 +5,6 @@ pub mod reply;
 
 // A session that is lent as an array.
 pub mod session;
+
+// The values of each answer, in its layout.
+pub mod values;

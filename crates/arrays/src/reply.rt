@@ -1,9 +1,8 @@
 // The number returned, and the answer array.
 ghost use mathlib.Core.Path.{_≡_};
-ghost use Prim.Native.Nat.{_<_, _≤_, _^_};
-ghost use lib.ListN.{length};
-ghost use Rattle.model.specs.Answer.{written};
+ghost use Prim.Native.Nat.{_<_, _^_};
 ghost use Rattle.arrays.specs.Reply.{codeOf, valuesReply};
+use copies::bits64::write_u64;
 
 // The number that a refusal returns.
 pub fn refusal_code(number: usize, place: usize) -> u32
@@ -21,18 +20,6 @@ pub fn reply(values: &[u64], answer: &mut [u64]) -> u32
     if answer.len() < values.len() {
         return 12;
     }
-    write_values(values, answer);
+    write_u64(values, answer);
     0
-}
-
-// The values to the front of the answer array.
-pub fn write_values(values: &[u64], answer: &mut [u64])
-    requires { ⌜ length (now values) ≤ length (now answer) ⌝ }
-    ensures { λ _. ⌜ now (answer .exit) ≡ written (now (values .entry)) (now (answer .entry)) ⌝ }
-{
-    let mut i = 0;
-    while i < values.len() {
-        answer[i] = values[i];
-        i += 1;
-    }
 }

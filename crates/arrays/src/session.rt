@@ -6,7 +6,8 @@ ghost use lib.ListN.{length, take};
 ghost use Rattle.model.specs.Answer.{written};
 ghost use Rattle.arrays.specs.Session.{desks, shortWalk};
 use crate::reply::refusal_code;
-use crate::reply::write_values;
+use copies::bits32::write_u32;
+use copies::bits64::write_u64;
 use walker::Answer;
 use walker::DESKS;
 use walker::Session;
@@ -18,24 +19,8 @@ pub fn lent_session(session: &[u32]) -> Session
     ensures { λ r. ⌜ r .left ≡ take desks (now (session .entry)) ⌝ }
 {
     let mut left = [0u32; DESKS];
-    let mut desk = 0;
-    while desk < DESKS {
-        left[desk] = session[desk];
-        desk += 1;
-    }
+    write_u32(&session[..DESKS], &mut left);
     Session::open(left)
-}
-
-// What each desk has left to the front of the array.
-fn write_session(left: &[u32], session: &mut [u32])
-    requires { ⌜ length (now left) ≤ length (now session) ⌝ }
-    ensures { λ _. ⌜ now (session .exit) ≡ written (now (left .entry)) (now (session .entry)) ⌝ }
-{
-    let mut next = 0;
-    while next < left.len() {
-        session[next] = left[next];
-        next += 1;
-    }
 }
 
 // The values of an answer and what each desk has left, to arrays that have room for them.
@@ -54,9 +39,9 @@ pub fn reply_walk(
     ensures { λ _. ⌜ now (answer .exit) ≡ written (word ∷ rounds ∷ drawn ∷ []) (now (answer .entry)) ⌝ }
 {
     let left = after.left;
-    write_session(&left, session);
+    write_u32(&left, session);
     let values = [word, rounds, drawn as u64];
-    write_values(&values, answer);
+    write_u64(&values, answer);
     0
 }
 

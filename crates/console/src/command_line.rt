@@ -31,12 +31,12 @@ pub fn arguments(words: &mut [u8], at: usize) -> Words
     Words::All { length: next }
 }
 
-// Argument i with a 0 after it.
-fn put_argument(words: &mut [u8], at: usize, i: usize) -> Words
+// The argument at an index, with a 0 after it.
+fn put_argument(words: &mut [u8], at: usize, index: usize) -> Words
     requires { ⌜ at ≤ length (now words) ⌝ }
     ensures { λ r. ⌜ Counts (lengthOf r) (now (words .exit)) ⌝ }
 {
-    let end = at + os::arg(i, &mut words[at..]);
+    let end = at + os::arg(index, &mut words[at..]);
     if os::errno() != 0 {
         return Words::TooLong;
     }

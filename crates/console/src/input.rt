@@ -19,7 +19,7 @@ pub fn read_sheet(sheet: &mut [u8; INPUT]) -> Reading
     fill(sheet)
 }
 
-// The same, to a buffer of any length.
+// Reads standard input to a buffer of any length, until it ends, the buffer is full or a read fails.
 fn fill(buffer: &mut [u8]) -> Reading
     ensures { λ r. ⌜ Counts (bytesOf r) (now (buffer .exit)) ⌝ }
 {

@@ -9,7 +9,7 @@ use lib.Seq.{ext-getD, getD-set-same, getD-set-other}
 use Rattle.model.specs.Finite.{listFrom}
 use Rattle.model.specs.Shelf.{entry}
 use Rattle.theory.proofs.Lists.{length-from, getD-from}
-use Rattle.theory.proofs.Numbering.{entry-none, entry-next}
+use Rattle.theory.proofs.Entries.{entry-none, entry-next}
 use Rattle.theory.proofs.Shelves.{entries-fit}
 use Rattle.entries.specs.Table.{entriesOf}
 

@@ -16,10 +16,10 @@ fn first_row() -> [u64; 17]
     row
 }
 
-// The entries for k kinds become those for one kind more: "the entry for k - 1 and t plus, for t above 0, the entry for k and t - 1". The contract alone names k.
-fn next_row(row: &mut [u64; 17], k: usize)
-    requires { ⌜ (now row ≡ entriesOf k) × (k < 32) ⌝ }
-    ensures { λ _. ⌜ now (row .exit) ≡ entriesOf (k + 1) ⌝ }
+// The entries for so many kinds become those for one kind more: "the entry for k - 1 and t plus, for t above 0, the entry for k and t - 1". The contract alone names the number of kinds.
+fn next_row(row: &mut [u64; 17], kinds: usize)
+    requires { ⌜ (now row ≡ entriesOf kinds) × (kinds < 32) ⌝ }
+    ensures { λ _. ⌜ now (row .exit) ≡ entriesOf (kinds + 1) ⌝ }
 {
     let mut t = 1;
     while t < 17 {

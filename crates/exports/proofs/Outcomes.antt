@@ -15,7 +15,8 @@ use Rattle.sheet.specs.declared.reader.Card.{Card}
 use Rattle.sheet.specs.Reader.{Reads}
 use Rattle.arrays.specs.Reply.{codeOf, refusing, replyOf, laidOut, valuesReply}
 use Rattle.arrays.specs.Session.{shortCodeBy}
-use Rattle.exports.specs.Calls.{rowValues, foundOr, rowCall, numberValues, numbersCall, stageValues, settleCall, shortCode, verdictValues, compareCall, noValues, formCall, shelvedValues, shelfNumberCall, shelfFieldCall}
+use Rattle.arrays.specs.Values.{rowValues, cardValues, verdictValues, shelvedValues}
+use Rattle.exports.specs.Calls.{foundOr, rowCall, numberValues, numbersCall, stageValues, settleCall, shortCode, compareCall, noValues, formCall, shelfNumberCall, shelfFieldCall}
 use Rattle.arrays.proofs.Replies.{reply-refuses, reply-short, reply-gives}
 
 -- A call that gives the same values wherever its checks find nothing.
@@ -42,7 +43,7 @@ module _ (s array : List ℕ) where
   unfolding numbersCall
   numbers-refuses q p e = found-refuses (numberValues s) (firstOf (sheetChecks s)) array q p e
 
-  pub numbers-gives : (c : Card) → Reads s c → numbersCall s array ≡ valuesReply (c .kinds ∷ c .codes ∷ c .lines ∷ c .fields ∷ []) array
+  pub numbers-gives : (c : Card) → Reads s c → numbersCall s array ≡ valuesReply (cardValues c) array
   unfolding numbersCall
   numbers-gives c h = rw (h .header) (found-gives (numberValues s) (firstOf (sheetChecks s)) array (h .passed))
 

@@ -1,26 +1,24 @@
 -- The calls from C, each from the model's own answer; the layout of each answer array.
 use mathlib.Core.Bool.{true, false}
 use mathlib.Core.List.{List, [], _∷_}
-use Prim.Native.Nat.{ℕ, _*_}
+use Prim.Native.Nat.{ℕ}
 use lib.Dec.{ltb}
 use lib.ListN.{length, take}
 use Rattle.model.specs.Sheet.{kindCount, codeCount, lineCount, fieldCount}
 use Rattle.model.specs.Refusal.{Finding, clear, refusal, firstOf, sheetChecks, acceptChecks, squadsChecks}
 use Rattle.model.specs.Walk.{WalkAnswer, apart, together, spent}
-use Rattle.model.specs.Answer.{Answer, refused, given, Verdict, same, different, Shelved, Session, written, rowCheckOf, walkOf, settleOf, compareOf, formOf, shelfNumberOf, shelfFieldOf, squadsOf}
+use Rattle.model.specs.Answer.{Answer, refused, given, Session, written, rowCheckOf, walkOf, settleOf, compareOf, formOf, shelfNumberOf, shelfFieldOf, squadsOf}
 use Rattle.page.specs.Writing.{writePageOf}
 use Rattle.arrays.specs.Reply.{Reply, replyOf, laidOut}
 use Rattle.arrays.specs.Session.{desks, shortCodeBy}
-
--- Row's check: where the row starts in the table, and how many entries it has.
-abbrev pub rowValues : ℕ → ℕ → List ℕ
-rowValues n k = k * n ∷ n ∷ []
+use Rattle.arrays.specs.Values.{rowValues, verdictValues, shelvedValues}
 
 -- The values, unless a check found a refusal.
 abbrev pub foundOr : List ℕ → Finding → Answer (List ℕ)
 foundOr values clear = given values
 foundOr values (refusal number place) = refused number place
 
+-- Row's check.
 unfoldable pub rowCall : ℕ → ℕ → List ℕ → List ℕ → Reply (Unit {0})
 rowCall n k table array = replyOf (foundOr (rowValues n k) (rowCheckOf n k table)) tt tt array
 
@@ -63,11 +61,7 @@ walkCall s i j limit d session array =
     let w = walkOf s i j limit d (lentSession session) in
     replyOf (ofDesks session (laidOut (walkValues (w .drawn)) (w .answer))) session (written (w .after .left) session) array
 
--- Compare: 0 same, 1 different; the stage and the rounds, 0 and 0 where the fields are the same.
-abbrev pub verdictValues : Verdict → List ℕ
-verdictValues same = 0 ∷ 0 ∷ 0 ∷ []
-verdictValues (different stage rounds) = 1 ∷ stage ∷ rounds ∷ []
-
+-- Compare.
 unfoldable pub compareCall : List ℕ → ℕ → ℕ → List ℕ → Reply (Unit {0})
 compareCall s i j array = replyOf (laidOut verdictValues (compareOf s i j)) tt tt array
 
@@ -78,10 +72,7 @@ noValues _ = []
 unfoldable pub formCall : List ℕ → ℕ → List ℕ → Reply (List ℕ)
 formCall s i buffer = let x = formOf s i buffer in replyOf (laidOut noValues (x .answer)) buffer (x .lent) []
 
--- Shelf number: the size of the field, its tokens, and its number at that size.
-abbrev pub shelvedValues : Shelved → List ℕ
-shelvedValues x = x .size ∷ x .number ∷ []
-
+-- Shelf number.
 unfoldable pub shelfNumberCall : List ℕ → ℕ → List ℕ → Reply (Unit {0})
 shelfNumberCall s i array = replyOf (laidOut shelvedValues (shelfNumberOf s i)) tt tt array
 

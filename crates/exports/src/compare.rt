@@ -2,7 +2,8 @@
 ghost use mathlib.Core.Path.{_≡_};
 ghost use Rattle.exports.specs.Calls.{compareCall};
 use arrays::reply::refusal_code;
-use arrays::reply::reply;
+use arrays::values::reply_different;
+use arrays::values::reply_same;
 use filer::Verdict;
 use filer::compare::compare;
 
@@ -18,14 +19,8 @@ pub extern "C" fn limbatue_compare(
     ensures { λ _. ⌜ now (answer .exit) ≡ compareCall (now (sheet .entry)) first second (now (answer .entry)) .values ⌝ }
 {
     match compare(sheet, first, second) {
-        Verdict::Same => {
-            let values = [0u64, 0, 0];
-            reply(&values, answer)
-        }
-        Verdict::Different { stage, rounds } => {
-            let values = [1, stage as u64, rounds];
-            reply(&values, answer)
-        }
+        Verdict::Same => reply_same(answer),
+        Verdict::Different { stage, rounds } => reply_different(stage, rounds, answer),
         Verdict::Refused { number, place } => refusal_code(number, place),
     }
 }

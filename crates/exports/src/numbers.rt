@@ -2,7 +2,7 @@
 ghost use mathlib.Core.Path.{_≡_};
 ghost use Rattle.exports.specs.Calls.{numbersCall};
 use arrays::reply::refusal_code;
-use arrays::reply::reply;
+use arrays::values::reply_card;
 use validation::checks::Checked;
 use validation::checks::check_sheet;
 
@@ -13,15 +13,7 @@ pub extern "C" fn limbatue_numbers(sheet: &[u8], answer: &mut [u64]) -> u32
     ensures { λ _. ⌜ now (answer .exit) ≡ numbersCall (now (sheet .entry)) (now (answer .entry)) .values ⌝ }
 {
     match check_sheet(sheet) {
-        Checked::Passed(card) => {
-            let values = [
-                card.kinds as u64,
-                card.codes as u64,
-                card.lines as u64,
-                card.fields as u64,
-            ];
-            reply(&values, answer)
-        }
+        Checked::Passed(card) => reply_card(card, answer),
         Checked::Refused { number, place } => refusal_code(number, place),
     }
 }

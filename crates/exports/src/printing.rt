@@ -2,7 +2,7 @@
 ghost use mathlib.Core.Path.{_≡_};
 ghost use Rattle.exports.specs.Calls.{pageCall};
 use arrays::reply::refusal_code;
-use arrays::reply::reply;
+use arrays::values::reply_value;
 use page::Writing;
 use page::write_page;
 
@@ -17,10 +17,7 @@ pub extern "C" fn limbatue_page(sheet: &[u8], out: &mut [u8], answer: &mut [u64]
         return 12;
     }
     match write_page(sheet, out) {
-        Writing::Written { length } => {
-            let values = [length as u64];
-            reply(&values, answer)
-        }
+        Writing::Written { length } => reply_value(length as u64, answer),
         Writing::Refused { number, place } => refusal_code(number, place),
     }
 }

@@ -2,7 +2,7 @@
 ghost use mathlib.Core.Path.{_≡_};
 ghost use Rattle.exports.specs.Calls.{rowCall};
 use arrays::reply::refusal_code;
-use arrays::reply::reply;
+use arrays::values::reply_row;
 use filer::RowCheck;
 use filer::row::row_check;
 
@@ -18,10 +18,7 @@ pub extern "C" fn limbatue_row_check(
     ensures { λ _. ⌜ now (answer .exit) ≡ rowCall kinds kind (now (table .entry)) (now (answer .entry)) .values ⌝ }
 {
     match row_check(table, kinds, kind) {
-        RowCheck::Clear => {
-            let values = [(kind * kinds) as u64, kinds as u64];
-            reply(&values, answer)
-        }
+        RowCheck::Clear => reply_row(kinds, kind, answer),
         RowCheck::Refused { number, place } => refusal_code(number, place),
     }
 }

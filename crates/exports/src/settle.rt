@@ -3,7 +3,7 @@ ghost use mathlib.Core.Path.{_≡_};
 ghost use Rattle.exports.specs.Calls.{settleCall, shortCode};
 use acceptance::accept::accept;
 use arrays::reply::refusal_code;
-use arrays::reply::reply;
+use arrays::values::reply_value;
 use filer::Settling;
 use filer::settle::settle_sheet;
 use validation::checks::Checked;
@@ -31,10 +31,7 @@ pub extern "C" fn limbatue_settle(sheet: &[u8], table: &mut [u32], answer: &mut 
         return short_code(sheet);
     }
     match settle_sheet(sheet, table) {
-        Settling::Settled { stage } => {
-            let values = [stage as u64];
-            reply(&values, answer)
-        }
+        Settling::Settled { stage } => reply_value(stage as u64, answer),
         Settling::Refused { number, place } => refusal_code(number, place),
     }
 }

@@ -2,7 +2,7 @@
 ghost use mathlib.Core.Path.{_≡_};
 ghost use Rattle.exports.specs.Calls.{shelfNumberCall};
 use arrays::reply::refusal_code;
-use arrays::reply::reply;
+use arrays::values::reply_shelved;
 use numbering::ShelfNumber;
 use numbering::number::shelf_number;
 
@@ -13,10 +13,7 @@ pub extern "C" fn limbatue_shelf_number(sheet: &[u8], field: usize, answer: &mut
     ensures { λ _. ⌜ now (answer .exit) ≡ shelfNumberCall (now (sheet .entry)) field (now (answer .entry)) .values ⌝ }
 {
     match shelf_number(sheet, field) {
-        ShelfNumber::Given { size, number } => {
-            let values = [size as u64, number];
-            reply(&values, answer)
-        }
+        ShelfNumber::Given { size, number } => reply_shelved(size, number, answer),
         ShelfNumber::Refused { number, place } => refusal_code(number, place),
     }
 }

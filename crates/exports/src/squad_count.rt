@@ -2,7 +2,7 @@
 ghost use mathlib.Core.Path.{_≡_};
 ghost use Rattle.exports.specs.Calls.{squadsCall, shortSquads};
 use arrays::reply::refusal_code;
-use arrays::reply::reply;
+use arrays::values::reply_value;
 use squads::Squads;
 use squads::squads;
 
@@ -34,10 +34,7 @@ pub extern "C" fn limbatue_squads(
         return short_squads(sheet, whole, squad);
     }
     match squads(sheet, whole, squad, remainder) {
-        Squads::Counted { count } => {
-            let values = [count];
-            reply(&values, answer)
-        }
+        Squads::Counted { count } => reply_value(count, answer),
         Squads::Refused { number, place } => refusal_code(number, place),
     }
 }

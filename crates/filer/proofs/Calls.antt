@@ -16,21 +16,31 @@ use Rattle.model.specs.Answer.{refused, given, different, settleOf, compareOf, 
 use Rattle.theory.proofs.Checks.{first-left, first-right}
 use Rattle.theory.proofs.Answers.{demand1}
 use Rattle.theory.proofs.Meanings.{meanings}
+use Rattle.validation.specs.Fields.{withFields}
+use Rattle.validation.specs.declared.checks.Checked.{Checked}
+use Rattle.validation.specs.declared.checks.Checked.the-variants.{Refused}
 use Rattle.validation.proofs.Checking.{past-stops, past-passes, less-stops}
+use Rattle.validation.proofs.FieldNumbers.{fields-refused}
+use Rattle.sheet.proofs.Laws.{fields-are}
+use Rattle.acceptance.specs.Acceptance.{acceptanceOf}
+use Rattle.acceptance.proofs.Acceptances.{accepts, refused as sheet-refused}
 use Rattle.rows.specs.Stage.{BaseAt}
 use Rattle.filer.specs.Settlement.{tableIn}
 use Rattle.filer.proofs.Writing.{table-long, row-under, count-under, table-at}
 
 module _ (s : List ℕ) where
+  -- The checks of the sheet and of the two field numbers refuse.
+  pub compare-refused : (checked : Checked) → checked ≡ acceptanceOf s .checked → (i j k p : ℕ) → withFields i j checked ≡ Refused k p → compareOf s i j ≡ refused k p
+  unfolding Accepted compareChecks
+  compare-refused checked e i j k p r =
+      demand1 s .compare-refused i j k p
+      (fields-refused (acceptChecks s) [] (fieldCount s) i j k p checked (λ f. sheet-refused s k p (sym e ∙ f)) (λ c f. let A = accepts s c (sym e ∙ f) in (A .accepted, fields-are (A .reads))) r)
+
   -- The sheet's own checks refuse.
   module _ (k p : ℕ) (e : firstOf (acceptChecks s) ≡ refusal k p) where
     pub settle-refused : (table : List ℕ) → settleOf s table ≡ record { answer = refused k p; lent = table }
     unfolding settleChecks
     settle-refused table = demand1 s .settle-refused table k p (first-left (acceptChecks s) _ k p e)
-
-    pub compare-refused : (i j : ℕ) → compareOf s i j ≡ refused k p
-    unfolding compareChecks
-    compare-refused i j = demand1 s .compare-refused i j k p (first-left (acceptChecks s) _ k p e)
 
     pub form-refused : (i : ℕ) (buffer : List ℕ) → formOf s i buffer ≡ record { answer = refused k p; lent = buffer }
     unfolding formChecks
@@ -41,16 +51,6 @@ module _ (s : List ℕ) where
     pub table-short : (table : List ℕ) → length table < kindCount s * kindCount s → settleOf s table ≡ record { answer = refused 12 0; lent = table }
     unfolding Accepted settleChecks
     table-short table h = demand1 s .settle-refused table 12 0 (first-right (acceptChecks s) _ ok ∙ less-stops 12 0 [] (length table) (kindCount s * kindCount s) h)
-
-    pub no-first : (i j : ℕ) → fieldCount s ≤ i → compareOf s i j ≡ refused 11 0
-    unfolding Accepted compareChecks
-    no-first i j h = demand1 s .compare-refused i j 11 0 (first-right (acceptChecks s) _ ok ∙ past-stops 11 0 _ i (fieldCount s) h)
-
-    pub no-second : (i j : ℕ) → i < fieldCount s → fieldCount s ≤ j → compareOf s i j ≡ refused 11 1
-    unfolding Accepted compareChecks
-    no-second i j l h =
-        demand1 s .compare-refused i j 11 1
-        (first-right (acceptChecks s) _ ok ∙ past-passes 11 0 _ i (fieldCount s) l ∙ past-stops 11 1 [] j (fieldCount s) h)
 
     pub no-field : (i : ℕ) (buffer : List ℕ) → fieldCount s ≤ i → formOf s i buffer ≡ record { answer = refused 11 0; lent = buffer }
     unfolding Accepted formChecks

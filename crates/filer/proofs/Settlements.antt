@@ -3,41 +3,43 @@ use mathlib.Core.List.{List}
 use mathlib.Core.Path.{_≡_, sym, _∙_, ap}
 use Prim.Native.Nat.{ℕ, _*_, _^_, _≤_, _<_}
 use native.Mathlib.Omega.{arith}
-use lib.ListN.{length, getD, take}
+use lib.ListN.{length, take}
 use Rattle.model.specs.Finite.{listFrom}
 use Rattle.model.specs.Field.{at}
 use Rattle.model.specs.Norm.{kindNorm}
-use Rattle.model.specs.Base.{roundsAt}
+use Rattle.model.specs.Base.{settledStage, roundsAt}
 use Rattle.model.specs.Sheet.{kindCount, fieldCount, cardOf, fieldOf}
 use Rattle.model.specs.Refusal.{Finding, clear, refusal, firstOf, acceptChecks, Accepted}
 use Rattle.theory.specs.Widths.{Bytes}
 use Rattle.model.specs.Answer.{refused, given, same, different, settleOf, compareOf, formOf, written}
 use Rattle.sheet.specs.declared.reader.Card.{Card}
+use Rattle.validation.specs.Fields.{withFields}
 use Rattle.validation.specs.declared.checks.Checked.the-variants.{Passed, Refused}
 use Rattle.sheet.proofs.Laws.{kinds-are, fields-are}
 use Rattle.norms.specs.Norms.{Accepts}
 use Rattle.acceptance.specs.Acceptance.{acceptanceOf}
 use Rattle.acceptance.specs.declared.accept.Acceptance.{Acceptance}
 use Rattle.acceptance.proofs.Acceptances.{accepts, refused as found-refused}
-use Rattle.base.specs.declared.settle.Settled.{Settled}
+use Rattle.stages.specs.declared.settle.Settled.{Settled}
 use Rattle.tables.specs.Table.{formIn}
-use Rattle.base.specs.Settle.{FieldsFit, IsSettled}
-use Rattle.base.proofs.Outcomes.{settled-fit, prime-form, compare-different, compare-same}
+use Rattle.stages.specs.Settle.{IsSettled}
+use Rattle.stages.specs.Parting.{partedBy, FieldsFit}
+use Rattle.stages.proofs.Outcomes.{settled-fit, prime-form, compare-different, compare-same}
 use Rattle.filer.specs.declared.settlement.Settlement.{Settlement}
 use Rattle.filer.specs.Settlement.{IsSettlement, tableIn}
 use Rattle.theory.proofs.Told.{gives}
 use Rattle.theory.proofs.Writing.{first-counts}
-use Rattle.filer.proofs.Calls.{settle-refused, compare-refused, form-refused, table-short, no-first, no-second, no-field, buffer-short, settle-given, form-given, rounds-fit}
+use Rattle.filer.proofs.Calls.{settle-refused, compare-refused, form-refused, table-short, no-field, buffer-short, settle-given, form-given, rounds-fit}
 
 -- The core function's answer, from the check of the sheet.
-module _ (s : List ℕ) (a : Acceptance) (e : a ≡ acceptanceOf s) (first : ℕ) (settled : Settled) where
+module _ (s : List ℕ) (a : Acceptance) (e : a ≡ acceptanceOf s) (settled : Settled) where
   checked-is : a .checked ≡ acceptanceOf s .checked
   checked-is = ap (λ (x : Acceptance). x .checked) e
 
   norms-are : a .norms ≡ acceptanceOf s .norms
   norms-are = ap (λ (x : Acceptance). x .norms) e
 
-  pub settlement-refused : (k p : ℕ) → a .checked ≡ Refused k p → IsSettlement s (record { checked = Refused k p; norms = a .norms; first = first; settled = settled })
+  pub settlement-refused : (k p : ℕ) → a .checked ≡ Refused k p → IsSettlement s (record { checked = Refused k p; norms = a .norms; settled = settled })
   unfolding Accepted
   settlement-refused k p d = record {
     checked-is = sym d ∙ checked-is;
@@ -48,11 +50,15 @@ module _ (s : List ℕ) (a : Acceptance) (e : a ≡ acceptanceOf s) (first : ℕ
       never : {A : Type 0} → _≡_ {A = Finding} clear (refusal k p) → A
       never z = let q : _≡_ {A = ℕ} 0 1 = cc in absurd (omega arith)
 
-  pub settlement-passed : (c : Card) → a .checked ≡ Passed c → IsSettled s first settled
-      → IsSettlement s (record { checked = Passed c; norms = a .norms; first = first; settled = settled })
+  pub settlement-passed : (c : Card) → a .checked ≡ Passed c → IsSettled s settled
+      → IsSettlement s (record { checked = Passed c; norms = a .norms; settled = settled })
   settlement-passed c d S = record { checked-is = sym d ∙ checked-is; norms-are = norms-are; settled-is = λ ok. S }
 
 module _ {s : List ℕ} {x : Settlement} (X : IsSettlement s x) where
+  -- The checks of the sheet and of the two field numbers refuse.
+  pub compare-refuses : (i j k p : ℕ) → withFields i j (x .checked) ≡ Refused k p → refused k p ≡ compareOf s i j
+  compare-refuses i j k p e = sym (compare-refused s (x .checked) (X .checked-is) i j k p e)
+
   -- The sheet was refused: so is every call.
   module _ (k p : ℕ) (e : x .checked ≡ Refused k p) where
     found : firstOf (acceptChecks s) ≡ refusal k p
@@ -60,9 +66,6 @@ module _ {s : List ℕ} {x : Settlement} (X : IsSettlement s x) where
 
     pub settle-refuses : (table : List ℕ) → (refused k p ≡ settleOf s table .answer) × (table ≡ settleOf s table .lent)
     settle-refuses table = gives (settle-refused s k p found table)
-
-    pub compare-refuses : (i j : ℕ) → refused k p ≡ compareOf s i j
-    compare-refuses i j = sym (compare-refused s k p found i j)
 
     pub form-refuses : (i : ℕ) (buffer : List ℕ) → (refused k p ≡ formOf s i buffer .answer) × (buffer ≡ formOf s i buffer .lent)
     form-refuses i buffer = gives (form-refused s k p found i buffer)
@@ -75,7 +78,7 @@ module _ {s : List ℕ} {x : Settlement} (X : IsSettlement s x) where
     ok : Accepted s
     ok = was-accepted .accepted
 
-    pub was-settled : IsSettled s (x .first) (x .settled)
+    pub was-settled : IsSettled s (x .settled)
     was-settled = X .settled-is ok
 
     kinds : c .kinds ≡ kindCount s
@@ -95,30 +98,20 @@ module _ {s : List ℕ} {x : Settlement} (X : IsSettlement s x) where
           let g = gives (settle-given s ok (x .settled .base .rows) table (was-settled .base-is) (rw kinds at h)) in
           (ap given (was-settled .stage-is) ∙ g .0, w ∙ ap (λ (n : ℕ). written (tableIn n (x .settled .base .rows)) table) kinds ∙ g .1)
 
-    -- Compare, of the settlement's first field and field j.
-    module _ (j : ℕ) where
-      pub compare-no-first : c .fields ≤ x .first → refused 11 0 ≡ compareOf s (x .first) j
-      compare-no-first h = sym (no-first s ok (x .first) j (rw fields at h))
+    -- Compare, from the least stage that parts the two.
+    module _ (i j : ℕ) (h : i < c .fields) (l : j < c .fields) (d : ℕ) (p : d ≡ partedBy s (settledStage (cardOf s)) i j) where
+      pub compare-same-called : x .settled .stage < d → given same ≡ compareOf s i j
+      compare-same-called u = sym (compare-same s ok i j (rw fields at h) (rw fields at l) d p (rw (was-settled .stage-is) at u))
 
-      module _ (h : x .first < c .fields) where
-        pub compare-no-second : c .fields ≤ j → refused 11 1 ≡ compareOf s (x .first) j
-        compare-no-second l = sym (no-second s ok (x .first) j (rw fields at h) (rw fields at l))
+      module _ (u : d ≤ x .settled .stage) where
+        parted : compareOf s i j ≡ given (different d (roundsAt (cardOf s) (kindNorm (cardOf s)) d (fieldOf s i) (fieldOf s j)))
+        parted = compare-different s ok i j (rw fields at h) (rw fields at l) d p (rw (was-settled .stage-is) at u)
 
-        module _ (l : j < c .fields) where
-          pub compare-same-called : x .settled .stage < getD (x .settled .parted) j 0 → given same ≡ compareOf s (x .first) j
-          compare-same-called d =
-              sym (compare-same s ok (x .first) j (rw fields at h) (rw fields at l) (x .settled .parted) (was-settled .parted-is) (rw (was-settled .stage-is) at d))
+        pub compare-rounds-fit : Bytes s → roundsAt (cardOf s) (kindNorm (cardOf s)) d (fieldOf s i) (fieldOf s j) < 2 ^ 64
+        compare-rounds-fit bytes = rounds-fit s ok bytes i j _ _ (rw fields at h) (rw fields at l) parted
 
-          module _ (d : getD (x .settled .parted) j 0 ≤ x .settled .stage) where
-            parted : compareOf s (x .first) j ≡ given (different (getD (x .settled .parted) j 0) (roundsAt (cardOf s) (kindNorm (cardOf s)) (getD (x .settled .parted) j 0) (fieldOf s (x .first)) (fieldOf s j)))
-            parted = compare-different s ok (x .first) j (rw fields at h) (rw fields at l) (x .settled .parted) (was-settled .parted-is) (rw (was-settled .stage-is) at d)
-
-            pub compare-rounds-fit : Bytes s → roundsAt (cardOf s) (kindNorm (cardOf s)) (getD (x .settled .parted) j 0) (fieldOf s (x .first)) (fieldOf s j) < 2 ^ 64
-            compare-rounds-fit bytes = rounds-fit s ok bytes (x .first) j _ _ (rw fields at h) (rw fields at l) parted
-
-            pub compare-different-called : (r : ℕ) → r ≡ roundsAt (cardOf s) (kindNorm (cardOf s)) (getD (x .settled .parted) j 0) (fieldOf s (x .first)) (fieldOf s j)
-                → given (different (getD (x .settled .parted) j 0) r) ≡ compareOf s (x .first) j
-            compare-different-called r q = ap (λ (n : ℕ). given (different (getD (x .settled .parted) j 0) n)) q ∙ sym parted
+        pub compare-different-called : (r : ℕ) → r ≡ roundsAt (cardOf s) (kindNorm (cardOf s)) d (fieldOf s i) (fieldOf s j) → given (different d r) ≡ compareOf s i j
+        compare-different-called r q = ap (λ (n : ℕ). given (different d n)) q ∙ sym parted
 
     -- Prime form.
     pub forms-fit : Bytes s → FieldsFit s (x .settled .base .rows)

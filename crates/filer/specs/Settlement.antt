@@ -6,14 +6,14 @@ use Rattle.model.specs.Finite.{listFrom}
 use Rattle.model.specs.Refusal.{Accepted}
 use Rattle.acceptance.specs.Acceptance.{acceptanceOf}
 use Rattle.tables.specs.Table.{rowIn}
-use Rattle.base.specs.Settle.{IsSettled}
+use Rattle.stages.specs.Settle.{IsSettled}
 use Rattle.filer.specs.declared.settlement.Settlement.{Settlement}
 
--- What the checks 1 to 10 of the bytes come to, with the norms; and if the sheet is accepted, its settled stage, its final base, and where its fields part from the first.
+-- What the checks 1 to 10 of the bytes come to, with the norms; and if the sheet is accepted, its settled stage, its final base, and what is kept of the stages.
 pub record IsSettlement (s : List ℕ) (x : Settlement) : Type 0 where
   pub checked-is : x .checked ≡ acceptanceOf s .checked
   pub norms-are : x .norms ≡ acceptanceOf s .norms
-  pub settled-is : Accepted s → IsSettled s (x .first) (x .settled)
+  pub settled-is : Accepted s → IsSettled s (x .settled)
 
 -- "row by row in kind number, n × n of them": entry i is count i % n of row i / n.
 unfoldable pub tableIn : ℕ → List ℕ → List ℕ

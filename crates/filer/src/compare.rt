@@ -13,48 +13,35 @@ use crate::settlement::Settlement;
 use crate::settlement::settle_once;
 use norms::lines::gain;
 use sheet::Card;
+use stages::parting::parted;
 use validation::checks::Checked;
+use validation::fields::check_fields;
 use weights::fields::field_norm;
 
 // Any bytes, and any two field numbers.
-pub fn compare(s: &[u8], first: usize, second: usize) -> Verdict
-    ensures { λ r. ⌜ verdictOf r ≡ compareOf (now (s .entry)) first second ⌝ }
+pub fn compare(sheet: &[u8], first: usize, second: usize) -> Verdict
+    ensures { λ r. ⌜ verdictOf r ≡ compareOf (now (sheet .entry)) first second ⌝ }
 {
-    compare_settled(s, settle_once(s, first), second)
+    compare_settled(sheet, settle_once(sheet), first, second)
 }
 
-// The same of a sheet that was settled: its first field against another.
-pub fn compare_settled(s: &[u8], settlement: Settlement, second: usize) -> Verdict
-    requires { ⌜ IsSettlement (now s) settlement ⌝ }
-    ensures { λ r. ⌜ verdictOf r ≡ compareOf (now (s .entry)) (settlement .first) second ⌝ }
+// The same of a sheet that was settled.
+pub fn compare_settled(sheet: &[u8], settlement: Settlement, first: usize, second: usize) -> Verdict
+    requires { ⌜ IsSettlement (now sheet) settlement ⌝ }
+    ensures { λ r. ⌜ verdictOf r ≡ compareOf (now (sheet .entry)) first second ⌝ }
 {
-    let first = settlement.first;
     let checked = settlement.checked;
-    match checked {
+    match check_fields(checked, first, second) {
         Checked::Refused { number, place } => Verdict::Refused { number, place },
         Checked::Passed(card) => {
-            let fields = card.fields;
-            if fields <= first {
-                return Verdict::Refused {
-                    number: 11,
-                    place: 0,
-                };
-            }
-            if fields <= second {
-                return Verdict::Refused {
-                    number: 11,
-                    place: 1,
-                };
-            }
             let norms = settlement.norms;
             let settled = settlement.settled;
             let last = settled.stage;
-            let parted = settled.parted;
-            let stage = parted[second];
+            let stage = parted(sheet, card, norms, settled, first, second);
             if last < stage {
                 return Verdict::Same;
             }
-            let rounds = rounds_at(s, card, norms, stage, first, second);
+            let rounds = rounds_at(sheet, card, norms, stage, first, second);
             Verdict::Different { stage, rounds }
         }
     }
@@ -62,22 +49,22 @@ pub fn compare_settled(s: &[u8], settlement: Settlement, second: usize) -> Verdi
 
 // "rounds is demand 3's number", for two fields that this stage parts.
 fn rounds_at(
-    s: &[u8],
+    sheet: &[u8],
     card: Card,
     norms: [u32; 32],
     stage: usize,
     first: usize,
     second: usize,
 ) -> u64
-    requires { ⌜ Accepts (now s) card norms ⌝ }
+    requires { ⌜ Accepts (now sheet) card norms ⌝ }
     requires { ⌜ (first < card .fields) × (second < card .fields) ⌝ }
-    requires { ⌜ roundsAt (cardOf (now s)) (kindNorm (cardOf (now s))) stage (fieldOf (now s) first) (fieldOf (now s) second) < 2 ^ 64 ⌝ }
-    ensures { λ r. ⌜ r ≡ roundsAt (cardOf (now (s .entry))) (kindNorm (cardOf (now (s .entry)))) stage (fieldOf (now (s .entry)) first) (fieldOf (now (s .entry)) second) ⌝ }
+    requires { ⌜ roundsAt (cardOf (now sheet)) (kindNorm (cardOf (now sheet))) stage (fieldOf (now sheet) first) (fieldOf (now sheet) second) < 2 ^ 64 ⌝ }
+    ensures { λ r. ⌜ r ≡ roundsAt (cardOf (now (sheet .entry))) (kindNorm (cardOf (now (sheet .entry)))) stage (fieldOf (now (sheet .entry)) first) (fieldOf (now (sheet .entry)) second) ⌝ }
 {
     let kinds = card.kinds;
-    let one = field_norm(kinds, norms, card.field(s, first));
-    let other = field_norm(kinds, norms, card.field(s, second));
-    let most = gain(s, card, &norms);
+    let one = field_norm(kinds, norms, card.field(sheet, first));
+    let other = field_norm(kinds, norms, card.field(sheet, second));
+    let most = gain(sheet, card, &norms);
     if one < other {
         return rounds_for(one, most, stage);
     }

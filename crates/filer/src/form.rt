@@ -1,36 +1,41 @@
 // Prime form: "n counts of 64 bits to a lent buffer".
 ghost use mathlib.Core.Path.{_≡_};
-ghost use Prim.Native.Nat.{_≤_, _<_};
-ghost use lib.ListN.{length};
+ghost use Prim.Native.Nat.{_<_};
 ghost use Rattle.model.specs.Field.{at};
 ghost use Rattle.model.specs.Sheet.{kindCount, fieldOf};
-ghost use Rattle.model.specs.Answer.{written, formOf};
+ghost use Rattle.model.specs.Answer.{formOf};
 ghost use Rattle.sheet.specs.Reader.{Reads};
 ghost use Rattle.tables.specs.Table.{formIn};
-ghost use Rattle.base.specs.Settle.{FieldsFit};
+ghost use Rattle.stages.specs.Parting.{FieldsFit};
 ghost use Rattle.filer.specs.Answers.{formingOf};
 ghost use Rattle.filer.specs.Settlement.{IsSettlement};
 use crate::answers::Forming;
 use crate::settlement::Settlement;
 use crate::settlement::settle_once;
-use base::parting::field_form;
+use copies::bits64::write_u64;
 use sheet::Card;
+use stages::parting::field_form;
 use tables::table::Base;
 use validation::checks::Checked;
 
-// Any bytes, any field number and a buffer of any length; a refusal leaves the buffer as it was. No field is compared with the others, as in Settle.
-pub fn prime_form(s: &[u8], field: usize, buffer: &mut [u64]) -> Forming
-    ensures { λ r. ⌜ formingOf r ≡ formOf (now (s .entry)) field (now (buffer .entry)) .answer ⌝ }
-    ensures { λ r. ⌜ now (buffer .exit) ≡ formOf (now (s .entry)) field (now (buffer .entry)) .lent ⌝ }
+// Any bytes, any field number and a buffer of any length; a refusal leaves the buffer as it was.
+pub fn prime_form(sheet: &[u8], field: usize, buffer: &mut [u64]) -> Forming
+    ensures { λ r. ⌜ formingOf r ≡ formOf (now (sheet .entry)) field (now (buffer .entry)) .answer ⌝ }
+    ensures { λ r. ⌜ now (buffer .exit) ≡ formOf (now (sheet .entry)) field (now (buffer .entry)) .lent ⌝ }
 {
-    form_settled(s, settle_once(s, Card::FIELDS), field, buffer)
+    form_settled(sheet, settle_once(sheet), field, buffer)
 }
 
 // The same of a sheet that was settled.
-pub fn form_settled(s: &[u8], settlement: Settlement, field: usize, buffer: &mut [u64]) -> Forming
-    requires { ⌜ IsSettlement (now s) settlement ⌝ }
-    ensures { λ r. ⌜ formingOf r ≡ formOf (now (s .entry)) field (now (buffer .entry)) .answer ⌝ }
-    ensures { λ r. ⌜ now (buffer .exit) ≡ formOf (now (s .entry)) field (now (buffer .entry)) .lent ⌝ }
+pub fn form_settled(
+    sheet: &[u8],
+    settlement: Settlement,
+    field: usize,
+    buffer: &mut [u64],
+) -> Forming
+    requires { ⌜ IsSettlement (now sheet) settlement ⌝ }
+    ensures { λ r. ⌜ formingOf r ≡ formOf (now (sheet .entry)) field (now (buffer .entry)) .answer ⌝ }
+    ensures { λ r. ⌜ now (buffer .exit) ≡ formOf (now (sheet .entry)) field (now (buffer .entry)) .lent ⌝ }
 {
     let checked = settlement.checked;
     match checked {
@@ -52,32 +57,20 @@ pub fn form_settled(s: &[u8], settlement: Settlement, field: usize, buffer: &mut
             }
             let settled = settlement.settled;
             let base = settled.base;
-            let form = form_by(s, card, base, field);
-            write_counts(&form[..n], buffer);
+            let form = form_by(sheet, card, base, field);
+            write_u64(&form[..n], buffer);
             Forming::Written
         }
     }
 }
 
 // The decomposition of a field by the rows of a base.
-pub fn form_by(s: &[u8], card: Card, base: Base, field: usize) -> [u64; 32]
-    requires { ⌜ Reads (now s) card ⌝ }
+pub fn form_by(sheet: &[u8], card: Card, base: Base, field: usize) -> [u64; 32]
+    requires { ⌜ Reads (now sheet) card ⌝ }
     requires { ⌜ field < card .fields ⌝ }
-    requires { ⌜ FieldsFit (now s) (base .rows) ⌝ }
-    ensures { λ r. ⌜ at r ≡ formIn (kindCount (now (s .entry))) (base .rows) (fieldOf (now (s .entry)) field) ⌝ }
+    requires { ⌜ FieldsFit (now sheet) (base .rows) ⌝ }
+    ensures { λ r. ⌜ at r ≡ formIn (kindCount (now (sheet .entry))) (base .rows) (fieldOf (now (sheet .entry)) field) ⌝ }
 {
     let rows = base.rows;
-    field_form(s, card, &rows, field)
-}
-
-// The counts to the front of the buffer.
-fn write_counts(counts: &[u64], buffer: &mut [u64])
-    requires { ⌜ length (now counts) ≤ length (now buffer) ⌝ }
-    ensures { λ _. ⌜ now (buffer .exit) ≡ written (now (counts .entry)) (now (buffer .entry)) ⌝ }
-{
-    let mut i = 0;
-    while i < counts.len() {
-        buffer[i] = counts[i];
-        i += 1;
-    }
+    field_form(sheet, card, &rows, field)
 }

@@ -7,22 +7,22 @@ use sheet::Card;
 use validation::checks::outside;
 
 // "Row checks 2, 11, 12 only", of a lent table, n and a kind.
-pub fn row_check(table: &[u32], n: usize, kind: usize) -> RowCheck
-    ensures { λ r. ⌜ findingOf r ≡ rowCheckOf n kind (now (table .entry)) ⌝ }
+pub fn row_check(table: &[u32], kinds: usize, kind: usize) -> RowCheck
+    ensures { λ r. ⌜ findingOf r ≡ rowCheckOf kinds kind (now (table .entry)) ⌝ }
 {
-    if outside(1, Card::KINDS, n) {
+    if outside(1, Card::KINDS, kinds) {
         return RowCheck::Refused {
             number: 2,
             place: 0,
         };
     }
-    if n <= kind {
+    if kinds <= kind {
         return RowCheck::Refused {
             number: 11,
             place: 0,
         };
     }
-    if table.len() < n * n {
+    if table.len() < kinds * kinds {
         return RowCheck::Refused {
             number: 12,
             place: 0,
@@ -32,13 +32,13 @@ pub fn row_check(table: &[u32], n: usize, kind: usize) -> RowCheck
 }
 
 // "The row of a kind is handed out as that part of the lent table; a refusal hands out an empty part."
-pub fn row(table: &[u32], n: usize, kind: usize) -> &[u32]
-    ensures { λ r. ⌜ now r ≡ rowOf n kind (now (table .entry)) ⌝ }
+pub fn row(table: &[u32], kinds: usize, kind: usize) -> &[u32]
+    ensures { λ r. ⌜ now r ≡ rowOf kinds kind (now (table .entry)) ⌝ }
 {
-    match row_check(table, n, kind) {
+    match row_check(table, kinds, kind) {
         RowCheck::Clear => {
-            let start = kind * n;
-            let end = start + n;
+            let start = kind * kinds;
+            let end = start + kinds;
             &table[start..end]
         }
         RowCheck::Refused {

@@ -8,15 +8,14 @@ ghost use Rattle.filer.specs.Answers.{settlingOf};
 ghost use Rattle.filer.specs.Settlement.{tableIn};
 use crate::answers::Settling;
 use crate::settlement::settle_once;
-use sheet::Card;
 use validation::checks::Checked;
 
-// Any bytes, and a table of any length; a refusal leaves the table as it was. No sheet has a field of the number Card::FIELDS: none is compared with the others.
-pub fn settle_sheet(s: &[u8], table: &mut [u32]) -> Settling
-    ensures { λ r. ⌜ settlingOf r ≡ settleOf (now (s .entry)) (now (table .entry)) .answer ⌝ }
-    ensures { λ r. ⌜ now (table .exit) ≡ settleOf (now (s .entry)) (now (table .entry)) .lent ⌝ }
+// Any bytes, and a table of any length; a refusal leaves the table as it was.
+pub fn settle_sheet(sheet: &[u8], table: &mut [u32]) -> Settling
+    ensures { λ r. ⌜ settlingOf r ≡ settleOf (now (sheet .entry)) (now (table .entry)) .answer ⌝ }
+    ensures { λ r. ⌜ now (table .exit) ≡ settleOf (now (sheet .entry)) (now (table .entry)) .lent ⌝ }
 {
-    let settlement = settle_once(s, Card::FIELDS);
+    let settlement = settle_once(sheet);
     let checked = settlement.checked;
     match checked {
         Checked::Refused { number, place } => Settling::Refused { number, place },
@@ -39,15 +38,15 @@ pub fn settle_sheet(s: &[u8], table: &mut [u32]) -> Settling
 }
 
 // The first n rows of a base, which has 32 counts to a row, to the front of a table that has n.
-pub fn write_table(rows: &[u32], n: usize, table: &mut [u32])
-    requires { ⌜ (length (now rows) ≡ 1024) × (n ≤ mostKinds) ⌝ }
-    requires { ⌜ n * n ≤ length (now table) ⌝ }
-    ensures { λ _. ⌜ now (table .exit) ≡ written (tableIn n (now (rows .entry))) (now (table .entry)) ⌝ }
+pub fn write_table(rows: &[u32], kinds: usize, table: &mut [u32])
+    requires { ⌜ (length (now rows) ≡ 1024) × (kinds ≤ mostKinds) ⌝ }
+    requires { ⌜ kinds * kinds ≤ length (now table) ⌝ }
+    ensures { λ _. ⌜ now (table .exit) ≡ written (tableIn kinds (now (rows .entry))) (now (table .entry)) ⌝ }
 {
-    let size = n * n;
+    let size = kinds * kinds;
     let mut i = 0;
     while i < size {
-        table[i] = rows[i / n * 32 + i % n];
+        table[i] = rows[i / kinds * 32 + i % kinds];
         i += 1;
     }
 }

@@ -5,9 +5,9 @@ use page::Writing;
 use validation::checks::Checked;
 
 // Prints the page of a sheet, and answers whether it was printed. Every page fits the buffer, so that none is refused.
-fn print_page(s: &[u8]) -> bool {
+fn print_page(sheet: &[u8]) -> bool {
     let mut text = [0u8; page::PAGE];
-    match page::write_page(s, &mut text) {
+    match page::write_page(sheet, &mut text) {
         Writing::Written { length } => console::print(b"filing", &text[..length]),
         Writing::Refused {
             number: _,
@@ -17,8 +17,8 @@ fn print_page(s: &[u8]) -> bool {
 }
 
 // Says why a sheet is refused.
-fn explain_refusal(s: &[u8]) {
-    let acceptance = accept(s);
+fn explain_refusal(sheet: &[u8]) {
+    let acceptance = accept(sheet);
     let checked = acceptance.checked;
     if let Checked::Refused { number, place } = checked {
         console::explain(number, place);
@@ -26,9 +26,9 @@ fn explain_refusal(s: &[u8]) {
 }
 
 // Prints the page of a sheet and, where that was done and the sheet is refused, says why.
-fn file(s: &[u8]) {
-    if print_page(s) {
-        explain_refusal(s);
+fn file(sheet: &[u8]) {
+    if print_page(sheet) {
+        explain_refusal(sheet);
     }
 }
 

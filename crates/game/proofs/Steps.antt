@@ -1,8 +1,8 @@
 -- Laws of the steps of challenge and reply, in the words of the contracts: what each call comes to, by what the calls before it came to.
-use mathlib.Core.Bool.{true, false}
+use mathlib.Core.Bool.{Bool, true, false}
 use mathlib.Core.List.{List}
 use mathlib.Core.Path.{_≡_, refl, sym, ap, _∙_}
-use Prim.Native.Nat.{ℕ, _+_, _-_, _*_, _≤_}
+use Prim.Native.Nat.{ℕ, _+_, _-_, _*_, _≤_, _<_}
 use native.Mathlib.Omega.{arith}
 use Rattle.model.specs.Finite.{listFrom}
 use Rattle.model.specs.Field.{Field}
@@ -10,6 +10,7 @@ use Rattle.model.specs.Card.{Line, fire}
 use Rattle.model.specs.Sheet.{lineOf, cardOf}
 use Rattle.model.specs.Walk.{Seen, examine}
 use Rattle.theory.specs.Counted.{Counted, holds, fails, spent, cut}
+use Rattle.theory.proofs.Lists.{least-within}
 use Rattle.theory.proofs.Counted.{follow, followed, pair-spent, pair-zero, pair-next}
 use Rattle.theory.proofs.Runs.{run-none, run-next, run-halves, replies}
 use Rattle.sheet.specs.Reader.{Reads}
@@ -18,6 +19,10 @@ use Rattle.sheet.proofs.Laws.{lines-are, card-lines}
 use Rattle.moves.specs.Lines.{between, nextOf}
 use Rattle.game.specs.Challenges.{challengeOf, firstLine, secondLine, mayChallenge, mayReply, replied, challenged}
 use Rattle.game.proofs.Sides.{numbered, both-sides, left-pair}
+
+-- What is found before the end lies within.
+pub found-within : {A : Type 0} (p : A → Bool) (f : ℕ → A) (from to : ℕ) → from ≤ to → (found : ℕ) → found ≡ nextOf p f from to → ¬ (found ≡ to) → (from ≤ found) × (found < to)
+found-within p f from to fits found e n = let w = least-within (λ k. p (f k)) from to fits in (omega (arith, w .0, e), omega (arith, w .1, e))
 
 module _ {s : List ℕ} {card : Card} (read : Reads s card) where
   -- All lines are the card's.

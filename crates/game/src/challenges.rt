@@ -1,4 +1,4 @@
-// The challenges to a pair of fields, a the first side's and b the second's, by number: the first side's by its lines, then the second's.
+// The challenges to a pair of fields, `first` the first side's and `second` the second's, by number: the first side's by its lines, then the second's.
 use moves::follow::ENTRIES;
 use moves::lines::may_use;
 use moves::lines::next_reply;
@@ -12,36 +12,64 @@ ghost use Rattle.moves.specs.Lines.{nextOf};
 ghost use Rattle.moves.specs.Following.{Follows};
 ghost use Rattle.game.specs.Challenges.{challengeOf, firstLine, secondLine, mayChallenge, mayReply};
 
-// Whether the challenge's side may use its line.
-fn may_challenge(card: Card, s: &[u8], number: usize, a: &[u32; 32], b: &[u32; 32]) -> bool
-    requires { ⌜ Reads (now s) card ⌝ }
+// A part of the walk that is to be examined: the challenges that have the numbers from `from` up to `to`, or the replies by these lines, at a number of rounds and within an allowance.
+pub struct Part {
+    pub rounds: u64,
+    pub from: usize,
+    pub to: usize,
+    pub allowance: u32,
+}
+
+impl Part {
+    // The part with these four numbers.
+    pub fn new(rounds: u64, from: usize, to: usize, allowance: u32) -> Part
+        ensures { λ r. ⌜ r ≡ record { rounds = rounds; from = from; to = to; allowance = allowance } ⌝ }
+    {
+        Part {
+            rounds,
+            from,
+            to,
+            allowance,
+        }
+    }
+}
+
+// Whether the side of a challenge may use its line.
+fn may_challenge(
+    sheet: &[u8],
+    card: Card,
+    number: usize,
+    first: &[u32; 32],
+    second: &[u32; 32],
+) -> bool
+    requires { ⌜ Reads (now sheet) card ⌝ }
     requires { ⌜ number < 2 * card .lines ⌝ }
-    ensures { λ r. ⌜ r ≡ mayChallenge (at (now (a .entry))) (at (now (b .entry))) (challengeOf (now (s .entry)) number) ⌝ }
+    ensures { λ r. ⌜ r ≡ mayChallenge (at (now (first .entry))) (at (now (second .entry))) (challengeOf (now (sheet .entry)) number) ⌝ }
 {
     let lines = card.lines;
     if number < lines {
-        may_use(card, s, number, a)
+        may_use(sheet, card, number, first)
     } else {
-        may_use(card, s, number - lines, b)
+        may_use(sheet, card, number - lines, second)
     }
 }
 
 // The first challenge from `from` up to `to` whose side may use its line; `to` where there is none.
 pub fn next_challenge(
+    sheet: &[u8],
     card: Card,
-    s: &[u8],
     from: usize,
     to: usize,
-    a: &[u32; 32],
-    b: &[u32; 32],
+    first: &[u32; 32],
+    second: &[u32; 32],
 ) -> usize
-    requires { ⌜ Reads (now s) card ⌝ }
+    requires { ⌜ Reads (now sheet) card ⌝ }
     requires { ⌜ (from ≤ to) × (to ≤ 2 * card .lines) ⌝ }
-    ensures { λ r. ⌜ r ≡ nextOf (mayChallenge (at (now (a .entry))) (at (now (b .entry)))) (challengeOf (now (s .entry))) from to ⌝ }
+    ensures { λ r. ⌜ r ≡ nextOf (mayChallenge (at (now (first .entry))) (at (now (second .entry)))) (challengeOf (now (sheet .entry))) from to ⌝ }
 {
     let mut number = from;
     while number < to {
-        if may_challenge(card, s, number, a, b) {
+        if may_challenge(sheet, card, number, first, second) {
             return number;
         }
         number += 1;
@@ -49,26 +77,33 @@ pub fn next_challenge(
     number
 }
 
-// The first line from `from` up to `to` that is a reply of the other side to a challenge; `to` where none is.
+// The first line of a part that is a reply of the other side to the challenge of a number; the part's end where none is.
 pub fn next_answer(
+    sheet: &[u8],
     card: Card,
-    s: &[u8],
-    t: &[u16; ENTRIES],
+    table: &[u16; ENTRIES],
     number: usize,
-    from: usize,
-    to: usize,
-    a: &[u32; 32],
-    b: &[u32; 32],
+    part: Part,
+    first: &[u32; 32],
+    second: &[u32; 32],
 ) -> usize
-    requires { ⌜ Reads (now s) card × Follows (now s) (now t) ⌝ }
-    requires { ⌜ (number < 2 * card .lines) × (from ≤ to) × (to ≤ card .lines) ⌝ }
-    ensures { λ r. ⌜ r ≡ nextOf (mayReply (at (now (a .entry))) (at (now (b .entry))) (challengeOf (now (s .entry)) number)) (lineOf (now (s .entry))) from to ⌝ }
+    requires { ⌜ Reads (now sheet) card × Follows (now sheet) (now table) ⌝ }
+    requires { ⌜ (number < 2 * card .lines) × (part .from ≤ part .to) × (part .to ≤ card .lines) ⌝ }
+    ensures { λ r. ⌜ r ≡ nextOf (mayReply (at (now (first .entry))) (at (now (second .entry))) (challengeOf (now (sheet .entry)) number)) (lineOf (now (sheet .entry))) (part .from) (part .to) ⌝ }
 {
     let lines = card.lines;
     if number < lines {
-        next_reply(card, s, t, from, to, number, b)
+        next_reply(sheet, card, table, number, part.from, part.to, second)
     } else {
-        next_reply(card, s, t, from, to, number - lines, a)
+        next_reply(
+            sheet,
+            card,
+            table,
+            number - lines,
+            part.from,
+            part.to,
+            first,
+        )
     }
 }
 
@@ -79,7 +114,7 @@ pub fn first_line(lines: usize, number: usize, answer: usize) -> usize
     if number < lines { number } else { answer }
 }
 
-// The line that the second side uses: the reply where the first side challenges, else the challenge's.
+// The line that the second side uses in a round: the reply where the first side challenges, else the challenge's.
 pub fn second_line(lines: usize, number: usize, answer: usize) -> usize
     ensures { λ r. ⌜ r ≡ secondLine lines number answer ⌝ }
 {

@@ -1,9 +1,11 @@
 // A pair of fields at a number of rounds. "A challenge at r rounds is tried against replies at r - 1": challenge and reply call each other,
-// with fewer rounds left or fewer lines left. The field a is the first side's and b the second's; t is the table of the lines that follow.
+// with fewer rounds left or fewer lines left. The field `first` is the first side's and `second` the second's; `table` is that of the lines that follow.
 // The stack: after a line, challenge and reply go on with one half of what is left and then with the other, so that with 256 lines, which are 512
 // challenges, at most 10 calls of challenge and 9 of reply stand at once in a round that goes on, and 11 in the last, whether or not the back end
-// removes a call: at most 7 × (10 + 9) + 11 = 144 calls in 8 rounds. The two fields of the next pair live in the frame of reply. `./stack` measures it on
-// the deepest sheet (measurements/deep.sheet: 256 lines of one code, and the last line of 256 goes on in each round): 80 KB, 33 KB of them for the table.
+// removes a call: at most 7 × (10 + 9) + 11 = 144 calls in 8 rounds. The two fields of the next pair live in the frame of reply. The parts that a
+// call hands on stand in one local, `later`, one after another, so that a frame has room for one. `./stack` measures it on the deepest sheet
+// (measurements/deep.sheet: 256 lines of one code, and the last line of 256 goes on in each round): 81 KB, 33 KB of them for the table.
+use crate::challenges::Part;
 use crate::challenges::first_line;
 use crate::challenges::next_answer;
 use crate::challenges::next_challenge;
@@ -23,72 +25,77 @@ ghost use Rattle.moves.specs.Following.{Follows};
 ghost use Rattle.game.specs.Rounds.{countedOf};
 ghost use Rattle.game.specs.Challenges.{challengeOf, replied, challenged};
 
-// A part of the walk: whether it holds, with what is left of the allowance, or spent where its count passes the allowance.
+// What a part of the walk comes to: whether it holds, with what is left of the allowance, or spent where its count passes the allowance.
 pub enum Examined {
     Holds(u32),
     Fails(u32),
     Spent,
 }
 
-// The challenges at `rounds` rounds that have the numbers from `from` up to `to`, each tried against replies at a round less.
+// The challenges of a part, each tried against replies at a round less.
 pub fn challenge(
+    sheet: &[u8],
     card: Card,
-    s: &[u8],
-    t: &[u16; ENTRIES],
-    rounds: u64,
-    from: usize,
-    to: usize,
-    a: &[u32; 32],
-    b: &[u32; 32],
-    allowance: u32,
+    table: &[u16; ENTRIES],
+    part: Part,
+    first: &[u32; 32],
+    second: &[u32; 32],
 ) -> Examined
-    requires { ⌜ Reads (now s) card × Follows (now s) (now t) ⌝ }
-    requires { ⌜ (0 < rounds) × (rounds ≤ mostRounds) × (from ≤ to) × (to ≤ 2 * card .lines) ⌝ }
-    requires { ⌜ Bounded rounds (now a) × Bounded rounds (now b) ⌝ }
+    requires { ⌜ Reads (now sheet) card × Follows (now sheet) (now table) ⌝ }
+    requires { ⌜ (0 < part .rounds) × (part .rounds ≤ mostRounds) × (part .from ≤ part .to) × (part .to ≤ 2 * card .lines) ⌝ }
+    requires { ⌜ Bounded (part .rounds) (now first) × Bounded (part .rounds) (now second) ⌝ }
     ensures { λ r. ⌜
-        countedOf r ≡ cut allowance (challenged (at (now (a .entry))) (at (now (b .entry))) (cardOf (now (s .entry)) .lines) (rounds - 1)
-        (between (challengeOf (now (s .entry))) from to)) ⌝ }
+        countedOf r ≡ cut (part .allowance) (challenged (at (now (first .entry))) (at (now (second .entry))) (cardOf (now (sheet .entry)) .lines) (part .rounds - 1)
+        (between (challengeOf (now (sheet .entry))) (part .from) (part .to))) ⌝ }
 {
-    let number = next_challenge(card, s, from, to, a, b);
+    let rounds = part.rounds;
+    let to = part.to;
+    let number = next_challenge(sheet, card, part.from, to, first, second);
     if number == to {
-        return Examined::Holds(allowance);
+        return Examined::Holds(part.allowance);
     }
     let next = number + 1;
     let middle = next + (to - next) / 2;
-    let lines = card.lines;
-    match reply(card, s, t, rounds - 1, number, 0, lines, a, b, allowance) {
-        Examined::Holds(left) => match challenge(card, s, t, rounds, next, middle, a, b, left) {
-            Examined::Holds(rest) => challenge(card, s, t, rounds, middle, to, a, b, rest),
-            Examined::Fails(rest) => Examined::Fails(rest),
-            Examined::Spent => Examined::Spent,
-        },
+    let mut later = Part::new(rounds - 1, 0, card.lines, part.allowance);
+    match reply(sheet, card, table, number, later, first, second) {
+        Examined::Holds(left) => {
+            later = Part::new(rounds, next, middle, left);
+            match challenge(sheet, card, table, later, first, second) {
+                Examined::Holds(rest) => {
+                    later = Part::new(rounds, middle, to, rest);
+                    challenge(sheet, card, table, later, first, second)
+                }
+                Examined::Fails(rest) => Examined::Fails(rest),
+                Examined::Spent => Examined::Spent,
+            }
+        }
         Examined::Fails(left) => Examined::Fails(left),
         Examined::Spent => Examined::Spent,
     }
 }
 
-// The replies to the challenge of that number by the lines from `from` up to `to`. Each leaves a pair at `rounds` rounds, which counts 1;
+// The replies of a part to the challenge of that number. Each leaves a pair at the part's rounds, which counts 1;
 // "at 0 rounds it holds", and otherwise it holds where all challenges to it do.
 fn reply(
+    sheet: &[u8],
     card: Card,
-    s: &[u8],
-    t: &[u16; ENTRIES],
-    rounds: u64,
+    table: &[u16; ENTRIES],
     number: usize,
-    from: usize,
-    to: usize,
-    a: &[u32; 32],
-    b: &[u32; 32],
-    allowance: u32,
+    part: Part,
+    first: &[u32; 32],
+    second: &[u32; 32],
 ) -> Examined
-    requires { ⌜ Reads (now s) card × Follows (now s) (now t) ⌝ }
-    requires { ⌜ (rounds < mostRounds) × (number < 2 * card .lines) × (from ≤ to) × (to ≤ card .lines) ⌝ }
-    requires { ⌜ Bounded (rounds + 1) (now a) × Bounded (rounds + 1) (now b) ⌝ }
+    requires { ⌜ Reads (now sheet) card × Follows (now sheet) (now table) ⌝ }
+    requires { ⌜ (part .rounds < mostRounds) × (number < 2 * card .lines) × (part .from ≤ part .to) × (part .to ≤ card .lines) ⌝ }
+    requires { ⌜ Bounded (part .rounds + 1) (now first) × Bounded (part .rounds + 1) (now second) ⌝ }
     ensures { λ r. ⌜
-        countedOf r ≡ cut allowance (replied (at (now (a .entry))) (at (now (b .entry))) (cardOf (now (s .entry)) .lines) rounds
-        (challengeOf (now (s .entry)) number) (between (lineOf (now (s .entry))) from to)) ⌝ }
+        countedOf r ≡ cut (part .allowance) (replied (at (now (first .entry))) (at (now (second .entry))) (cardOf (now (sheet .entry)) .lines) (part .rounds)
+        (challengeOf (now (sheet .entry)) number) (between (lineOf (now (sheet .entry))) (part .from) (part .to))) ⌝ }
 {
-    let answer = next_answer(card, s, t, number, from, to, a, b);
+    let rounds = part.rounds;
+    let allowance = part.allowance;
+    let to = part.to;
+    let answer = next_answer(sheet, card, table, number, part, first, second);
     if answer == to {
         return Examined::Fails(allowance);
     }
@@ -99,19 +106,26 @@ fn reply(
         return Examined::Holds(allowance - 1);
     }
     let lines = card.lines;
-    let mut x = *a;
-    use_line(card, s, first_line(lines, number, answer), &mut x);
-    let mut y = *b;
-    use_line(card, s, second_line(lines, number, answer), &mut y);
+    let mut one = *first;
+    use_line(sheet, card, first_line(lines, number, answer), &mut one);
+    let mut other = *second;
+    use_line(sheet, card, second_line(lines, number, answer), &mut other);
     let next = answer + 1;
     let middle = next + (to - next) / 2;
-    match challenge(card, s, t, rounds, 0, 2 * lines, &x, &y, allowance - 1) {
+    let mut later = Part::new(rounds, 0, 2 * lines, allowance - 1);
+    match challenge(sheet, card, table, later, &one, &other) {
         Examined::Holds(left) => Examined::Holds(left),
-        Examined::Fails(left) => match reply(card, s, t, rounds, number, next, middle, a, b, left) {
-            Examined::Holds(rest) => Examined::Holds(rest),
-            Examined::Fails(rest) => reply(card, s, t, rounds, number, middle, to, a, b, rest),
-            Examined::Spent => Examined::Spent,
-        },
+        Examined::Fails(left) => {
+            later = Part::new(rounds, next, middle, left);
+            match reply(sheet, card, table, number, later, first, second) {
+                Examined::Holds(rest) => Examined::Holds(rest),
+                Examined::Fails(rest) => {
+                    later = Part::new(rounds, middle, to, rest);
+                    reply(sheet, card, table, number, later, first, second)
+                }
+                Examined::Spent => Examined::Spent,
+            }
+        }
         Examined::Spent => Examined::Spent,
     }
 }

@@ -1,18 +1,22 @@
 // The lines of kinds and fields, each over plain values.
+use copies::bits32::widen_u32;
 use text::put_byte;
 use text::put_bytes;
-use text::put_labelled_form;
-use text::put_row;
+use text::put_counts;
+use text::put_labelled_counts;
 use text::put_two_labelled;
-ghost use Prim.Native.Nat.{_+_, _*_, _≤_, _<_};
+ghost use Prim.Native.Nat.{_+_, _≤_, _<_};
 ghost use lib.ListN.{length};
+ghost use Rattle.model.specs.Limits.{mostKinds};
 ghost use Rattle.text.specs.Appended.{Appended};
+ghost use Rattle.text.specs.Lengths.{letters, mostCounts};
+ghost use Rattle.listing.specs.Lengths.{mostHead, mostKindLine, mostFieldLine};
 ghost use Rattle.listing.specs.Line.{headText, rowText, kindText, fieldText};
 
 // `kinds N stages S`.
 pub fn put_head(out: &mut [u8], at: usize, kinds: usize, stage: usize) -> usize
-    requires { ⌜ at + 55 ≤ length (now out) ⌝ }
-    ensures { λ r. ⌜ Appended 55 (now (out .entry)) at (headText kinds stage) (now (out .exit)) r ⌝ }
+    requires { ⌜ at + mostHead ≤ length (now out) ⌝ }
+    ensures { λ r. ⌜ Appended mostHead (now (out .entry)) at (headText kinds stage) (now (out .exit)) r ⌝ }
 {
     let last = put_two_labelled(out, at, b"kinds ", kinds as u64, b" stages ", stage as u64);
     put_byte(out, last, b'\n')
@@ -20,22 +24,23 @@ pub fn put_head(out: &mut [u8], at: usize, kinds: usize, stage: usize) -> usize
 
 // What a kind's line shows of its row: the word prime where the row is the kind itself, the counts of any other.
 fn put_prime_or_row(out: &mut [u8], at: usize, kind: usize, row: &[u32]) -> usize
-    requires { ⌜ kind < length (now row) ⌝ }
-    requires { ⌜ at + (5 + 21 * length (now row)) ≤ length (now out) ⌝ }
-    ensures { λ r. ⌜ Appended (5 + 21 * length (now (row .entry))) (now (out .entry)) at (rowText kind (now (row .entry))) (now (out .exit)) r ⌝ }
+    requires { ⌜ (kind < length (now row)) × (length (now row) ≤ mostKinds) ⌝ }
+    requires { ⌜ at + (letters "prime" + mostCounts (length (now row))) ≤ length (now out) ⌝ }
+    ensures { λ r. ⌜ Appended (letters "prime" + mostCounts (length (now (row .entry)))) (now (out .entry)) at (rowText kind (now (row .entry))) (now (out .exit)) r ⌝ }
 {
     if row[kind] == 1 {
         put_bytes(out, at, b"prime")
     } else {
-        put_row(out, at, row)
+        let counts = widen_u32(row);
+        put_counts(out, at, &counts[..row.len()])
     }
 }
 
 // `kind K norm W prime` or `kind K norm W = COUNTS`.
 pub fn put_kind(out: &mut [u8], at: usize, kind: usize, norm: u32, row: &[u32]) -> usize
-    requires { ⌜ kind < length (now row) ⌝ }
-    requires { ⌜ at + (58 + 21 * length (now row)) ≤ length (now out) ⌝ }
-    ensures { λ r. ⌜ Appended (58 + 21 * length (now (row .entry))) (now (out .entry)) at (kindText kind norm (now (row .entry))) (now (out .exit)) r ⌝ }
+    requires { ⌜ (kind < length (now row)) × (length (now row) ≤ mostKinds) ⌝ }
+    requires { ⌜ at + mostKindLine (length (now row)) ≤ length (now out) ⌝ }
+    ensures { λ r. ⌜ Appended (mostKindLine (length (now (row .entry)))) (now (out .entry)) at (kindText kind norm (now (row .entry))) (now (out .exit)) r ⌝ }
 {
     let space = put_two_labelled(out, at, b"kind ", kind as u64, b" norm ", norm as u64);
     let shown = put_byte(out, space, b' ');
@@ -45,8 +50,8 @@ pub fn put_kind(out: &mut [u8], at: usize, kind: usize, norm: u32, row: &[u32]) 
 
 // `field I = COUNTS`.
 pub fn put_field(out: &mut [u8], at: usize, field: usize, form: &[u64]) -> usize
-    requires { ⌜ at + (29 + 21 * length (now form)) ≤ length (now out) ⌝ }
-    ensures { λ r. ⌜ Appended (29 + 21 * length (now (form .entry))) (now (out .entry)) at (fieldText field (now (form .entry))) (now (out .exit)) r ⌝ }
+    requires { ⌜ at + mostFieldLine (length (now form)) ≤ length (now out) ⌝ }
+    ensures { λ r. ⌜ Appended (mostFieldLine (length (now (form .entry)))) (now (out .entry)) at (fieldText field (now (form .entry))) (now (out .exit)) r ⌝ }
 {
-    put_labelled_form(out, at, b"field ", field as u64, form)
+    put_labelled_counts(out, at, b"field ", field as u64, form)
 }

@@ -9,26 +9,26 @@ ghost use Rattle.model.specs.Sheet.{lineOf};
 ghost use Rattle.sheet.specs.Reader.{Reads};
 ghost use Rattle.moves.specs.Lines.{Bounded};
 
-// One token of kind k goes, where the field has one.
-fn less_one(field: &mut [u32], k: usize)
-    ensures { λ _. ⌜ at (now (field .exit)) ≡ (λ j. at (now (field .entry)) j - unit k j) ⌝ }
+// One token of a kind goes, where the field has one.
+fn less_one(field: &mut [u32], kind: usize)
+    ensures { λ _. ⌜ at (now (field .exit)) ≡ (λ j. at (now (field .entry)) j - unit kind j) ⌝ }
 {
-    if field.len() <= k {
+    if field.len() <= kind {
         return;
     }
-    let tokens = field[k];
+    let tokens = field[kind];
     if 0 < tokens {
-        field[k] = tokens - 1;
+        field[kind] = tokens - 1;
     }
 }
 
-// The field uses line j.
-pub fn use_line(card: Card, s: &[u8], j: usize, field: &mut [u32])
-    requires { ⌜ Reads (now s) card ⌝ }
-    requires { ⌜ j < card .lines ⌝ }
+// The field uses a line.
+pub fn use_line(sheet: &[u8], card: Card, line: usize, field: &mut [u32])
+    requires { ⌜ Reads (now sheet) card ⌝ }
+    requires { ⌜ line < card .lines ⌝ }
     requires { ⌜ Bounded 1 (now field) ⌝ }
-    ensures { λ _. ⌜ at (now (field .exit)) ≡ fire (lineOf (now (s .entry)) j) (at (now (field .entry))) ⌝ }
+    ensures { λ _. ⌜ at (now (field .exit)) ≡ fire (lineOf (now (sheet .entry)) line) (at (now (field .entry))) ⌝ }
 {
-    less_one(field, card.line_kind(s, j));
-    add_counts(field, card.line_counts(s, j));
+    less_one(field, card.line_kind(sheet, line));
+    add_counts(field, card.line_counts(sheet, line));
 }

@@ -13,12 +13,12 @@ ghost use Rattle.moves.specs.Following.{Long, RowSet, FollowsFrom, Follo
 pub const ENTRIES: usize = 16_448;
 
 // The entry of a row that a line belongs to: its code.
-pub fn row_entry(card: Card, s: &[u8], line: usize) -> usize
-    requires { ⌜ Reads (now s) card ⌝ }
+pub fn row_entry(sheet: &[u8], card: Card, line: usize) -> usize
+    requires { ⌜ Reads (now sheet) card ⌝ }
     requires { ⌜ line < card .lines ⌝ }
-    ensures { λ r. ⌜ (r ≡ lineOf (now (s .entry)) line .code) × (r < mostCodes) ⌝ }
+    ensures { λ r. ⌜ (r ≡ lineOf (now (sheet .entry)) line .code) × (r < mostCodes) ⌝ }
 {
-    card.line_code(s, line)
+    card.line_code(sheet, line)
 }
 
 // An entry as the number of a line.
@@ -29,61 +29,61 @@ fn wide(entry: u16) -> usize
 }
 
 // What stands in the table at a position and a code.
-pub fn following(t: &[u16; ENTRIES], position: usize, code: usize) -> usize
+pub fn following(table: &[u16; ENTRIES], position: usize, code: usize) -> usize
     requires { ⌜ (position ≤ mostLines) × (code < mostCodes) ⌝ }
-    ensures { λ r. ⌜ r ≡ at (now (t .entry)) (position * mostCodes + code) ⌝ }
+    ensures { λ r. ⌜ r ≡ at (now (table .entry)) (position * mostCodes + code) ⌝ }
 {
-    wide(t[position * Card::CODES + code])
+    wide(table[position * Card::CODES + code])
 }
 
 // Sets the row of a position to one number.
-fn fill_row(t: &mut [u16], position: usize, number: u16)
-    requires { ⌜ Long (now t) × (position ≤ mostLines) ⌝ }
-    ensures { λ _. ⌜ RowSet position (λ code. number) (now (t .entry)) (now (t .exit)) ⌝ }
+fn fill_row(table: &mut [u16], position: usize, number: u16)
+    requires { ⌜ Long (now table) × (position ≤ mostLines) ⌝ }
+    ensures { λ _. ⌜ RowSet position (λ code. number) (now (table .entry)) (now (table .exit)) ⌝ }
 {
     let start = position * Card::CODES;
     let mut code = 0;
     while code < Card::CODES {
-        t[start + code] = number;
+        table[start + code] = number;
         code += 1;
     }
 }
 
 // Copies the row of the next position to that of a position.
-fn copy_row(t: &mut [u16], position: usize)
-    requires { ⌜ Long (now t) × (position < mostLines) ⌝ }
-    ensures { λ _. ⌜ RowSet position (λ code. at (now (t .entry)) ((position + 1) * mostCodes + code)) (now (t .entry)) (now (t .exit)) ⌝ }
+fn copy_row(table: &mut [u16], position: usize)
+    requires { ⌜ Long (now table) × (position < mostLines) ⌝ }
+    ensures { λ _. ⌜ RowSet position (λ code. at (now (table .entry)) ((position + 1) * mostCodes + code)) (now (table .entry)) (now (table .exit)) ⌝ }
 {
     let start = position * Card::CODES;
     let next = start + Card::CODES;
     let mut code = 0;
     while code < Card::CODES {
-        let line = t[next + code];
-        t[start + code] = line;
+        let line = table[next + code];
+        table[start + code] = line;
         code += 1;
     }
 }
 
 // The row of a line: that of the next position, with the line itself at its own code.
-fn line_row(card: Card, s: &[u8], t: &mut [u16], line: usize)
-    requires { ⌜ Reads (now s) card × FollowsFrom (now s) (line + 1) (now t) ⌝ }
+fn line_row(sheet: &[u8], card: Card, table: &mut [u16], line: usize)
+    requires { ⌜ Reads (now sheet) card × FollowsFrom (now sheet) (line + 1) (now table) ⌝ }
     requires { ⌜ line < card .lines ⌝ }
-    ensures { λ _. ⌜ FollowsFrom (now (s .entry)) line (now (t .exit)) ⌝ }
+    ensures { λ _. ⌜ FollowsFrom (now (sheet .entry)) line (now (table .exit)) ⌝ }
 {
-    let code = row_entry(card, s, line);
-    copy_row(t, line);
-    t[line * Card::CODES + code] = line as u16;
+    let code = row_entry(sheet, card, line);
+    copy_row(table, line);
+    table[line * Card::CODES + code] = line as u16;
 }
 
 // The whole table, from the end of the lines down.
-pub fn fill_table(card: Card, s: &[u8], t: &mut [u16])
-    requires { ⌜ Reads (now s) card × Long (now t) ⌝ }
-    ensures { λ _. ⌜ Follows (now (s .entry)) (now (t .exit)) ⌝ }
+pub fn fill_table(sheet: &[u8], card: Card, table: &mut [u16])
+    requires { ⌜ Reads (now sheet) card × Long (now table) ⌝ }
+    ensures { λ _. ⌜ Follows (now (sheet .entry)) (now (table .exit)) ⌝ }
 {
     let mut position = card.lines;
-    fill_row(t, position, position as u16);
+    fill_row(table, position, position as u16);
     while 0 < position {
         position -= 1;
-        line_row(card, s, t, position);
+        line_row(sheet, card, table, position);
     }
 }

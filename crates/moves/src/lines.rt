@@ -11,37 +11,37 @@ ghost use Rattle.sheet.specs.Reader.{Reads};
 ghost use Rattle.moves.specs.Lines.{usable, answers, nextOf};
 ghost use Rattle.moves.specs.Following.{Follows};
 
-// Whether the field may use line j.
-pub fn may_use(card: Card, s: &[u8], j: usize, a: &[u32; 32]) -> bool
-    requires { ⌜ Reads (now s) card ⌝ }
-    requires { ⌜ j < card .lines ⌝ }
-    ensures { λ r. ⌜ r ≡ usable (at (now (a .entry))) (lineOf (now (s .entry)) j) ⌝ }
+// Whether a field may use a line.
+pub fn may_use(sheet: &[u8], card: Card, line: usize, field: &[u32; 32]) -> bool
+    requires { ⌜ Reads (now sheet) card ⌝ }
+    requires { ⌜ line < card .lines ⌝ }
+    ensures { λ r. ⌜ r ≡ usable (at (now (field .entry))) (lineOf (now (sheet .entry)) line) ⌝ }
 {
-    let kind = card.line_kind(s, j);
-    0 < a[kind]
+    let kind = card.line_kind(sheet, line);
+    0 < field[kind]
 }
 
-// The first line from `from` up to `to` that is a reply of the field to a challenge by `challenge`; `to` where none is. The table leads from one line of the challenge's code to the next.
+// The first line from `from` up to `to` that is a reply of the field to a challenge by the line `challenge`; `to` where none is. The table leads from one line of the challenge's code to the next.
 pub fn next_reply(
+    sheet: &[u8],
     card: Card,
-    s: &[u8],
-    t: &[u16; ENTRIES],
+    table: &[u16; ENTRIES],
+    challenge: usize,
     from: usize,
     to: usize,
-    challenge: usize,
-    b: &[u32; 32],
+    field: &[u32; 32],
 ) -> usize
-    requires { ⌜ Reads (now s) card × Follows (now s) (now t) ⌝ }
-    requires { ⌜ (from ≤ to) × (to ≤ card .lines) × (challenge < card .lines) ⌝ }
-    ensures { λ r. ⌜ r ≡ nextOf (answers (lineOf (now (s .entry)) challenge) (at (now (b .entry)))) (lineOf (now (s .entry))) from to ⌝ }
+    requires { ⌜ Reads (now sheet) card × Follows (now sheet) (now table) ⌝ }
+    requires { ⌜ (challenge < card .lines) × (from ≤ to) × (to ≤ card .lines) ⌝ }
+    ensures { λ r. ⌜ r ≡ nextOf (answers (lineOf (now (sheet .entry)) challenge) (at (now (field .entry)))) (lineOf (now (sheet .entry))) from to ⌝ }
 {
-    let code = row_entry(card, s, challenge);
-    let mut line = following(t, from, code);
+    let code = row_entry(sheet, card, challenge);
+    let mut line = following(table, from, code);
     while line < to {
-        if may_use(card, s, line, b) {
+        if may_use(sheet, card, line, field) {
             return line;
         }
-        line = following(t, line + 1, code);
+        line = following(table, line + 1, code);
     }
     to
 }

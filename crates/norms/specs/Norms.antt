@@ -21,7 +21,7 @@ arrayOf f = listFrom f 0 mostKinds
 unfoldable pub cutNorms : List ℕ → List ℕ
 cutNorms s = arrayOf (λ k. min (kindNorm (cardOf s) k) (suc normLimit))
 
--- The norms themselves.
+-- The norms of the sheet's kinds, as they are.
 unfoldable pub normsOf : List ℕ → List ℕ
 normsOf s = arrayOf (kindNorm (cardOf s))
 

@@ -14,15 +14,15 @@ use weights::value::lesser;
 use weights::value::read_value;
 
 // The norm of every kind, cut one past the limit; 0 for a kind that has none, and past the card's kinds.
-pub fn kind_norms(s: &[u8], card: Card) -> [u32; 32]
-    requires { ⌜ Reads (now s) card ⌝ }
-    ensures { λ r. ⌜ r ≡ cutNorms (now (s .entry)) ⌝ }
+pub fn kind_norms(sheet: &[u8], card: Card) -> [u32; 32]
+    requires { ⌜ Reads (now sheet) card ⌝ }
+    ensures { λ r. ⌜ r ≡ cutNorms (now (sheet .entry)) ⌝ }
 {
     let kinds = card.kinds;
     let mut values = [0u32; 32];
     let mut turn = 0;
     while turn < kinds {
-        let next = sweep(s, card, &values);
+        let next = sweep(sheet, card, &values);
         if same_values(kinds, &values, &next) {
             return values;
         }
@@ -33,17 +33,17 @@ pub fn kind_norms(s: &[u8], card: Card) -> [u32; 32]
 }
 
 // The values of the kinds after one more sweep: the lines are taken from the last to the first, each for its own kind.
-fn sweep(s: &[u8], card: Card, values: &[u32; 32]) -> [u32; 32]
-    requires { ⌜ Reads (now s) card ⌝ }
+fn sweep(sheet: &[u8], card: Card, values: &[u32; 32]) -> [u32; 32]
+    requires { ⌜ Reads (now sheet) card ⌝ }
     requires { ⌜ AtMost (suc normLimit) (now values) ⌝ }
-    ensures { λ r. ⌜ r ≡ sweepOf (now (s .entry)) (at (now (values .entry))) ⌝ }
+    ensures { λ r. ⌜ r ≡ sweepOf (now (sheet .entry)) (at (now (values .entry))) ⌝ }
 {
     let mut next = [0u32; 32];
     let mut j = card.lines;
     while 0 < j {
         j -= 1;
-        let kind = card.line_kind(s, j);
-        let value = read_value(values, card.line_counts(s, j));
+        let kind = card.line_kind(sheet, j);
+        let value = read_value(values, card.line_counts(sheet, j));
         let held = next[kind];
         next[kind] = lesser(value, held);
     }

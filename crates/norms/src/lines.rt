@@ -9,63 +9,63 @@ use sheet::Card;
 use weights::value::weight;
 use weights::value::wide32;
 
-// The norm of the tokens that line j leaves.
-pub fn left_norm(s: &[u8], card: Card, norms: &[u32; 32], j: usize) -> u64
-    requires { ⌜ Accepts (now s) card (now norms) ⌝ }
-    requires { ⌜ j < card .lines ⌝ }
-    ensures { λ r. ⌜ r ≡ norm (cardOf (now (s .entry))) (lineOf (now (s .entry)) j .left) ⌝ }
+// The norm of the tokens that a line leaves.
+pub fn left_norm(sheet: &[u8], card: Card, norms: &[u32; 32], line: usize) -> u64
+    requires { ⌜ Accepts (now sheet) card (now norms) ⌝ }
+    requires { ⌜ line < card .lines ⌝ }
+    ensures { λ r. ⌜ r ≡ norm (cardOf (now (sheet .entry))) (lineOf (now (sheet .entry)) line .left) ⌝ }
 {
-    weight(norms, card.line_counts(s, j))
+    weight(norms, card.line_counts(sheet, line))
 }
 
-// The norm of line j's kind.
-pub fn own_norm(s: &[u8], card: Card, norms: &[u32; 32], j: usize) -> u64
-    requires { ⌜ Accepts (now s) card (now norms) ⌝ }
-    requires { ⌜ j < card .lines ⌝ }
-    ensures { λ r. ⌜ r ≡ kindNorm (cardOf (now (s .entry))) (lineOf (now (s .entry)) j .kind) ⌝ }
+// The norm of a line's kind.
+pub fn own_norm(sheet: &[u8], card: Card, norms: &[u32; 32], line: usize) -> u64
+    requires { ⌜ Accepts (now sheet) card (now norms) ⌝ }
+    requires { ⌜ line < card .lines ⌝ }
+    ensures { λ r. ⌜ r ≡ kindNorm (cardOf (now (sheet .entry))) (lineOf (now (sheet .entry)) line .kind) ⌝ }
 {
-    let kind = card.line_kind(s, j);
+    let kind = card.line_kind(sheet, line);
     let norm = norms[kind];
     wide32(norm)
 }
 
-// "reads that lower the norm": whether reads by line j do.
-pub fn lowers(s: &[u8], card: Card, norms: &[u32; 32], j: usize) -> bool
-    requires { ⌜ Accepts (now s) card (now norms) ⌝ }
-    requires { ⌜ j < card .lines ⌝ }
-    ensures { λ r. ⌜ r ≡ lowersNorm (now (s .entry)) j ⌝ }
+// "reads that lower the norm": whether reads by a line do.
+pub fn lowers(sheet: &[u8], card: Card, norms: &[u32; 32], line: usize) -> bool
+    requires { ⌜ Accepts (now sheet) card (now norms) ⌝ }
+    requires { ⌜ line < card .lines ⌝ }
+    ensures { λ r. ⌜ r ≡ lowersNorm (now (sheet .entry)) line ⌝ }
 {
-    left_norm(s, card, norms, j) < own_norm(s, card, norms, j)
+    left_norm(sheet, card, norms, line) < own_norm(sheet, card, norms, line)
 }
 
 // "g is the greatest of 0 and, over all lines, the norm left minus the kind's norm."
-pub fn gain(s: &[u8], card: Card, norms: &[u32; 32]) -> u64
-    requires { ⌜ Accepts (now s) card (now norms) ⌝ }
-    ensures { λ r. ⌜ r ≡ base.gain (cardOf (now (s .entry))) ⌝ }
+pub fn gain(sheet: &[u8], card: Card, norms: &[u32; 32]) -> u64
+    requires { ⌜ Accepts (now sheet) card (now norms) ⌝ }
+    ensures { λ r. ⌜ r ≡ base.gain (cardOf (now (sheet .entry))) ⌝ }
 {
     let mut most = 0;
     let mut j = card.lines;
     while 0 < j {
         j -= 1;
-        most = greater(line_gain(s, card, norms, j), most);
+        most = greater(line_gain(sheet, card, norms, j), most);
     }
     most
 }
 
-// The norm that line j leaves minus its kind's norm, or 0 where it leaves less.
-fn line_gain(s: &[u8], card: Card, norms: &[u32; 32], j: usize) -> u64
-    requires { ⌜ Accepts (now s) card (now norms) ⌝ }
-    requires { ⌜ j < card .lines ⌝ }
-    ensures { λ r. ⌜ r ≡ lineGain (now (s .entry)) j ⌝ }
+// The norm that a line leaves minus its kind's norm, or 0 where it leaves less.
+fn line_gain(sheet: &[u8], card: Card, norms: &[u32; 32], line: usize) -> u64
+    requires { ⌜ Accepts (now sheet) card (now norms) ⌝ }
+    requires { ⌜ line < card .lines ⌝ }
+    ensures { λ r. ⌜ r ≡ lineGain (now (sheet .entry)) line ⌝ }
 {
-    let left = left_norm(s, card, norms, j);
-    let own = own_norm(s, card, norms, j);
+    let left = left_norm(sheet, card, norms, line);
+    let own = own_norm(sheet, card, norms, line);
     if own < left { left - own } else { 0 }
 }
 
 // The greater of two numbers.
-fn greater(x: u64, y: u64) -> u64
-    ensures { λ r. ⌜ r ≡ max x y ⌝ }
+fn greater(first: u64, second: u64) -> u64
+    ensures { λ r. ⌜ r ≡ max first second ⌝ }
 {
-    if x < y { y } else { x }
+    if first < second { second } else { first }
 }

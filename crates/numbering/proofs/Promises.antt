@@ -19,7 +19,7 @@ use Rattle.theory.specs.Shelves.{Precedes}
 use Rattle.theory.proofs.Lists.{getD-past}
 use Rattle.theory.proofs.Sheets.{field-kinds}
 use Rattle.theory.proofs.Answers.{demand1}
-use Rattle.theory.proofs.Numbering.{precedes-one}
+use Rattle.theory.proofs.Order.{precedes-one}
 use Rattle.theory.proofs.Shelves.{shelves}
 use Rattle.theory.proofs.Told.{told, found, cleared, answer-of, lent-of}
 use Rattle.numbering.specs.Answers.{numberAnswer, fieldAnswer}

@@ -12,16 +12,17 @@ use crate::answers::ShelfField;
 use crate::kinds::listed_kinds;
 use crate::number::TOKENS;
 use acceptance::accept::accept;
+use copies::bits16::write_u16;
 use shelf::entry::entry_of;
 use shelf::field::field_of;
 use validation::checks::Checked;
 
-// Any bytes, any size, any number and a buffer of any length; a refusal leaves the buffer as it was.
-pub fn shelf_field(s: &[u8], size: usize, number: u64, buffer: &mut [u16]) -> ShelfField
-    ensures { λ r. ⌜ fieldAnswer r ≡ shelfFieldOf (now (s .entry)) size number (now (buffer .entry)) .answer ⌝ }
-    ensures { λ r. ⌜ now (buffer .exit) ≡ shelfFieldOf (now (s .entry)) size number (now (buffer .entry)) .lent ⌝ }
+// Shelf field, of any bytes, any size, any number and a buffer of any length; a refusal leaves the buffer as it was.
+pub fn shelf_field(sheet: &[u8], size: usize, number: u64, buffer: &mut [u16]) -> ShelfField
+    ensures { λ r. ⌜ fieldAnswer r ≡ shelfFieldOf (now (sheet .entry)) size number (now (buffer .entry)) .answer ⌝ }
+    ensures { λ r. ⌜ now (buffer .exit) ≡ shelfFieldOf (now (sheet .entry)) size number (now (buffer .entry)) .lent ⌝ }
 {
-    let acceptance = accept(s);
+    let acceptance = accept(sheet);
     let checked = acceptance.checked;
     match checked {
         Checked::Refused { number, place } => ShelfField::Refused { number, place },
@@ -51,26 +52,14 @@ pub fn shelf_field(s: &[u8], size: usize, number: u64, buffer: &mut [u16]) -> Sh
     }
 }
 
-// The field of a number among those of a size of n kinds, to the front of the buffer.
-fn write_field(n: usize, size: usize, number: u64, buffer: &mut [u16])
-    requires { ⌜ (n ≤ mostKinds) × (size ≤ mostTokens) ⌝ }
-    requires { ⌜ number < entry n size ⌝ }
-    requires { ⌜ n ≤ length (now buffer) ⌝ }
-    ensures { λ _. ⌜ now (buffer .exit) ≡ written (listFrom (fieldIn (reverse (below n)) size number) 0 n) (now (buffer .entry)) ⌝ }
+// The field of a number among those of a size of so many kinds, to the front of the buffer.
+fn write_field(kinds: usize, size: usize, number: u64, buffer: &mut [u16])
+    requires { ⌜ (kinds ≤ mostKinds) × (size ≤ mostTokens) ⌝ }
+    requires { ⌜ number < entry kinds size ⌝ }
+    requires { ⌜ kinds ≤ length (now buffer) ⌝ }
+    ensures { λ _. ⌜ now (buffer .exit) ≡ written (listFrom (fieldIn (reverse (below kinds)) size number) 0 kinds) (now (buffer .entry)) ⌝ }
 {
-    let kinds = listed_kinds(n);
-    let counts = field_of(&kinds[..n], size, number);
-    write_counts(&counts[..n], buffer);
-}
-
-// The counts to the front of the buffer.
-fn write_counts(counts: &[u16], buffer: &mut [u16])
-    requires { ⌜ length (now counts) ≤ length (now buffer) ⌝ }
-    ensures { λ _. ⌜ now (buffer .exit) ≡ written (now (counts .entry)) (now (buffer .entry)) ⌝ }
-{
-    let mut i = 0;
-    while i < counts.len() {
-        buffer[i] = counts[i];
-        i += 1;
-    }
+    let listed = listed_kinds(kinds);
+    let counts = field_of(&listed[..kinds], size, number);
+    write_u16(&counts[..kinds], buffer);
 }

@@ -5,16 +5,16 @@ ghost use lib.ListN.{take};
 ghost use Rattle.model.specs.Finite.{below};
 ghost use Rattle.model.specs.Limits.{mostKinds};
 
-// The kinds of a card of n kinds that are listed, in number order: all of them. They are the first n of the array.
-pub fn listed_kinds(n: usize) -> [usize; 32]
-    requires { ⌜ n ≤ mostKinds ⌝ }
-    ensures { λ r. ⌜ take n r ≡ below n ⌝ }
+// The kinds of a card of so many kinds that are listed, in number order: all of them. They are the first of the array.
+pub fn listed_kinds(kinds: usize) -> [usize; 32]
+    requires { ⌜ kinds ≤ mostKinds ⌝ }
+    ensures { λ r. ⌜ take kinds r ≡ below kinds ⌝ }
 {
-    let mut kinds = [0usize; 32];
-    let mut k = 0;
-    while k < n {
-        kinds[k] = k;
-        k += 1;
+    let mut listed = [0usize; 32];
+    let mut kind = 0;
+    while kind < kinds {
+        listed[kind] = kind;
+        kind += 1;
     }
-    kinds
+    listed
 }

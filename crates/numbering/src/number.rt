@@ -15,22 +15,22 @@ use weights::fields::field_tokens;
 // "fields of up to 16 tokens"
 pub const TOKENS: usize = 16;
 
-// Any bytes, and any field number.
-pub fn shelf_number(s: &[u8], field: usize) -> ShelfNumber
-    ensures { λ r. ⌜ numberAnswer r ≡ shelfNumberOf (now (s .entry)) field ⌝ }
+// Shelf number, of any bytes and any field number.
+pub fn shelf_number(sheet: &[u8], field: usize) -> ShelfNumber
+    ensures { λ r. ⌜ numberAnswer r ≡ shelfNumberOf (now (sheet .entry)) field ⌝ }
 {
-    let acceptance = accept(s);
+    let acceptance = accept(sheet);
     let checked = acceptance.checked;
     match checked {
         Checked::Refused { number, place } => ShelfNumber::Refused { number, place },
-        Checked::Passed(card) => number_accepted(s, card, field),
+        Checked::Passed(card) => number_accepted(sheet, card, field),
     }
 }
 
-// The same of a sheet that was accepted.
-fn number_accepted(s: &[u8], card: Card, field: usize) -> ShelfNumber
-    requires { ⌜ Reads (now s) card × Accepted (now s) ⌝ }
-    ensures { λ r. ⌜ numberAnswer r ≡ shelfNumberOf (now (s .entry)) field ⌝ }
+// Shelf number, of a sheet that was accepted.
+fn number_accepted(sheet: &[u8], card: Card, field: usize) -> ShelfNumber
+    requires { ⌜ Reads (now sheet) card × Accepted (now sheet) ⌝ }
+    ensures { λ r. ⌜ numberAnswer r ≡ shelfNumberOf (now (sheet .entry)) field ⌝ }
 {
     let n = card.kinds;
     let fields = card.fields;
@@ -40,7 +40,7 @@ fn number_accepted(s: &[u8], card: Card, field: usize) -> ShelfNumber
             place: 0,
         };
     }
-    let counts = card.field(s, field);
+    let counts = card.field(sheet, field);
     let size = field_tokens(n, counts) as usize;
     if TOKENS < size {
         return ShelfNumber::Refused {

@@ -21,7 +21,3 @@ writePageOf s buffer =
       | true ↦ record { answer = refused 12 0; lent = buffer }
       | false ↦ record { answer = given (length (printed s)); lent = written (printed s) buffer }
     ]
-
--- The bytes that no page passes: 55 for the head, 730 for each kind, 701 for each field and 80 for each pair.
-abbrev pub mostPage : ℕ
-mostPage = 73319

@@ -10,40 +10,47 @@ ghost use Rattle.norms.specs.Norms.{Accepts};
 ghost use Rattle.filer.specs.Settlement.{IsSettlement};
 ghost use Rattle.text.specs.Appended.{Appended};
 ghost use Rattle.listing.specs.Line.{fieldText, fieldsText};
+ghost use Rattle.page.specs.Lengths.{mostField};
 
 // The line of one field of a settled sheet.
 fn put_settled_field(
     out: &mut [u8],
     at: usize,
-    s: &[u8],
+    sheet: &[u8],
     settlement: Settlement,
     card: Card,
     field: usize,
 ) -> usize
-    requires { ⌜ IsSettlement (now s) settlement ⌝ }
-    requires { ⌜ Accepts (now s) card (settlement .norms) ⌝ }
+    requires { ⌜ IsSettlement (now sheet) settlement ⌝ }
+    requires { ⌜ Accepts (now sheet) card (settlement .norms) ⌝ }
     requires { ⌜ field < card .fields ⌝ }
-    requires { ⌜ at + 701 ≤ length (now out) ⌝ }
-    ensures { λ r. ⌜ Appended 701 (now (out .entry)) at (fieldText field (primeForm (now (s .entry)) field)) (now (out .exit)) r ⌝ }
+    requires { ⌜ at + mostField ≤ length (now out) ⌝ }
+    ensures { λ r. ⌜ Appended mostField (now (out .entry)) at (fieldText field (primeForm (now (sheet .entry)) field)) (now (out .exit)) r ⌝ }
 {
     let n = card.kinds;
     let mut form = [0u64; 32];
-    form_settled(s, settlement, field, &mut form);
+    form_settled(sheet, settlement, field, &mut form);
     put_field(out, at, field, &form[..n])
 }
 
 // The lines of all its fields.
-pub fn put_fields(out: &mut [u8], at: usize, s: &[u8], settlement: Settlement, card: Card) -> usize
-    requires { ⌜ IsSettlement (now s) settlement ⌝ }
-    requires { ⌜ Accepts (now s) card (settlement .norms) ⌝ }
-    requires { ⌜ at + 701 * card .fields ≤ length (now out) ⌝ }
-    ensures { λ r. ⌜ Appended (701 * card .fields) (now (out .entry)) at (fieldsText (now (s .entry)) (card .fields)) (now (out .exit)) r ⌝ }
+pub fn put_fields(
+    out: &mut [u8],
+    at: usize,
+    sheet: &[u8],
+    settlement: Settlement,
+    card: Card,
+) -> usize
+    requires { ⌜ IsSettlement (now sheet) settlement ⌝ }
+    requires { ⌜ Accepts (now sheet) card (settlement .norms) ⌝ }
+    requires { ⌜ at + mostField * card .fields ≤ length (now out) ⌝ }
+    ensures { λ r. ⌜ Appended (mostField * card .fields) (now (out .entry)) at (fieldsText (now (sheet .entry)) (card .fields)) (now (out .exit)) r ⌝ }
 {
     let fields = card.fields;
     let mut next = at;
     let mut i = 0;
     while i < fields {
-        next = put_settled_field(out, next, s, settlement, card, i);
+        next = put_settled_field(out, next, sheet, settlement, card, i);
         i += 1;
     }
     next

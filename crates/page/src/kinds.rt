@@ -6,20 +6,21 @@ ghost use lib.ListN.{length};
 ghost use Rattle.model.specs.Limits.{mostKinds};
 ghost use Rattle.text.specs.Appended.{Appended};
 ghost use Rattle.listing.specs.Line.{kindsText};
+ghost use Rattle.page.specs.Lengths.{mostKind};
 
-// The lines of n kinds, by their norms and a table of n × n counts.
-pub fn put_kinds(out: &mut [u8], at: usize, n: usize, norms: [u32; 32], table: &[u32]) -> usize
-    requires { ⌜ (1 ≤ n) × (n ≤ mostKinds) ⌝ }
-    requires { ⌜ n * n ≤ length (now table) ⌝ }
-    requires { ⌜ at + 730 * n ≤ length (now out) ⌝ }
-    ensures { λ r. ⌜ Appended (730 * n) (now (out .entry)) at (kindsText n norms (now (table .entry))) (now (out .exit)) r ⌝ }
+// The lines of so many kinds, by their norms and a table with a row for each.
+pub fn put_kinds(out: &mut [u8], at: usize, kinds: usize, norms: [u32; 32], table: &[u32]) -> usize
+    requires { ⌜ (1 ≤ kinds) × (kinds ≤ mostKinds) ⌝ }
+    requires { ⌜ kinds * kinds ≤ length (now table) ⌝ }
+    requires { ⌜ at + mostKind * kinds ≤ length (now out) ⌝ }
+    ensures { λ r. ⌜ Appended (mostKind * kinds) (now (out .entry)) at (kindsText kinds norms (now (table .entry))) (now (out .exit)) r ⌝ }
 {
     let mut next = at;
-    let mut k = 0;
-    while k < n {
-        let part = row(table, n, k);
-        next = put_kind(out, next, k, norms[k], part);
-        k += 1;
+    let mut kind = 0;
+    while kind < kinds {
+        let part = row(table, kinds, kind);
+        next = put_kind(out, next, kind, norms[kind], part);
+        kind += 1;
     }
     next
 }

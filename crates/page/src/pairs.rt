@@ -6,18 +6,18 @@ use verdicts::put_different;
 use verdicts::put_refused;
 use verdicts::put_same;
 use verdicts::put_start;
-ghost use mathlib.Core.Path.{_≡_};
 ghost use Prim.Native.Nat.{_+_, _*_, _-_, _≤_};
 ghost use lib.ListN.{length};
 ghost use Rattle.filer.specs.Answers.{verdictOf};
 ghost use Rattle.filer.specs.Settlement.{IsSettlement};
 ghost use Rattle.text.specs.Appended.{Appended};
 ghost use Rattle.verdicts.specs.Pair.{pairText, pairsText};
+ghost use Rattle.page.specs.Lengths.{mostPair};
 
 // The line of one pair, by its verdict. (No page has a refusal here, since Compare refuses no two fields of an accepted sheet.)
 fn put_pair(out: &mut [u8], at: usize, later: usize, verdict: Verdict) -> usize
-    requires { ⌜ at + 80 ≤ length (now out) ⌝ }
-    ensures { λ r. ⌜ Appended 80 (now (out .entry)) at (pairText later (verdictOf verdict)) (now (out .exit)) r ⌝ }
+    requires { ⌜ at + mostPair ≤ length (now out) ⌝ }
+    ensures { λ r. ⌜ Appended mostPair (now (out .entry)) at (pairText later (verdictOf verdict)) (now (out .exit)) r ⌝ }
 {
     let word = put_start(out, at, later);
     match verdict {
@@ -27,23 +27,22 @@ fn put_pair(out: &mut [u8], at: usize, later: usize, verdict: Verdict) -> usize
     }
 }
 
-// The lines of all pairs of a sheet that was settled with field 0 for its first.
+// The lines of all pairs of a settled sheet.
 pub fn put_pairs(
     out: &mut [u8],
     at: usize,
-    s: &[u8],
+    sheet: &[u8],
     settlement: Settlement,
     fields: usize,
 ) -> usize
-    requires { ⌜ IsSettlement (now s) settlement ⌝ }
-    requires { ⌜ settlement .first ≡ 0 ⌝ }
-    requires { ⌜ at + 80 * (fields - 1) ≤ length (now out) ⌝ }
-    ensures { λ r. ⌜ Appended (80 * (fields - 1)) (now (out .entry)) at (pairsText (now (s .entry)) fields) (now (out .exit)) r ⌝ }
+    requires { ⌜ IsSettlement (now sheet) settlement ⌝ }
+    requires { ⌜ at + mostPair * (fields - 1) ≤ length (now out) ⌝ }
+    ensures { λ r. ⌜ Appended (mostPair * (fields - 1)) (now (out .entry)) at (pairsText (now (sheet .entry)) fields) (now (out .exit)) r ⌝ }
 {
     let mut next = at;
     let mut later = 1;
     while later < fields {
-        let verdict = compare_settled(s, settlement, later);
+        let verdict = compare_settled(sheet, settlement, 0, later);
         next = put_pair(out, next, later, verdict);
         later += 1;
     }

@@ -22,12 +22,13 @@ ghost use Rattle.model.specs.Page.{lines, pageOf};
 ghost use Rattle.norms.specs.Norms.{Accepts};
 ghost use Rattle.filer.specs.Settlement.{IsSettlement, tableIn};
 ghost use Rattle.text.specs.Appended.{Appended};
-ghost use Rattle.page.specs.Writing.{writingOf, writePageOf, mostPage};
+ghost use Rattle.page.specs.Lengths.{mostPage};
+ghost use Rattle.page.specs.Writing.{writingOf, writePageOf};
 
 // "at most 12,821 bytes"
 pub const INPUT: usize = 12821;
 
-// No page is longer.
+// No page is longer: mostPage of specs/Lengths.antt, to which `blank` holds it.
 pub const PAGE: usize = 73319;
 
 // What the page function answers. specs/Writing.antt gives the cases their numbers and values.
@@ -37,12 +38,12 @@ pub enum Writing {
 }
 
 // The page of a sheet to a lent buffer; a refused sheet's page is its refusal.
-pub fn write_page(s: &[u8], out: &mut [u8]) -> Writing
-    ensures { λ r. ⌜ writingOf r ≡ writePageOf (now (s .entry)) (now (out .entry)) .answer ⌝ }
-    ensures { λ r. ⌜ now (out .exit) ≡ writePageOf (now (s .entry)) (now (out .entry)) .lent ⌝ }
+pub fn write_page(sheet: &[u8], out: &mut [u8]) -> Writing
+    ensures { λ r. ⌜ writingOf r ≡ writePageOf (now (sheet .entry)) (now (out .entry)) .answer ⌝ }
+    ensures { λ r. ⌜ now (out .exit) ≡ writePageOf (now (sheet .entry)) (now (out .entry)) .lent ⌝ }
 {
     let mut page = blank();
-    let end = put_page(&mut page, input_part(s));
+    let end = put_page(&mut page, input_part(sheet));
     if out.len() < end {
         return Writing::Refused {
             number: 12,
@@ -53,41 +54,42 @@ pub fn write_page(s: &[u8], out: &mut [u8]) -> Writing
     Writing::Written { length }
 }
 
-// A page with nothing on it: a caller's proof does not see its bytes.
-fn blank() -> [u8; PAGE] {
+// A page with nothing on it: a caller's proof does not see its bytes, but that they are as many as the longest page has, so that no other function goes by the number.
+fn blank() -> [u8; PAGE]
+    ensures { λ r. ⌜ length r ≡ mostPage ⌝ }
+{
     [0u8; PAGE]
 }
 
 // The bytes that the page goes by.
-fn input_part(s: &[u8]) -> &[u8]
-    ensures { λ r. ⌜ now r ≡ take mostInput (now (s .entry)) ⌝ }
+fn input_part(sheet: &[u8]) -> &[u8]
+    ensures { λ r. ⌜ now r ≡ take mostInput (now (sheet .entry)) ⌝ }
 {
-    if s.len() < INPUT {
-        return s;
+    if sheet.len() < INPUT {
+        return sheet;
     }
-    &s[..INPUT]
+    &sheet[..INPUT]
 }
 
 // The page of a sheet to a buffer that has room for any.
-fn put_page(out: &mut [u8], s: &[u8]) -> usize
+fn put_page(out: &mut [u8], sheet: &[u8]) -> usize
     requires { ⌜ mostPage ≤ length (now out) ⌝ }
-    ensures { λ r. ⌜ Appended mostPage (now (out .entry)) 0 (pageOf (now (s .entry))) (now (out .exit)) r ⌝ }
+    ensures { λ r. ⌜ Appended mostPage (now (out .entry)) 0 (pageOf (now (sheet .entry))) (now (out .exit)) r ⌝ }
 {
-    let settlement = settle_once(s, 0);
+    let settlement = settle_once(sheet);
     let checked = settlement.checked;
     match checked {
         Checked::Refused { number, place } => put_refused(out, 0, number, place),
-        Checked::Passed(card) => put_lines(out, s, settlement, card),
+        Checked::Passed(card) => put_lines(out, sheet, settlement, card),
     }
 }
 
 // The lines of an accepted sheet.
-fn put_lines(out: &mut [u8], s: &[u8], settlement: Settlement, card: Card) -> usize
-    requires { ⌜ IsSettlement (now s) settlement ⌝ }
-    requires { ⌜ settlement .first ≡ 0 ⌝ }
-    requires { ⌜ Accepts (now s) card (settlement .norms) ⌝ }
+fn put_lines(out: &mut [u8], sheet: &[u8], settlement: Settlement, card: Card) -> usize
+    requires { ⌜ IsSettlement (now sheet) settlement ⌝ }
+    requires { ⌜ Accepts (now sheet) card (settlement .norms) ⌝ }
     requires { ⌜ mostPage ≤ length (now out) ⌝ }
-    ensures { λ r. ⌜ Appended mostPage (now (out .entry)) 0 (lines (now (s .entry)) (tableOf (now (s .entry))) (kindNorm (cardOf (now (s .entry))))) (now (out .exit)) r ⌝ }
+    ensures { λ r. ⌜ Appended mostPage (now (out .entry)) 0 (lines (now (sheet .entry)) (tableOf (now (sheet .entry))) (kindNorm (cardOf (now (sheet .entry))))) (now (out .exit)) r ⌝ }
 {
     let n = card.kinds;
     let fields = card.fields;
@@ -99,17 +101,17 @@ fn put_lines(out: &mut [u8], s: &[u8], settlement: Settlement, card: Card) -> us
     let table = table_of(base, n);
     let at_kinds = put_head(out, 0, n, stage);
     let at_fields = put_kinds(out, at_kinds, n, norms, &table[..size]);
-    let at_pairs = put_fields(out, at_fields, s, settlement, card);
-    put_pairs(out, at_pairs, s, settlement, fields)
+    let at_pairs = put_fields(out, at_fields, sheet, settlement, card);
+    put_pairs(out, at_pairs, sheet, settlement, fields)
 }
 
-// The rows of n kinds with n counts to a row, at the front of an array.
-fn table_of(base: Base, n: usize) -> [u32; 1024]
-    requires { ⌜ n ≤ mostKinds ⌝ }
-    ensures { λ r. ⌜ take (n * n) r ≡ tableIn n (base .rows) ⌝ }
+// The rows of so many kinds, with as many counts to a row, at the front of an array.
+fn table_of(base: Base, kinds: usize) -> [u32; 1024]
+    requires { ⌜ kinds ≤ mostKinds ⌝ }
+    ensures { λ r. ⌜ take (kinds * kinds) r ≡ tableIn kinds (base .rows) ⌝ }
 {
     let rows = base.rows;
     let mut table = [0u32; 1024];
-    write_table(&rows, n, &mut table);
+    write_table(&rows, kinds, &mut table);
     table
 }

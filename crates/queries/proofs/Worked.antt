@@ -19,7 +19,7 @@ use Rattle.model.specs.Page.{bytes, digits, number, newline, countsOf, wordOf, 
 use Rattle.model.specs.Answer.{written, tableOf, settleOf, verdict, compareOf, primeForm, formOf, within, fullWalk, walkOf, rowOf, rowCheckOf, shelfNumberOf, shelfCounts, shelfFieldOf, squadCount, remainderForm, squadsOf}
 use Rattle.model.proofs.Worked.{sheetOf, page, chain}
 use Rattle.text.specs.Count.{countText, countTexts, countsLine}
-use Rattle.walkline.specs.Line.{drawnText, foundText}
+use Rattle.walk_text.specs.Line.{drawnText, foundText}
 use Rattle.words.specs.Word.{digitOf, valueFrom, some, numberOf}
 use Rattle.words.specs.Words.{firstWord, startedBy, wordsOf, sameWord, saidAfter, numbersOf}
 use Rattle.words.specs.Statements.{ended}

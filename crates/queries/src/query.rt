@@ -27,26 +27,26 @@ pub const TEXT: usize = 21564;
 const NUMBERS: usize = 5;
 
 // The call of a verb with its numbers.
-fn call(s: &[u8], verb: Verb, numbers: &[u64], out: &mut [u8]) -> Reply
+fn call(sheet: &[u8], verb: Verb, numbers: &[u64], out: &mut [u8]) -> Reply
     requires { ⌜ mostText ≤ length (now out) ⌝ }
-    ensures { λ r. ⌜ Tells (verbTold (now (s .entry)) verb (now (numbers .entry))) (now (out .entry)) (now (out .exit)) r ⌝ }
+    ensures { λ r. ⌜ Tells (verbTold (now (sheet .entry)) verb (now (numbers .entry))) (now (out .entry)) (now (out .exit)) r ⌝ }
 {
     match verb {
-        Verb::Settle => settle(s, numbers, out),
-        Verb::Row => settled_row(s, numbers, out),
-        Verb::Compare => compare_fields(s, numbers, out),
-        Verb::Form => field_form(s, numbers, out),
-        Verb::Walk => walk_fields(s, numbers, out),
-        Verb::Number => field_number(s, numbers, out),
-        Verb::Field => numbered_field(s, numbers, out),
-        Verb::Squads => count_squads(s, numbers, out),
+        Verb::Settle => settle(sheet, numbers, out),
+        Verb::Row => settled_row(sheet, numbers, out),
+        Verb::Compare => compare_fields(sheet, numbers, out),
+        Verb::Form => field_form(sheet, numbers, out),
+        Verb::Walk => walk_fields(sheet, numbers, out),
+        Verb::Number => field_number(sheet, numbers, out),
+        Verb::Field => numbered_field(sheet, numbers, out),
+        Verb::Squads => count_squads(sheet, numbers, out),
         Verb::Other => no_call(),
     }
 }
 
 // The call that words ask for, each of them ended by a byte 0, of the bytes of a sheet: its text goes to the front of the lent buffer.
-pub fn answer(s: &[u8], words: &[u8], out: &mut [u8; TEXT]) -> Reply
-    ensures { λ r. ⌜ Tells (queryOf (now (s .entry)) (now (words .entry))) (now (out .entry)) (now (out .exit)) r ⌝ }
+pub fn answer(sheet: &[u8], words: &[u8], out: &mut [u8; TEXT]) -> Reply
+    ensures { λ r. ⌜ Tells (queryOf (now (sheet .entry)) (now (words .entry))) (now (out .entry)) (now (out .exit)) r ⌝ }
 {
     let end = word_end(words);
     if words.len() <= end {
@@ -57,5 +57,5 @@ pub fn answer(s: &[u8], words: &[u8], out: &mut [u8; TEXT]) -> Reply
     let Count::Numbers(count) = numbers_in(&words[end + 1..], &mut values) else {
         return no_call();
     };
-    call(s, verb, &values[..count], out)
+    call(sheet, verb, &values[..count], out)
 }

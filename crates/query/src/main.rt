@@ -13,9 +13,9 @@ fn usage() {
 }
 
 // The call that the words ask for, of a sheet: its text to standard output; the sentence of a refusal, or the usage, to standard error.
-fn answer(s: &[u8], words: &[u8]) {
+fn answer(sheet: &[u8], words: &[u8]) {
     let mut text = [0u8; queries::TEXT];
-    let reply = queries::answer(s, words, &mut text);
+    let reply = queries::answer(sheet, words, &mut text);
     let length = reply.length;
     let printed = console::print(b"query", &text[..length]);
     let outcome = reply.outcome;

@@ -21,7 +21,7 @@ pub fn times_in(whole: &[u64], squad: &[u64]) -> u64
     times
 }
 
-// The same of one kind's counts, up to a number.
+// How often the squad's count of one kind goes into the whole's, up to a number; that number where the squad has none of the kind.
 fn times_up_to(most: u64, whole: u64, squad: u64) -> u64
     ensures { λ r. ⌜ r ≡ timesUpTo most whole squad ⌝ }
 {

@@ -41,199 +41,203 @@ fn shape_of(seed: u64) -> Shape
     }
 }
 
-// The kind of line j.
-fn kind_of(c: Shape, j: usize) -> usize
-    requires { ⌜ Small c × (j < 8) ⌝ }
-    ensures { λ r. ⌜ r < c .kinds ⌝ }
+// The kind of a line.
+fn kind_of(shape: Shape, line: usize) -> usize
+    requires { ⌜ Small shape × (line < 8) ⌝ }
+    ensures { λ r. ⌜ r < shape .kinds ⌝ }
 {
-    if c.loose {
-        return pick(c.seed, 10 + j, c.kinds);
+    if shape.loose {
+        return pick(shape.seed, 10 + line, shape.kinds);
     }
-    if j < c.kinds {
-        return j;
+    if line < shape.kinds {
+        return line;
     }
-    if c.chain {
-        return reduce(j + 1 - c.kinds, c.kinds);
+    if shape.chain {
+        return reduce(line + 1 - shape.kinds, shape.kinds);
     }
-    pick(c.seed, 10 + j, c.kinds)
+    pick(shape.seed, 10 + line, shape.kinds)
 }
 
-// The code of line j: mostly the first for a line that clears a kind, and the second for one of a chain.
-fn code_of(c: Shape, j: usize) -> usize
-    requires { ⌜ Small c × (j < 8) ⌝ }
-    ensures { λ r. ⌜ r < c .codes ⌝ }
+// The code of a line: mostly the first for a line that clears a kind, and the second for one of a chain.
+fn code_of(shape: Shape, line: usize) -> usize
+    requires { ⌜ Small shape × (line < 8) ⌝ }
+    ensures { λ r. ⌜ r < shape .codes ⌝ }
 {
-    if pick(c.seed, 20 + j, 4) == 0 {
-        return pick(c.seed, 30 + j, c.codes);
+    if pick(shape.seed, 20 + line, 4) == 0 {
+        return pick(shape.seed, 30 + line, shape.codes);
     }
-    if j < c.kinds {
+    if line < shape.kinds {
         return 0;
     }
-    if c.chain {
-        return reduce(1, c.codes);
+    if shape.chain {
+        return reduce(1, shape.codes);
     }
-    pick(c.seed, 30 + j, c.codes)
+    pick(shape.seed, 30 + line, shape.codes)
 }
 
-// One token of kind x, as a count of kind k.
-fn one_of(x: usize, k: usize) -> usize
+// One token of its own kind, as a count of a kind.
+fn one_of(own: usize, kind: usize) -> usize
     ensures { λ r. ⌜ r ≤ 1 ⌝ }
 {
-    if x == k { 1 } else { 0 }
+    if own == kind { 1 } else { 0 }
 }
 
-// One token where the seed has 0 below n, else none.
-fn token(c: Shape, place: usize, n: usize) -> usize
-    requires { ⌜ 0 < n ⌝ }
+// One token where the seed has 0 below a limit, else none.
+fn token(shape: Shape, place: usize, limit: usize) -> usize
+    requires { ⌜ 0 < limit ⌝ }
     ensures { λ r. ⌜ r ≤ 1 ⌝ }
 {
-    one_of(pick(c.seed, place, n), 0)
+    one_of(pick(shape.seed, place, limit), 0)
 }
 
-// How many tokens of kind k line j leaves.
-fn left_by(c: Shape, j: usize, k: usize) -> usize
-    requires { ⌜ Small c × (j < 8) × (k < 4) ⌝ }
+// How many tokens of a kind a line leaves.
+fn left_by(shape: Shape, line: usize, kind: usize) -> usize
+    requires { ⌜ Small shape × (line < 8) × (kind < 4) ⌝ }
     ensures { λ r. ⌜ r ≤ 1 ⌝ }
 {
-    let place = 40 + j * 4 + k;
-    if c.loose {
-        return token(c, place, 3);
+    let place = 40 + line * 4 + kind;
+    if shape.loose {
+        return token(shape, place, 3);
     }
-    if c.kinds <= j {
-        if c.chain {
-            return one_of(reduce(j - c.kinds, c.kinds), k);
+    if shape.kinds <= line {
+        if shape.chain {
+            return one_of(reduce(line - shape.kinds, shape.kinds), kind);
         }
-        return token(c, place, 3);
+        return token(shape, place, 3);
     }
-    if c.flat || j <= k {
+    if shape.flat || line <= kind {
         return 0;
     }
-    token(c, place, 2)
+    token(shape, place, 2)
 }
 
-// How many tokens of kind k field i has.
-fn tokens_of(c: Shape, i: usize, k: usize) -> usize
-    requires { ⌜ Small c × (i < 4) × (k < 4) ⌝ }
+// How many tokens of a kind a field has.
+fn tokens_of(shape: Shape, field: usize, kind: usize) -> usize
+    requires { ⌜ Small shape × (field < 4) × (kind < 4) ⌝ }
     ensures { λ r. ⌜ r ≤ 3 ⌝ }
 {
-    let shared = token(c, 80 + k, 4);
-    let x = pick_high(c.seed, 90, c.kinds);
-    if i == 0 {
-        return shared + one_of(x, k);
+    let shared = token(shape, 80 + kind, 4);
+    let x = pick_high(shape.seed, 90, shape.kinds);
+    if field == 0 {
+        return shared + one_of(x, kind);
     }
-    let way = pick(c.seed, 100 + i, 8);
+    let way = pick(shape.seed, 100 + field, 8);
     if way < 3 {
-        return shared + left_by(c, x, k) + one_of(0, k);
+        return shared + left_by(shape, x, kind) + one_of(0, kind);
     }
     if way < 6 {
-        return shared + one_of(pick(c.seed, 110 + i, c.kinds), k);
+        return shared + one_of(pick(shape.seed, 110 + field, shape.kinds), kind);
     }
-    token(c, 120 + i * 4 + k, 2)
+    token(shape, 120 + field * 4 + kind, 2)
 }
 
 // A byte is written, where the buffer has it.
-fn put(out: &mut [u8; 128], i: usize, value: usize) {
-    if i < 128 {
-        out[i] = (value % 256) as u8;
+fn put(out: &mut [u8; 128], at: usize, value: usize) {
+    if at < 128 {
+        out[at] = (value % 256) as u8;
     }
 }
 
 // A number of two bytes, "low byte first".
-fn put_number(out: &mut [u8; 128], i: usize, value: usize)
-    requires { ⌜ i < 1000 ⌝ }
+fn put_number(out: &mut [u8; 128], at: usize, value: usize)
+    requires { ⌜ at < 1000 ⌝ }
 {
-    put(out, i, value % 256);
-    put(out, i + 1, value / 256);
+    put(out, at, value % 256);
+    put(out, at + 1, value / 256);
 }
 
-// Where line j starts; for j the number of lines, where the fields start.
-fn line_start(c: Shape, j: usize) -> usize
-    requires { ⌜ Small c × (j ≤ 8) ⌝ }
+// Where a line starts; for the number of lines, where the fields start.
+fn line_start(shape: Shape, line: usize) -> usize
+    requires { ⌜ Small shape × (line ≤ 8) ⌝ }
     ensures { λ r. ⌜ r ≤ 68 ⌝ }
 {
-    20 + j * (2 + c.kinds)
+    20 + line * (2 + shape.kinds)
 }
 
-// Where field i starts; for i the number of fields, where the sheet ends.
-fn field_start(c: Shape, i: usize) -> usize
-    requires { ⌜ Small c × (i ≤ 4) ⌝ }
+// Where a field starts; for the number of fields, where the sheet ends.
+fn field_start(shape: Shape, field: usize) -> usize
+    requires { ⌜ Small shape × (field ≤ 4) ⌝ }
     ensures { λ r. ⌜ r ≤ 100 ⌝ }
 {
-    line_start(c, c.lines) + 2 * (c.kinds * i)
+    line_start(shape, shape.lines) + 2 * (shape.kinds * field)
 }
 
-// The header.
-fn put_header(c: Shape, out: &mut [u8; 128])
-    requires { ⌜ Small c ⌝ }
+// The header is written.
+fn put_header(shape: Shape, out: &mut [u8; 128])
+    requires { ⌜ Small shape ⌝ }
 {
-    put_number(out, 0, c.kinds);
-    put_number(out, 2, c.codes);
-    put_number(out, 4, c.lines);
-    put_number(out, 6, c.fields);
+    put_number(out, 0, shape.kinds);
+    put_number(out, 2, shape.codes);
+    put_number(out, 4, shape.lines);
+    put_number(out, 6, shape.fields);
     put_number(out, 8, 20);
     put_number(out, 10, 0);
-    put_number(out, 12, line_start(c, c.lines));
+    put_number(out, 12, line_start(shape, shape.lines));
     put_number(out, 14, 0);
-    put_number(out, 16, field_start(c, c.fields));
+    put_number(out, 16, field_start(shape, shape.fields));
     put_number(out, 18, 0);
 }
 
-// Line j.
-fn put_line(c: Shape, j: usize, out: &mut [u8; 128])
-    requires { ⌜ Small c × (j < 8) ⌝ }
+// A line is written.
+fn put_line(shape: Shape, line: usize, out: &mut [u8; 128])
+    requires { ⌜ Small shape × (line < 8) ⌝ }
 {
-    let start = line_start(c, j);
-    put(out, start, reduce(kind_of(c, j) + c.shift, c.kinds));
-    put(out, start + 1, code_of(c, j));
-    let kinds = c.kinds;
+    let start = line_start(shape, line);
+    put(
+        out,
+        start,
+        reduce(kind_of(shape, line) + shape.shift, shape.kinds),
+    );
+    put(out, start + 1, code_of(shape, line));
+    let kinds = shape.kinds;
     let mut k = 0;
     while k < kinds {
         put(
             out,
-            start + 2 + reduce(k + c.shift, kinds),
-            left_by(c, j, k),
+            start + 2 + reduce(k + shape.shift, kinds),
+            left_by(shape, line, k),
         );
         k += 1;
     }
 }
 
-// Field i.
-fn put_field(c: Shape, i: usize, out: &mut [u8; 128])
-    requires { ⌜ Small c × (i < 4) ⌝ }
+// A field is written.
+fn put_field(shape: Shape, field: usize, out: &mut [u8; 128])
+    requires { ⌜ Small shape × (field < 4) ⌝ }
 {
-    let start = field_start(c, i);
-    let kinds = c.kinds;
+    let start = field_start(shape, field);
+    let kinds = shape.kinds;
     let mut k = 0;
     while k < kinds {
         put_number(
             out,
-            start + 2 * reduce(k + c.shift, kinds),
-            tokens_of(c, i, k),
+            start + 2 * reduce(k + shape.shift, kinds),
+            tokens_of(shape, field, k),
         );
         k += 1;
     }
 }
 
-// The lines.
-fn put_lines(c: Shape, out: &mut [u8; 128])
-    requires { ⌜ Small c ⌝ }
+// The lines are written.
+fn put_lines(shape: Shape, out: &mut [u8; 128])
+    requires { ⌜ Small shape ⌝ }
 {
-    let lines = c.lines;
+    let lines = shape.lines;
     let mut j = 0;
     while j < lines {
-        put_line(c, j, out);
+        put_line(shape, j, out);
         j += 1;
     }
 }
 
-// The fields.
-fn put_fields(c: Shape, out: &mut [u8; 128])
-    requires { ⌜ Small c ⌝ }
+// The fields are written.
+fn put_fields(shape: Shape, out: &mut [u8; 128])
+    requires { ⌜ Small shape ⌝ }
 {
-    let fields = c.fields;
+    let fields = shape.fields;
     let mut i = 0;
     while i < fields {
-        put_field(c, i, out);
+        put_field(shape, i, out);
         i += 1;
     }
 }
@@ -242,9 +246,9 @@ fn put_fields(c: Shape, out: &mut [u8; 128])
 pub fn random_sheet(seed: u64, out: &mut [u8; 128]) -> usize
     ensures { λ r. ⌜ r ≤ 100 ⌝ }
 {
-    let c = shape_of(seed);
-    put_header(c, out);
-    put_lines(c, out);
-    put_fields(c, out);
-    field_start(c, c.fields)
+    let shape = shape_of(seed);
+    put_header(shape, out);
+    put_lines(shape, out);
+    put_fields(shape, out);
+    field_start(shape, shape.fields)
 }

@@ -27,7 +27,7 @@ pub tells-nothing : (buffer : List ℕ) (r : Reply) → r ≡ noReply → Tells 
 unfolding noCall written
 tells-nothing buffer r e = record { outcome-is = ap (λ (x : Reply). x .outcome) e; length-is = ap (λ (x : Reply). x .length) e; text-is = refl }
 
--- The same by another name for what is told.
+-- What a reply tells, by another name.
 pub told-as : {t : Told} {before after : List ℕ} {r : Reply} (u : Told) → Tells t before after r → t ≡ u → Tells u before after r
 told-as u tells e = rw (sym e) tells
 

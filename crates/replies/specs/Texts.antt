@@ -18,6 +18,6 @@ worded text (refused number place) = refused number place
 unfoldable pub lentText : {A : Type 0} → (A → List ℕ → List ℕ) → ℕ → Lent A → Answer (List ℕ)
 lentText text n wrote = worded (λ a. text a (take n (wrote .lent))) (wrote .answer)
 
--- The same of a call that has no value: the counts as a line.
+-- A call that writes counts and has no value, by the line of the first n of the counts, or its refusal.
 unfoldable pub countsText : ℕ → Lent (Unit {0}) → Answer (List ℕ)
 countsText n wrote = lentText (λ _ counts. countsLine counts) n wrote

@@ -9,7 +9,7 @@ use Rattle.replies.specs.declared.reply.Outcome.{Outcome}
 use Rattle.replies.specs.declared.reply.Outcome.the-variants.{Answered, Refused, NoCall}
 use Rattle.replies.specs.declared.reply.Reply.{Reply}
 
--- How it ended, and its text.
+-- How a call in words ended, and its text.
 pub record Told : Type 0 where
   pub outcome : Outcome
   pub text : List ℕ
@@ -28,7 +28,7 @@ told (refused number place) = record { outcome = Refused number place; text = re
 unfoldable pub noCall : Told
 noCall = record { outcome = NoCall; text = [] }
 
--- The reply to them.
+-- The reply to words that are no call.
 abbrev pub noReply : Reply
 noReply = record { outcome = NoCall; length = 0 }
 

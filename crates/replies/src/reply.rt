@@ -6,14 +6,14 @@ ghost use lib.ListN.{length};
 ghost use Rattle.model.specs.Answer.{refused};
 ghost use Rattle.replies.specs.Told.{told, noReply, Tells};
 
-// How it ended: answered, refused with its number and place, or words that are no call.
+// How a call in words ended: answered, refused with its number and place, or words that are no call.
 pub enum Outcome {
     Answered,
     Refused { number: usize, place: usize },
     NoCall,
 }
 
-// How it ended, and the length of the text that a lent buffer now begins with.
+// How a call in words ended, and the length of the text that a lent buffer now begins with.
 pub struct Reply {
     pub outcome: Outcome,
     pub length: usize,

@@ -1,7 +1,7 @@
 -- The candidates for a kind's row, and which of them is the row.
 use mathlib.Core.List.{List}
 use mathlib.Core.Logic.{_↔_, _⊎_, inl, inr}
-use mathlib.Core.Path.{_≡_, refl, sym, _∙_, ap, fun-ext}
+use mathlib.Core.Path.{_≡_, refl, sym, _∙_, ap, subst, fun-ext}
 use Prim.Native.Nat.{ℕ, suc, _+_, _≤_, _<_}
 use native.Mathlib.Decide.{decLt}
 use native.Mathlib.Omega.{arith}
@@ -20,8 +20,8 @@ use Rattle.theory.proofs.Certified.{Found}
 use Rattle.theory.proofs.Program.{Equal, Candidate, row-candidate, test-one, test-next}
 use Rattle.theory.proofs.Sheets.{certified}
 use Rattle.rows.proofs.Forms.{earlier-iff, earlier-not, lowers-before, lowers-norm, left-kinds, unit-kinds, count-most, form-unit, form-self, form-before, form-atoms, form-norm, form-next, form-plus, row-sort}
-use Rattle.rows.specs.Stage.{LowersAt, Told, Match}
-use Rattle.rows.proofs.Lines.{line-lowers, every-lowering, kind-of}
+use Rattle.rows.specs.Stage.{LowersAt, ToldAt, MatchAt}
+use Rattle.rows.proofs.Lines.{line-lowers, lowering-line, kind-of}
 
 -- A product of atoms of stage q + 1 earlier than kind k, of k's norm. It is its own form, and none of its counts passes the norm.
 pub record Product (c : Card) (q k : ℕ) (b : Field) : Type 0 where
@@ -32,14 +32,10 @@ pub record Product (c : Card) (q k : ℕ) (b : Field) : Type 0 where
   pub small : (j : ℕ) → b j ≤ kindNorm c k
   pub own-form : stageForm c (suc q) b ≡ b
 
--- Two lines tell one candidate at most.
-pub told-only : (c : Card) (q : ℕ) (l m : Line) (a b : Field) → Told c q l m a → Told c q l m b → a ≡ b
-told-only c q l m a b x y = fun-ext (λ j. omega (arith, ap (λ (f : Field). f j) x, ap (λ (f : Field). f j) y))
-
 module _ (c : Card) (F : Found (c .lines) (c .kinds) (kindNorm c)) (q k : ℕ) (h : k < c .kinds) where
   -- What is told by a line of the kind and a line of an earlier atom, both lowering the norm, is such a product.
   pub told-product : (l m : Line) → Lowers c (kindNorm c) l → Lowers c (kindNorm c) m → l .kind ≡ k → Earlier c (m .kind) k
-      → stageRow c (suc q) (m .kind) ≡ unit (m .kind) → (b : Field) → Told c q l m b → Product c q k b
+      → stageRow c (suc q) (m .kind) ≡ unit (m .kind) → (b : Field) → ToldAt c q l m b → Product c q k b
   told-product l m o p e i own b t = record {
     before = λ j r. (each j r .0, each j r .1);
     kinds = kinds;
@@ -88,7 +84,7 @@ module _ (c : Card) (F : Found (c .lines) (c .kinds) (kindNorm c)) (q k : ℕ) (
 
   -- No line tells the row: then the kind is an atom.
   pub none-told : (l : Line) → Lowers c (kindNorm c) l → l .kind ≡ k
-      → ((m : Line) → Lowers c (kindNorm c) m → m .code ≡ l .code → Earlier c (m .kind) k → stageRow c (suc q) (m .kind) ≡ unit (m .kind) → (b : Field) → Told c q l m b
+      → ((m : Line) → Lowers c (kindNorm c) m → m .code ≡ l .code → Earlier c (m .kind) k → stageRow c (suc q) (m .kind) ≡ unit (m .kind) → (b : Field) → ToldAt c q l m b
       → ¬ (stageRow c (suc q) k ≡ b))
       → stageRow c (suc q) k ≡ unit k
   none-told l o e f = go (row-sort c F q k h)
@@ -121,7 +117,7 @@ module _ (c : Card) (F : Found (c .lines) (c .kinds) (kindNorm c)) (k : ℕ) (h 
 
 -- What lines l and m tell at stage q + 2 has the row of l's kind for its form at stage q + 1 just when the two lines match there.
 module _ (c : Card) (F : Found (c .lines) (c .kinds) (kindNorm c)) (q k : ℕ) (l m : Line) (o : On c l) (p : On c m) (e : l .kind ≡ k) (d : m .code ≡ l .code)
-    (b : Field) (t : Told c (suc q) l m b) where
+    (b : Field) (t : ToldAt c (suc q) l m b) where
   -- Both sides of what tells it, by the rows of stage q + 1.
   told-before : (j : ℕ) → stageForm c (suc q) b j + stageForm c (suc q) (m .left) j ≡ stageRow c (suc q) (m .kind) j + stageForm c (suc q) (l .left) j
   told-before j =
@@ -136,23 +132,27 @@ module _ (c : Card) (F : Found (c .lines) (c .kinds) (kindNorm c)) (q k : ℕ) (
         ap (λ (f : Field). f j) (form-next c F q (l .left) (F .counts l o)),
       )
 
-  pub told-kept : (stageRow c (suc q) k ≡ stageForm c (suc q) b) ↔ Match c q l m
+  pub told-kept : (stageRow c (suc q) k ≡ stageForm c (suc q) b) ↔ MatchAt c q l m
   told-kept = (
     (λ x. (d, fun-ext (λ j. omega (arith, told-before j, ap (λ (f : Field). f j) x, ap (λ i. stageRow c (suc q) i j) e)))),
     (λ x. fun-ext (λ j. omega (arith, told-before j, ap (λ (f : Field). f j) (x .1), ap (λ i. stageRow c (suc q) i j) e))),
   )
 
+-- Line j, with line i of kind k, tells no candidate that is k's row.
+abbrev pub TellsNone : List ℕ → ℕ → ℕ → ℕ → ℕ → Type 0
+TellsNone s q k i j =
+    LowersAt s j → lineOf s j .code ≡ lineOf s i .code → Earlier (cardOf s) (lineOf s j .kind) k → stageRow (cardOf s) (suc q) (lineOf s j .kind) ≡ unit (lineOf s j .kind)
+    → (b : Field) → ToldAt (cardOf s) q (lineOf s i) (lineOf s j) b → ¬ (stageRow (cardOf s) (suc q) k ≡ b)
+
 -- The same of an accepted sheet, with its lines by number.
 module _ (s : List ℕ) (ok : Accepted s) (q k : ℕ) (h : k < kindCount s) where
   pub lines-product : (i j : ℕ) → LowersAt s i → LowersAt s j → lineOf s i .kind ≡ k → Earlier (cardOf s) (lineOf s j .kind) k
-      → stageRow (cardOf s) (suc q) (lineOf s j .kind) ≡ unit (lineOf s j .kind) → (b : Field) → Told (cardOf s) q (lineOf s i) (lineOf s j) b → Product (cardOf s) q k b
+      → stageRow (cardOf s) (suc q) (lineOf s j .kind) ≡ unit (lineOf s j .kind) → (b : Field) → ToldAt (cardOf s) q (lineOf s i) (lineOf s j) b → Product (cardOf s) q k b
   lines-product i j o p = told-product (cardOf s) (certified s ok) q k (kind-of s k h) (lineOf s i) (lineOf s j) (line-lowers s i o) (line-lowers s j p)
 
-  pub no-line-tells : (i : ℕ) → LowersAt s i → lineOf s i .kind ≡ k
-      → ((j : ℕ) → LowersAt s j → lineOf s j .code ≡ lineOf s i .code → Earlier (cardOf s) (lineOf s j .kind) k
-      → stageRow (cardOf s) (suc q) (lineOf s j .kind) ≡ unit (lineOf s j .kind) → (b : Field) → Told (cardOf s) q (lineOf s i) (lineOf s j) b → ¬ (stageRow (cardOf s) (suc q) k ≡ b))
-      → stageRow (cardOf s) (suc q) k ≡ unit k
+  pub no-line-tells : (i : ℕ) → LowersAt s i → lineOf s i .kind ≡ k → ((j : ℕ) → TellsNone s q k i j) → stageRow (cardOf s) (suc q) k ≡ unit k
   no-line-tells i o e f =
-      none-told (cardOf s) (certified s ok) q k (kind-of s k h) (lineOf s i) (line-lowers s i o) e
-      (every-lowering s (λ m. m .code ≡ lineOf s i .code → Earlier (cardOf s) (m .kind) k → stageRow (cardOf s) (suc q) (m .kind) ≡ unit (m .kind) → (b : Field)
-      → Told (cardOf s) q (lineOf s i) m b → ¬ (stageRow (cardOf s) (suc q) k ≡ b)) f)
+      none-told (cardOf s) (certified s ok) q k (kind-of s k h) (lineOf s i) (line-lowers s i o) e (λ m p. let t = lowering-line s m p in subst
+      (λ (x : Line). x .code ≡ lineOf s i .code → Earlier (cardOf s) (x .kind) k → stageRow (cardOf s) (suc q) (x .kind) ≡ unit (x .kind) → (b : Field)
+      → ToldAt (cardOf s) q (lineOf s i) x b → ¬ (stageRow (cardOf s) (suc q) k ≡ b))
+      (sym (t .2)) (f (t .0) (t .1)))

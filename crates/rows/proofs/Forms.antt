@@ -50,7 +50,7 @@ module _ (c : Card) (F : Found (c .lines) (c .kinds) (kindNorm c)) where
   fin = finite N (c .lines) (λ l o. o) (λ l o. o) (F .positive) (equalNorm c (kindNorm c)) (tells-equal c (kindNorm c) F)
 
   -- The order of kinds as the test `earlier` and as a type.
-  pub earlier-iff : (k j : ℕ) → k < c .kinds → j < c .kinds → T (earlier (kindNorm c) k j) ↔ Earlier c j k
+  pub earlier-iff : (k j : ℕ) → k < c .kinds → j < c .kinds → T (earlier (kindNorm c) j k) ↔ Earlier c j k
   earlier-iff k j h i =
       let o = order-iff N (c .lines) (λ l o. o) (λ l o. o) (F .positive) (equalNorm c (kindNorm c)) (tells-equal c (kindNorm c) F) k j h i in
       let t = tells-earlier N (c .lines) (λ l o. o) (λ l o. o) (F .positive) (equalNorm c (kindNorm c)) (tells-equal c (kindNorm c) F) k j h i in
@@ -76,10 +76,6 @@ module _ (c : Card) (F : Found (c .lines) (c .kinds) (kindNorm c)) where
 
   pub lowers-norm : (l : Line) → Lowers c (kindNorm c) l → suc (norm c (l .left)) ≡ kindNorm c (l .kind)
   lowers-norm l o = omega (arith, F .settled l (o .0), o .1)
-
-  -- A field of earlier kinds is one of the card's kinds.
-  pub before-kinds : (k : ℕ) (a : Field) → Before c k a → OfKinds c a
-  before-kinds k a f j h = f j h .0
 
   pub left-kinds : (l : Line) → Lowers c (kindNorm c) l → OfKinds c (l .left)
   left-kinds l o = F .counts l (o .0)
@@ -160,14 +156,6 @@ module _ (c : Card) (F : Found (c .lines) (c .kinds) (kindNorm c)) where
         go : {A : Type 0} → stageRow c (suc q) k k ≡ 1 → (stageRow c (suc q) k ≡ unit k) ⊎ (Before c k (stageRow c (suc q) k) × A) → stageRow c (suc q) k ≡ unit k
         go e (inl p) = p
         go e (inr p) = absurd (earlier-not k (p .0 k (omega arith) .1))
-
-    pub row-other : (k : ℕ) → k < c .kinds → ¬ (stageRow c (suc q) k ≡ unit k) → stageRow c (suc q) k k ≡ 0
-    row-other k h n = go (row-sort k h) (decLt 0 (stageRow c (suc q) k k))
-      where
-        go : {A : Type 0} → (stageRow c (suc q) k ≡ unit k) ⊎ (Before c k (stageRow c (suc q) k) × A) → Dec (0 < stageRow c (suc q) k k) → stageRow c (suc q) k k ≡ 0
-        go (inl e) d = absurd (n e)
-        go (inr p) (yes i) = absurd (earlier-not k (p .0 k i .1))
-        go (inr p) (no i) = none-of _ i
 
     -- An atom stays one at the next stage.
     pub atom-stays : (k : ℕ) → k < c .kinds → stageRow c (suc q) k ≡ unit k → stageRow c (suc (suc q)) k ≡ unit k

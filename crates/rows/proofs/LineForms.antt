@@ -1,12 +1,11 @@
 -- The forms of what the lines leave: how large they are, and the loops that write them.
 -- Assumes nothing.
-use mathlib.Core.Bool.{Bool, true, false}
 use mathlib.Core.List.{List}
 use mathlib.Core.Path.{_≡_, ap, _∙_}
 use Prim.Native.Nat.{ℕ, _+_, _^_, _≤_, _<_}
 use native.Mathlib.Decide.{ℕ-discrete}
 use native.Mathlib.Omega.{arith}
-use lib.ListN.{length, getD}
+use lib.ListN.{length}
 use Rattle.model.specs.Field.{at}
 use Rattle.model.specs.Sheet.{kindCount, lineCount, lineOf}
 use Rattle.sheet.specs.Reader.{Reads, lineCounts}
@@ -14,6 +13,7 @@ use Rattle.sheet.specs.declared.reader.Card.{Card}
 use Rattle.sheet.proofs.Laws.{Bytes, kinds-are, kinds-most, lines-are, left-under}
 use Rattle.norms.proofs.Laws.{part-left}
 use Rattle.tables.specs.Table.{Under, rowIn, formIn}
+use Rattle.tables.specs.Lines.{kindIn, LowersIn}
 use Rattle.rows.specs.Forms.{RowSet, LineForm, LoweringForms, AllForms, KindForms}
 use Rattle.rows.proofs.TableRows.{form-small}
 
@@ -30,14 +30,14 @@ part-form {s} R j xs part rows =
     part-left R j xs part (λ n a. formIn n rows a) ∙ ap (λ (n : ℕ). formIn n rows (lineOf s j .left)) (kinds-are R)
 
 -- The forms of the lines below j, and of the lines that lower the norm, are written.
-pub record Formed (s rows : List ℕ) (lowers : List Bool) (old forms : List ℕ) (j : ℕ) : Type 0 where
+pub record Formed (s rows lines old forms : List ℕ) (j : ℕ) : Type 0 where
   pub kept : length forms ≡ length old
   pub small : Under (2 ^ 63) forms
-  pub lowering : LoweringForms s rows lowers forms
+  pub lowering : LoweringForms s rows lines forms
   pub done : (i : ℕ) → i < j → LineForm s rows forms i
 
-module _ {s rows : List ℕ} {lowers : List Bool} {old forms : List ℕ} {j : ℕ} (h : Formed s rows lowers old forms j) where
-  pub formed-skip : j < lineCount s → getD lowers j false ≡ true → Formed s rows lowers old forms (j + 1)
+module _ {s rows lines old forms : List ℕ} {j : ℕ} (h : Formed s rows lines old forms j) where
+  pub formed-skip : j < lineCount s → LowersIn lines j → Formed s rows lines old forms (j + 1)
   formed-skip b a = record { kept = h .kept; small = h .small; lowering = h .lowering; done = λ i l. go i l (ℕ-discrete i j) }
     where
       go : (i : ℕ) → i < j + 1 → Dec (i ≡ j) → LineForm s rows forms i
@@ -45,7 +45,7 @@ module _ {s rows : List ℕ} {lowers : List Bool} {old forms : List ℕ} {j : �
       go i l (no p) = h .done i (omega arith)
 
   pub formed-more : {new : List ℕ} → RowSet (formIn (kindCount s) rows (lineOf s j .left)) j forms new → length new ≡ length forms → Under (2 ^ 63) new
-      → Formed s rows lowers old new (j + 1)
+      → Formed s rows lines old new (j + 1)
   formed-more {new} r e u =
       record {
         kept = e ∙ h .kept;
@@ -59,22 +59,22 @@ module _ {s rows : List ℕ} {lowers : List Bool} {old forms : List ℕ} {j : �
       go i (no p) f = r .others i p ∙ f p
 
 -- The forms of the lowering lines of kind k below j are written, and no others.
-pub record KindFormed (s rows kinds : List ℕ) (lowers : List Bool) (k : ℕ) (old forms : List ℕ) (j : ℕ) : Type 0 where
+pub record KindFormed (s rows lines : List ℕ) (k : ℕ) (old forms : List ℕ) (j : ℕ) : Type 0 where
   pub kept : length forms ≡ length old
   pub small : Under (2 ^ 63) forms
-  pub done : (i : ℕ) → i < j → getD lowers i false ≡ true → at kinds i ≡ k → LineForm s rows forms i
-  pub others : (i : ℕ) → ¬ (at kinds i ≡ k) → rowIn forms i ≡ rowIn old i
+  pub done : (i : ℕ) → i < j → LowersIn lines i → kindIn lines i ≡ k → LineForm s rows forms i
+  pub others : (i : ℕ) → ¬ (kindIn lines i ≡ k) → rowIn forms i ≡ rowIn old i
 
-module _ {s rows kinds : List ℕ} {lowers : List Bool} {k : ℕ} {old forms : List ℕ} {j : ℕ} (h : KindFormed s rows kinds lowers k old forms j) where
-  pub kind-formed-skip : (getD lowers j false ≡ true → at kinds j ≡ k → ⊥) → KindFormed s rows kinds lowers k old forms (j + 1)
+module _ {s rows lines : List ℕ} {k : ℕ} {old forms : List ℕ} {j : ℕ} (h : KindFormed s rows lines k old forms j) where
+  pub kind-formed-skip : (LowersIn lines j → kindIn lines j ≡ k → ⊥) → KindFormed s rows lines k old forms (j + 1)
   kind-formed-skip n = record { kept = h .kept; small = h .small; done = λ i l. go i l (ℕ-discrete i j); others = h .others }
     where
-      go : (i : ℕ) → i < j + 1 → Dec (i ≡ j) → getD lowers i false ≡ true → at kinds i ≡ k → LineForm s rows forms i
+      go : (i : ℕ) → i < j + 1 → Dec (i ≡ j) → LowersIn lines i → kindIn lines i ≡ k → LineForm s rows forms i
       go i l (yes p) = λ a b. absurd (n (rw p at a) (rw p at b))
       go i l (no p) = h .done i (omega arith)
 
-  pub kind-formed-more : {new : List ℕ} → at kinds j ≡ k → RowSet (formIn (kindCount s) rows (lineOf s j .left)) j forms new → length new ≡ length forms
-      → Under (2 ^ 63) new → KindFormed s rows kinds lowers k old new (j + 1)
+  pub kind-formed-more : {new : List ℕ} → kindIn lines j ≡ k → RowSet (formIn (kindCount s) rows (lineOf s j .left)) j forms new → length new ≡ length forms
+      → Under (2 ^ 63) new → KindFormed s rows lines k old new (j + 1)
   kind-formed-more {new} q r e u =
       record {
         kept = e ∙ h .kept;
@@ -83,14 +83,14 @@ module _ {s rows kinds : List ℕ} {lowers : List Bool} {k : ℕ} {old forms : L
         others = λ i n. r .others i (λ p. n (rw p q)) ∙ h .others i n;
       }
     where
-      go : (i : ℕ) → i < j + 1 → Dec (i ≡ j) → getD lowers i false ≡ true → at kinds i ≡ k → LineForm s rows new i
+      go : (i : ℕ) → i < j + 1 → Dec (i ≡ j) → LowersIn lines i → kindIn lines i ≡ k → LineForm s rows new i
       go i l (yes p) = λ a b. rw p (r .here)
       go i l (no p) = λ a b. r .others i p ∙ h .done i (omega arith) a b
 
 -- All lines are done.
 module _ {s : List ℕ} {c : Card} (R : Reads s c) {rows old forms : List ℕ} {j : ℕ} (l : c .lines ≤ j) where
-  pub all-formed : {lowers : List Bool} → Formed s rows lowers old forms j → AllForms s rows forms
+  pub all-formed : {lines : List ℕ} → Formed s rows lines old forms j → AllForms s rows forms
   all-formed h = record { forms-are = λ i b. h .done i (omega (arith, lines-are R)); small = h .small }
 
-  pub all-kind-formed : {kinds : List ℕ} {lowers : List Bool} {k : ℕ} → KindFormed s rows kinds lowers k old forms j → KindForms s rows kinds lowers k old forms
+  pub all-kind-formed : {lines : List ℕ} {k : ℕ} → KindFormed s rows lines k old forms j → KindForms s rows lines k old forms
   all-kind-formed h = record { forms-are = λ i b. h .done i (omega (arith, lines-are R)); others = h .others; small = h .small }

@@ -13,7 +13,8 @@ use Rattle.model.specs.Limits.{mostKinds}
 use Rattle.weights.proofs.Counts.{weigh-within}
 use Rattle.tables.specs.Table.{Under, rowIn, formIn, withRow}
 use Rattle.rows.specs.Forms.{RowSet}
-use Rattle.tables.proofs.Tables.{lent-under, replaced-before, replaced-in, replaced-after, with-row, with-others}
+use Rattle.tables.proofs.Tables.{lent-under}
+use Rattle.tables.proofs.Stores.{replaced-before, replaced-in, replaced-after, with-row, with-others}
 
 -- A table of which the part that holds row k was lent and has come back as r.
 abbrev pub withPart : List ℕ → ℕ → List ℕ → List ℕ

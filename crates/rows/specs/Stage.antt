@@ -1,63 +1,66 @@
--- What the code of a stage tells of lines, by the rows and the forms of stage q + 1.
-use mathlib.Core.Bool.{Bool, false}
+-- Lines at a stage, by the rows and the forms of stage q + 1: which of them match, and which of them two fields may use. What the tables hold at a stage.
 use mathlib.Core.List.{List}
 use mathlib.Core.Logic.{_↔_}
 use mathlib.Core.Path.{_≡_}
-use Prim.Native.Nat.{ℕ, suc, _≤_, _<_}
-use lib.ListN.{length, getD}
-use Rattle.model.specs.Field.{Field, _⊕_, unit}
+use Prim.Native.Nat.{ℕ, suc, _<_}
+use Rattle.model.specs.Field.{Field, _⊕_, unit, at}
 use Rattle.model.specs.Card.{Line, Card}
 use Rattle.model.specs.Norm.{kindNorm, norm}
 use Rattle.model.specs.Base.{stageRow, stageForm}
 use Rattle.model.specs.Sheet.{kindCount, lineCount, lineOf, cardOf}
-use Rattle.norms.specs.Norms.{lowersNorm}
 use Rattle.tables.specs.Table.{rowIn}
+use Rattle.tables.specs.Lines.{linesIn, kindIn, codeIn, LowersIn}
+use Rattle.tables.specs.Match.{Match, Usable, Bounds, TellsMatch}
+use Rattle.tables.specs.Class.{MayUseAlike}
 
--- b is the candidate for the row of l's kind that the lines l and m tell: m's kind and what l leaves, less what m leaves, in atoms.
-abbrev pub Told : Card → ℕ → Line → Line → Field → Type 0
-Told c q l m b = b ⊕ stageForm c (suc q) (m .left) ≡ unit (m .kind) ⊕ stageForm c (suc q) (l .left)
+-- b is the candidate for the row of l's kind that the lines l and m tell, over lines of any type with any kinds and forms: m's kind and what l leaves, less what m leaves, in atoms.
+abbrev pub Told : {A : Type 0} → (A → ℕ) → (A → Field) → A → A → Field → Type 0
+Told kind form l m b = b ⊕ form m ≡ unit (kind m) ⊕ form l
 
--- Line l of a kind alone and line m of a product b of atoms read one code and leave equal forms: "a read of the same code on the other and the results are related".
-abbrev pub Leave : Card → ℕ → Field → Line → Line → Type 0
-Leave c q b l m = (m .code ≡ l .code) × (stageForm c (suc q) (l .left) ⊕ unit (m .kind) ≡ b ⊕ stageForm c (suc q) (m .left))
+-- The form, at stage q + 1, of what a line leaves.
+abbrev pub leftForm : Card → ℕ → Line → Field
+leftForm c q l = stageForm c (suc q) (l .left)
 
--- Lines l and m match: wherever two fields of equal forms may use them, they read one code and leave equal forms.
-abbrev pub Match : Card → ℕ → Line → Line → Type 0
-Match c q l m = (m .code ≡ l .code) × (stageForm c (suc q) (l .left) ⊕ stageRow c (suc q) (m .kind) ≡ stageForm c (suc q) (m .left) ⊕ stageRow c (suc q) (l .kind))
+-- The same of what two lines of a card tell, by the forms of the stage.
+abbrev pub ToldAt : Card → ℕ → Line → Line → Field → Type 0
+ToldAt c q = Told (λ l. l .kind) (leftForm c q)
+
+-- Two lines of a card match, by any rows of the kinds and the forms of the stage.
+abbrev pub MatchBy : Card → ℕ → (ℕ → Field) → Line → Line → Type 0
+MatchBy c q row = Match (λ l. l .kind) (λ l. l .code) row (leftForm c q)
+
+-- They match by the rows of the stage: wherever two fields of equal forms may use them, they read one code and leave equal forms.
+abbrev pub MatchAt : Card → ℕ → Line → Line → Type 0
+MatchAt c q = MatchBy c q (stageRow c (suc q))
 
 module _ (s : List ℕ) where
+  -- The kind of line j of the sheet.
+  abbrev pub lineKind : ℕ → ℕ
+  lineKind j = lineOf s j .kind
+
   -- Line j is one of the sheet's, and is one of the "reads that lower the norm".
   abbrev pub LowersAt : ℕ → Type 0
   LowersAt j = (j < lineCount s) × (norm (cardOf s) (lineOf s j .left) < kindNorm (cardOf s) (lineOf s j .kind))
 
-  -- The product b has a reply to line i of kind k, and kind k has one to line j of the product, by lines that lower the norm; and so for every such line of either:
-  -- "Norm-reducing expansion considers only reads that lower the norm, for challenge and reply alike."
-  abbrev pub ProductReplies : ℕ → Field → ℕ → Type 0
-  ProductReplies q b i = (j : ℕ) × LowersAt j × ((0 < b (lineOf s j .kind)) × Leave (cardOf s) q b (lineOf s i) (lineOf s j))
+  -- Such a line that the field may use.
+  abbrev pub UsableAt : Field → ℕ → Type 0
+  UsableAt = Usable LowersAt lineKind
 
-  abbrev pub KindReplies : ℕ → ℕ → Field → ℕ → Type 0
-  KindReplies q k b j = (i : ℕ) × LowersAt i × ((lineOf s i .kind ≡ k) × Leave (cardOf s) q b (lineOf s i) (lineOf s j))
-
-  abbrev pub LowersAlike : ℕ → ℕ → Field → Type 0
-  LowersAlike q k b =
-      ((i : ℕ) → LowersAt i → lineOf s i .kind ≡ k → ProductReplies q b i) × ((j : ℕ) → LowersAt j → 0 < b (lineOf s j .kind) → KindReplies q k b j)
+  -- Lines i and j of the sheet match at the stage.
+  abbrev pub LinesMatch : ℕ → ℕ → ℕ → Type 0
+  LinesMatch q i j = MatchAt (cardOf s) q (lineOf s i) (lineOf s j)
 
   -- A number for each line, its class, tells which lines match.
   abbrev pub Classes : ℕ → List ℕ → Type 0
-  Classes q classes = (i j : ℕ) → i < lineCount s → j < lineCount s → (getD classes i 0 ≡ getD classes j 0) ↔ Match (cardOf s) q (lineOf s i) (lineOf s j)
+  Classes q classes = TellsMatch (LinesMatch q) (lineCount s) classes
 
   -- A bound for each line: it is no later than the line, and no line before it matches the line.
   abbrev pub BoundsAt : ℕ → List ℕ → Type 0
-  BoundsAt q bounds =
-      (j : ℕ) → j < lineCount s → (getD bounds j 0 ≤ j) × ((i : ℕ) → i < getD bounds j 0 → ¬ Match (cardOf s) q (lineOf s i) (lineOf s j))
-
-  -- The field may use a line of class x.
-  abbrev pub Uses : List ℕ → Field → ℕ → Type 0
-  Uses classes a x = (j : ℕ) × (j < lineCount s) × (0 < a (lineOf s j .kind)) × (getD classes j 0 ≡ x)
+  BoundsAt q bounds = Bounds (LinesMatch q) (lineCount s) bounds
 
   -- The two fields may use lines of the same classes.
-  abbrev pub SameUses : List ℕ → Field → Field → Type 0
-  SameUses classes a b = (x : ℕ) → Uses classes a x ↔ Uses classes b x
+  abbrev pub AlikeAt : List ℕ → Field → Field → Type 0
+  AlikeAt classes = MayUseAlike lineKind (at classes) (lineCount s)
 
   -- "A base at a stage gives each kind the counts" of the table's row. Stages here are from 1 up.
   abbrev pub BaseAt : ℕ → List ℕ → Type 0
@@ -67,11 +70,9 @@ module _ (s : List ℕ) where
   abbrev pub FormsAt : ℕ → List ℕ → Type 0
   FormsAt t forms = (j : ℕ) → j < lineCount s → rowIn forms j ≡ stageForm (cardOf s) t (lineOf s j .left)
 
-  -- The lines, read once: their kinds, their codes, and which of them lower the norm.
-  pub record LinesAre (kinds codes : List ℕ) (lowers : List Bool) : Type 0 where
-    pub kinds-long : length kinds ≡ lineCount s
-    pub codes-long : length codes ≡ lineCount s
-    pub lowers-long : length lowers ≡ lineCount s
-    pub kind-is : (j : ℕ) → j < lineCount s → getD kinds j 0 ≡ lineOf s j .kind
-    pub code-is : (j : ℕ) → j < lineCount s → getD codes j 0 ≡ lineOf s j .code
-    pub lowers-is : (j : ℕ) → j < lineCount s → getD lowers j false ≡ lowersNorm s j
+  -- The table holds the lines, read once: their kinds, their codes, and which of them lower the norm.
+  pub record LinesAre (lines : List ℕ) : Type 0 where
+    pub long : linesIn lines ≡ lineCount s
+    pub kind-is : (j : ℕ) → j < lineCount s → kindIn lines j ≡ lineOf s j .kind
+    pub code-is : (j : ℕ) → j < lineCount s → codeIn lines j ≡ lineOf s j .code
+    pub lowers-is : (j : ℕ) → j < lineCount s → LowersIn lines j ↔ LowersAt j

@@ -1,5 +1,7 @@
 // The forms of what the lines leave: a flat table, one row of 32 counts to a line, by the rows of a base.
 use sheet::Card;
+use tables::lines::kind_of;
+use tables::lines::lowers;
 use tables::table::form_of_counts;
 ghost use mathlib.Core.Path.{_≡_};
 ghost use Prim.Native.Nat.{_^_, _<_};
@@ -7,69 +9,68 @@ ghost use lib.ListN.{length};
 ghost use Rattle.model.specs.Sheet.{kindCount, lineOf};
 ghost use Rattle.sheet.specs.Reader.{Reads};
 ghost use Rattle.tables.specs.Table.{Under, Atoms, formIn};
+ghost use Rattle.tables.specs.Lines.{linesIn};
 ghost use Rattle.rows.specs.Forms.{RowSet, LoweringForms, AllForms, KindForms};
 
-// The form of what line j leaves.
-fn line_form(s: &[u8], card: Card, rows: &[u32], forms: &mut [u64], j: usize)
-    requires { ⌜ Reads (now s) card ⌝ }
+// The form of what a line leaves.
+fn line_form(sheet: &[u8], card: Card, rows: &[u32], forms: &mut [u64], line: usize)
+    requires { ⌜ Reads (now sheet) card ⌝ }
     requires { ⌜ (length (now rows) ≡ 1024) × (length (now forms) ≡ 8192) ⌝ }
-    requires { ⌜ Atoms (now rows) (kindCount (now s)) ⌝ }
-    requires { ⌜ j < card .lines ⌝ }
+    requires { ⌜ Atoms (now rows) (kindCount (now sheet)) ⌝ }
+    requires { ⌜ line < card .lines ⌝ }
     requires { ⌜ Under (2 ^ 63) (now forms) ⌝ }
-    ensures { λ _. ⌜ RowSet (formIn (kindCount (now (s .entry))) (now (rows .entry)) (lineOf (now (s .entry)) j .left)) j (now (forms .entry)) (now (forms .exit)) ⌝ }
+    ensures { λ _. ⌜ RowSet (formIn (kindCount (now (sheet .entry))) (now (rows .entry)) (lineOf (now (sheet .entry)) line .left)) line (now (forms .entry)) (now (forms .exit)) ⌝ }
     ensures { λ _. ⌜ Under (2 ^ 63) (now (forms .exit)) ⌝ }
 {
-    let a = j * 32;
-    let e = a + 32;
-    form_of_counts(card.line_counts(s, j), rows, &mut forms[a..e]);
+    let start = line * 32;
+    let end = start + 32;
+    form_of_counts(card.line_counts(sheet, line), rows, &mut forms[start..end]);
 }
 
 // The forms of what all lines leave, where those of the lines that lower the norm are known.
-pub fn all_forms(s: &[u8], card: Card, lowers: &[bool], rows: &[u32], forms: &mut [u64])
-    requires { ⌜ Reads (now s) card ⌝ }
-    requires { ⌜ length (now lowers) ≡ card .lines ⌝ }
+pub fn all_forms(sheet: &[u8], card: Card, lines: &[u8], rows: &[u32], forms: &mut [u64])
+    requires { ⌜ Reads (now sheet) card ⌝ }
+    requires { ⌜ linesIn (now lines) ≡ card .lines ⌝ }
     requires { ⌜ (length (now rows) ≡ 1024) × (length (now forms) ≡ 8192) ⌝ }
-    requires { ⌜ Atoms (now rows) (kindCount (now s)) ⌝ }
+    requires { ⌜ Atoms (now rows) (kindCount (now sheet)) ⌝ }
     requires { ⌜ Under (2 ^ 63) (now forms) ⌝ }
-    requires { ⌜ LoweringForms (now s) (now rows) (now lowers) (now forms) ⌝ }
-    ensures { λ _. ⌜ AllForms (now (s .entry)) (now (rows .entry)) (now (forms .exit)) ⌝ }
+    requires { ⌜ LoweringForms (now sheet) (now rows) (now lines) (now forms) ⌝ }
+    ensures { λ _. ⌜ AllForms (now (sheet .entry)) (now (rows .entry)) (now (forms .exit)) ⌝ }
 {
-    let lines = card.lines;
-    let mut j = 0;
-    while j < lines {
-        if !lowers[j] {
-            line_form(s, card, rows, forms, j);
+    let count = card.lines;
+    let mut line = 0;
+    while line < count {
+        if !lowers(lines, line) {
+            line_form(sheet, card, rows, forms, line);
         }
-        j += 1;
+        line += 1;
     }
 }
 
-// The forms of what the lines of kind k that lower the norm leave.
+// The forms of what the lines of a kind that lower the norm leave.
 pub fn kind_forms(
-    s: &[u8],
+    sheet: &[u8],
     card: Card,
-    kinds: &[usize],
-    lowers: &[bool],
+    lines: &[u8],
     rows: &[u32],
     forms: &mut [u64],
-    k: usize,
+    kind: usize,
 )
-    requires { ⌜ Reads (now s) card ⌝ }
-    requires { ⌜ (length (now kinds) ≡ card .lines) × (length (now lowers) ≡ card .lines) ⌝ }
+    requires { ⌜ Reads (now sheet) card ⌝ }
+    requires { ⌜ linesIn (now lines) ≡ card .lines ⌝ }
     requires { ⌜ (length (now rows) ≡ 1024) × (length (now forms) ≡ 8192) ⌝ }
-    requires { ⌜ Atoms (now rows) (kindCount (now s)) ⌝ }
+    requires { ⌜ Atoms (now rows) (kindCount (now sheet)) ⌝ }
     requires { ⌜ Under (2 ^ 63) (now forms) ⌝ }
-    ensures { λ _. ⌜ KindForms (now (s .entry)) (now (rows .entry)) (now (kinds .entry)) (now (lowers .entry)) k (now (forms .entry)) (now (forms .exit)) ⌝ }
+    ensures { λ _. ⌜ KindForms (now (sheet .entry)) (now (rows .entry)) (now (lines .entry)) kind (now (forms .entry)) (now (forms .exit)) ⌝ }
 {
-    let lines = card.lines;
-    let mut j = 0;
-    while j < lines {
-        let kind = kinds[j];
-        if kind == k {
-            if lowers[j] {
-                line_form(s, card, rows, forms, j);
+    let count = card.lines;
+    let mut line = 0;
+    while line < count {
+        if kind_of(lines, line) == kind {
+            if lowers(lines, line) {
+                line_form(sheet, card, rows, forms, line);
             }
         }
-        j += 1;
+        line += 1;
     }
 }

@@ -1,178 +1,135 @@
-// The row of a kind at stage t + 1: the first candidate that passes, or the kind itself.
-use products::expansion::one_token;
-use products::product::passes;
-use sheet::Card;
+// The row of a kind at a stage: the first candidate that passes, or the kind itself.
+use row_tests::expansion::one_token;
+use row_tests::passes::passes;
 use tables::effect::RowCandidate;
 use tables::effect::candidate;
+use tables::lines::code_of;
+use tables::lines::kind_of;
+use tables::lines::lowers;
 use tables::table::form_of;
 use tables::table::is_atom;
-use weights::order::earlier;
+use tables::table::set_row;
 ghost use mathlib.Core.Path.{_≡_};
 ghost use mathlib.Core.Bool.{true};
+ghost use mathlib.Core.List.{List};
 ghost use mathlib.Core.Logic.{_↔_};
-ghost use Prim.Native.Nat.{ℕ, suc, _*_, _^_, _≤_, _<_};
+ghost use Prim.Native.Nat.{ℕ, suc, _^_, _≤_, _<_};
 ghost use lib.ListN.{length};
-ghost use Rattle.model.specs.Field.{at};
 ghost use Rattle.model.specs.Base.{stageRow};
+ghost use Rattle.model.specs.Limits.{mostKinds};
 ghost use Rattle.model.specs.Sheet.{cardOf};
 ghost use Rattle.tables.specs.Table.{Under, rowIn, IsCandidate};
+ghost use Rattle.tables.specs.Lines.{linesIn, kindIn, LineTable};
+ghost use Rattle.tables.specs.Match.{MatchTables};
 ghost use Rattle.tables.specs.Class.{KindMarks};
+ghost use Rattle.rows.specs.Forms.{OthersKept};
 ghost use Rattle.rows.specs.Row.{LowersKind, Suits};
-ghost use Rattle.rows.specs.StageRows.{StageGiven, RowSought};
+ghost use Rattle.rows.specs.StageRows.{StageGiven, RowsBefore, RowSought};
 
-// A line of kind k that lowers the norm; there is one.
-fn lowering_line(kinds: &[usize], lowers: &[bool], k: usize) -> usize
-    requires { ⌜ length (now lowers) ≡ length (now kinds) ⌝ }
-    requires { ⌜ ((l : ℕ) × LowersKind (now kinds) (now lowers) k l) ⌝ }
-    ensures { λ r. ⌜ LowersKind (now (kinds .entry)) (now (lowers .entry)) k r ⌝ }
+// A line of a kind that lowers the norm; there is one.
+fn lowering_line(lines: &[u8], kind: usize) -> usize
+    requires { ⌜ ((l : ℕ) × LowersKind (now lines) kind l) ⌝ }
+    ensures { λ r. ⌜ LowersKind (now (lines .entry)) kind r ⌝ }
 {
-    let mut l = 0;
-    while l < kinds.len() {
-        let kind = kinds[l];
-        if kind == k {
-            if lowers[l] {
-                return l;
+    let count = lines.len() / 3;
+    let mut line = 0;
+    while line < count {
+        if kind_of(lines, line) == kind {
+            if lowers(lines, line) {
+                return line;
             }
         }
-        l += 1;
+        line += 1;
     }
-    l
+    line
 }
 
-// Whether line m has line l's class, lowers the norm, reads line l's code, and is of an atom earlier than k.
-fn suits(
-    norms: &[u32; 32],
-    kinds: &[usize],
-    codes: &[usize],
-    lowers: &[bool],
-    classes: &[usize],
-    rows: &[u32],
-    k: usize,
-    l: usize,
-    m: usize,
-) -> bool
-    requires { ⌜ (length (now codes) ≡ length (now kinds)) × (length (now lowers) ≡ length (now kinds)) × (length (now rows) ≡ 1024) ⌝ }
-    requires { ⌜ length (now classes) ≡ length (now kinds) ⌝ }
-    requires { ⌜ ((j : ℕ) → j < length (now kinds) → at (now kinds) j < 32) ⌝ }
-    requires { ⌜ (k < 32) × (l < length (now kinds)) × (m < length (now kinds)) ⌝ }
-    ensures { λ r. ⌜ (r ≡ true) ↔ Suits (now (norms .entry)) (now (kinds .entry)) (now (codes .entry)) (now (lowers .entry)) (now (classes .entry)) (now (rows .entry)) k l m ⌝ }
+// Whether the other line has the own line's class, lowers the norm, reads the own line's code, and is of an atom.
+fn suits(lines: &[u8], classes: &[u8], rows: &[u32], own: usize, other: usize) -> bool
+    requires { ⌜ LineTable (now lines) × (linesIn (now lines) ≤ length (now classes)) × (length (now rows) ≡ 1024) ⌝ }
+    requires { ⌜ (own < linesIn (now lines)) × (other < linesIn (now lines)) ⌝ }
+    ensures { λ r. ⌜ (r ≡ true) ↔ Suits (now (lines .entry)) (now (classes .entry)) (now (rows .entry)) own other ⌝ }
 {
-    let class = classes[l];
-    let its = classes[m];
+    let class = classes[own];
+    let its = classes[other];
     if its != class {
         return false;
     }
-    if lowers[m] {
-        let code = codes[l];
-        let other = codes[m];
-        if other == code {
-            let kind = kinds[m];
-            if earlier(norms, k, kind) {
-                return is_atom(rows, kind);
-            }
+    if lowers(lines, other) {
+        if code_of(lines, other) == code_of(lines, own) {
+            return is_atom(rows, kind_of(lines, other));
         }
     }
     false
 }
 
-// The candidate that lines l and m tell: m's kind with what l leaves, less what m leaves, in atoms.
-fn told(kinds: &[usize], forms: &[u64], l: usize, m: usize) -> RowCandidate
-    requires { ⌜ (length (now kinds) * 32 ≤ length (now forms)) × Under (2 ^ 63) (now forms) ⌝ }
-    requires { ⌜ (l < length (now kinds)) × (m < length (now kinds)) × (at (now kinds) m < 32) ⌝ }
-    ensures { λ r. ⌜ IsCandidate (rowIn (now (forms .entry)) l) (rowIn (now (forms .entry)) m) (at (now (kinds .entry)) m) (r .found) (r .counts) ⌝ }
+// The candidate that two lines tell: the other's kind with what the own line leaves, less what the other leaves, in atoms.
+fn told(lines: &[u8], forms: &[u64], own: usize, other: usize) -> RowCandidate
+    requires { ⌜ LineTable (now lines) × (length (now forms) ≡ 8192) × Under (2 ^ 63) (now forms) ⌝ }
+    requires { ⌜ (own < linesIn (now lines)) × (other < linesIn (now lines)) ⌝ }
+    ensures { λ r. ⌜ IsCandidate (rowIn (now (forms .entry)) own) (rowIn (now (forms .entry)) other) (kindIn (now (lines .entry)) other) (r .found) (r .counts) ⌝ }
 {
-    let kind = kinds[m];
-    candidate(form_of(forms, l), form_of(forms, m), kind)
+    let kind = kind_of(lines, other);
+    candidate(form_of(forms, own), form_of(forms, other), kind)
 }
 
-// The row of kind k, of those that its lines tell.
+// Sets the row of a kind, of those that its lines tell: each candidate is set in the table and tested there. Where none passes, the kind is its own row.
 fn told_row(
-    s: &[u8],
-    card: Card,
-    norms: [u32; 32],
-    kinds: &[usize],
-    codes: &[usize],
-    lowers: &[bool],
-    t: usize,
-    previous: &[u32],
-    classes: &[usize],
+    lines: &[u8],
+    classes: &[u8],
     marks: &[bool],
-    rows: &[u32],
+    rows: &mut [u32],
     forms: &[u64],
-    k: usize,
-) -> [u32; 32]
-    requires { ⌜ StageGiven (now s) card norms (now kinds) (now codes) (now lowers) t (now previous) (now classes) ⌝ }
-    requires { ⌜ (k < card .kinds) × (length (now rows) ≡ 1024) × (length (now forms) ≡ 8192) × Under (2 ^ 63) (now forms) ⌝ }
-    requires { ⌜ RowSought (now s) t k (now rows) (now forms) ⌝ }
-    requires { ⌜ KindMarks (now kinds) (now classes) (now marks) ⌝ }
-    ensures { λ r. ⌜ at r ≡ stageRow (cardOf (now (s .entry))) (suc t) k ⌝ }
+    kind: usize,
+)
+    requires { ⌜ MatchTables (now lines) (now rows) (now forms) ⌝ }
+    requires { ⌜ (kind < mostKinds) × (linesIn (now lines) ≤ length (now classes)) ⌝ }
+    requires { ⌜ KindMarks (now lines) (now classes) (now marks) ⌝ }
+    requires { ⌜ ((l : ℕ) × LowersKind (now lines) kind l) ⌝ }
+    ensures { λ _. ⌜ OthersKept kind (now (rows .entry)) (now (rows .exit)) ⌝ }
+    ensures { λ _. ⌜ ((s : List ℕ) (t : ℕ) → StageGiven s t (now (lines .entry)) (now (classes .entry)) → RowSought s t kind (now (rows .entry)) (now (forms .entry)) → rowIn (now (rows .exit)) kind ≡ stageRow (cardOf s) (suc t) kind) ⌝ }
 {
-    let l = lowering_line(kinds, lowers, k);
-    let mut m = 0;
-    while m < kinds.len() {
-        if suits(&norms, kinds, codes, lowers, classes, rows, k, l, m) {
-            let x = told(kinds, forms, l, m);
-            if x.found {
-                let counts = x.counts;
-                if passes(kinds, codes, forms, lowers, t, marks, k, &counts) {
-                    return counts;
+    let count = lines.len() / 3;
+    let own = lowering_line(lines, kind);
+    let mut other = 0;
+    while other < count {
+        if suits(lines, classes, rows, own, other) {
+            let tried = told(lines, forms, own, other);
+            if tried.found {
+                let counts = tried.counts;
+                set_row(rows, kind, &counts);
+                if passes(lines, marks, rows, forms, kind) {
+                    return;
                 }
             }
         }
-        m += 1;
+        other += 1;
     }
-    one_token(k)
+    let token = one_token(kind);
+    set_row(rows, kind, &token);
 }
 
-// Whether kind k was an atom at stage t, if that is one from 1 up.
-fn was_atom(t: usize, previous: &[u32], k: usize) -> bool
-    requires { ⌜ (k < 32) × (length (now previous) ≡ 1024) ⌝ }
-    ensures { λ r. ⌜ (r ≡ true) ↔ ((0 < t) × (rowIn (now (previous .entry)) k k ≡ 1)) ⌝ }
-{
-    if 0 < t {
-        return is_atom(previous, k);
-    }
-    false
-}
-
-// The row of kind k. An atom stays an atom.
-pub fn row_of_kind(
-    s: &[u8],
-    card: Card,
-    norms: [u32; 32],
-    kinds: &[usize],
-    codes: &[usize],
-    lowers: &[bool],
-    t: usize,
+// Sets the row of a kind. An atom of the stage before stays an atom.
+pub fn set_kind(
+    lines: &[u8],
     previous: &[u32],
-    classes: &[usize],
+    classes: &[u8],
     marks: &[bool],
-    rows: &[u32],
+    rows: &mut [u32],
     forms: &[u64],
-    k: usize,
-) -> [u32; 32]
-    requires { ⌜ StageGiven (now s) card norms (now kinds) (now codes) (now lowers) t (now previous) (now classes) ⌝ }
-    requires { ⌜ (k < card .kinds) × (length (now rows) ≡ 1024) × (length (now forms) ≡ 8192) × Under (2 ^ 63) (now forms) ⌝ }
-    requires { ⌜ RowSought (now s) t k (now rows) (now forms) ⌝ }
-    requires { ⌜ KindMarks (now kinds) (now classes) (now marks) ⌝ }
-    ensures { λ r. ⌜ at r ≡ stageRow (cardOf (now (s .entry))) (suc t) k ⌝ }
+    kind: usize,
+)
+    requires { ⌜ MatchTables (now lines) (now rows) (now forms) ⌝ }
+    requires { ⌜ (kind < mostKinds) × (linesIn (now lines) ≤ length (now classes)) × (length (now previous) ≡ 1024) ⌝ }
+    requires { ⌜ KindMarks (now lines) (now classes) (now marks) ⌝ }
+    requires { ⌜ ((l : ℕ) × LowersKind (now lines) kind l) ⌝ }
+    ensures { λ _. ⌜ OthersKept kind (now (rows .entry)) (now (rows .exit)) ⌝ }
+    ensures { λ _. ⌜ ((s : List ℕ) (t : ℕ) → StageGiven s t (now (lines .entry)) (now (classes .entry)) → RowsBefore s t (now (previous .entry)) → RowSought s t kind (now (rows .entry)) (now (forms .entry)) → rowIn (now (rows .exit)) kind ≡ stageRow (cardOf s) (suc t) kind) ⌝ }
 {
-    if was_atom(t, previous, k) {
-        return one_token(k);
+    if is_atom(previous, kind) {
+        let token = one_token(kind);
+        set_row(rows, kind, &token);
+        return;
     }
-    told_row(
-        s,
-        card,
-        norms,
-        kinds,
-        codes,
-        lowers,
-        t,
-        previous,
-        classes,
-        marks,
-        rows,
-        forms,
-        k,
-    )
+    told_row(lines, classes, marks, rows, forms, kind);
 }

@@ -11,36 +11,36 @@ ghost use Rattle.model.specs.Field.{unit, at};
 ghost use Rattle.model.specs.Sheet.{kindCount, lineOf};
 ghost use Rattle.second_reader.specs.Fields.{Fits, After};
 
-// "A field with a token of kind X may use a line of X": whether the field may use line j.
-pub fn may_use(s: &[u8], j: usize, a: &[usize; 32]) -> bool
-    requires { ⌜ (kindCount (now s) ≤ 32) × (j < 65536) ⌝ }
-    requires { ⌜ Fits (now s) 0 (now a) ⌝ }
-    ensures { λ r. ⌜ r ≡ ltb 0 (at (now (a .entry)) (lineOf (now (s .entry)) j .kind)) ⌝ }
+// "A field with a token of kind X may use a line of X": whether the field may use the line.
+pub fn may_use(sheet: &[u8], line: usize, field: &[usize; 32]) -> bool
+    requires { ⌜ (kindCount (now sheet) ≤ 32) × (line < 65536) ⌝ }
+    requires { ⌜ Fits (now sheet) 0 (now field) ⌝ }
+    ensures { λ r. ⌜ r ≡ ltb 0 (at (now (field .entry)) (lineOf (now (sheet .entry)) line .kind)) ⌝ }
 {
-    let k = line_kind(s, j);
-    if k < 32 { 0 < a[k] } else { false }
+    let kind = line_kind(sheet, line);
+    if kind < 32 { 0 < field[kind] } else { false }
 }
 
-// "A reply is a line of the same code that the other side may use": whether line j replies to the challenge by `line`.
-pub fn may_reply(s: &[u8], j: usize, line: usize, b: &[usize; 32]) -> bool
-    requires { ⌜ (kindCount (now s) ≤ 32) × (j < 65536) × (line < 65536) ⌝ }
-    requires { ⌜ Fits (now s) 0 (now b) ⌝ }
-    ensures { λ r. ⌜ r ≡ both (ltb 0 (at (now (b .entry)) (lineOf (now (s .entry)) j .kind))) (eqb (lineOf (now (s .entry)) j .code) (lineOf (now (s .entry)) line .code)) ⌝ }
+// "A reply is a line of the same code that the other side may use": whether the line replies to the challenge by the line `challenge`.
+pub fn may_reply(sheet: &[u8], line: usize, challenge: usize, field: &[usize; 32]) -> bool
+    requires { ⌜ (kindCount (now sheet) ≤ 32) × (line < 65536) × (challenge < 65536) ⌝ }
+    requires { ⌜ Fits (now sheet) 0 (now field) ⌝ }
+    ensures { λ r. ⌜ r ≡ both (ltb 0 (at (now (field .entry)) (lineOf (now (sheet .entry)) line .kind))) (eqb (lineOf (now (sheet .entry)) line .code) (lineOf (now (sheet .entry)) challenge .code)) ⌝ }
 {
-    if may_use(s, j, b) {
-        line_code(s, j) == line_code(s, line)
+    if may_use(sheet, line, field) {
+        line_code(sheet, line) == line_code(sheet, challenge)
     } else {
         false
     }
 }
 
-// What stands for tokens of kind k after line j is used: "one X goes, the counts come".
-fn count_after(s: &[u8], j: usize, k: usize, tokens: usize) -> usize
-    requires { ⌜ (kindCount (now s) ≤ 32) × (j < 65536) × (k < kindCount (now s)) × (tokens < 1000000) ⌝ }
-    ensures { λ r. ⌜ (r ≡ (tokens - unit (lineOf (now (s .entry)) j .kind) k) + lineOf (now (s .entry)) j .left k) × (r ≤ tokens + 255) ⌝ }
+// What stands for tokens of a kind after the line is used: "one X goes, the counts come".
+fn count_after(sheet: &[u8], line: usize, kind: usize, tokens: usize) -> usize
+    requires { ⌜ (kindCount (now sheet) ≤ 32) × (line < 65536) × (kind < kindCount (now sheet)) × (tokens < 1000000) ⌝ }
+    ensures { λ r. ⌜ (r ≡ (tokens - unit (lineOf (now (sheet .entry)) line .kind) kind) + lineOf (now (sheet .entry)) line .left kind) × (r ≤ tokens + 255) ⌝ }
 {
-    let left = line_left(s, j, k);
-    if k != line_kind(s, j) {
+    let left = line_left(sheet, line, kind);
+    if kind != line_kind(sheet, line) {
         return tokens + left;
     }
     if tokens == 0 {
@@ -49,18 +49,18 @@ fn count_after(s: &[u8], j: usize, k: usize, tokens: usize) -> usize
     tokens - 1 + left
 }
 
-// The field after line j is used.
-pub fn field_after(s: &[u8], j: usize, a: &[usize; 32]) -> [usize; 32]
-    requires { ⌜ (kindCount (now s) ≤ 32) × (j < 65536) ⌝ }
-    requires { ⌜ Fits (now s) 1 (now a) ⌝ }
-    ensures { λ r. ⌜ After (now (s .entry)) j (now (a .entry)) r ⌝ }
+// The field after the line is used.
+pub fn field_after(sheet: &[u8], line: usize, field: &[usize; 32]) -> [usize; 32]
+    requires { ⌜ (kindCount (now sheet) ≤ 32) × (line < 65536) ⌝ }
+    requires { ⌜ Fits (now sheet) 1 (now field) ⌝ }
+    ensures { λ r. ⌜ After (now (sheet .entry)) line (now (field .entry)) r ⌝ }
 {
-    let n = kinds(s);
-    let mut after = *a;
-    let mut k = 0;
-    while k < n {
-        after[k] = count_after(s, j, k, a[k]);
-        k += 1;
+    let n = kinds(sheet);
+    let mut after = *field;
+    let mut kind = 0;
+    while kind < n {
+        after[kind] = count_after(sheet, line, kind, field[kind]);
+        kind += 1;
     }
     after
 }

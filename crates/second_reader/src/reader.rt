@@ -6,99 +6,106 @@ ghost use Rattle.model.specs.Sheet.{byte, u16At, kindCount, lineCount, fieldCou
 ghost use Rattle.second_reader.specs.Fields.{Fits};
 
 // The byte as a number to count with.
-fn wide(x: u8) -> usize
-    ensures { λ r. ⌜ (r ≡ x) × (r < 256) ⌝ }
+fn wide(byte: u8) -> usize
+    ensures { λ r. ⌜ (r ≡ byte) × (r < 256) ⌝ }
 {
-    x as usize
+    byte as usize
 }
 
-// Byte i.
-fn byte_at(s: &[u8], i: usize) -> usize
-    ensures { λ r. ⌜ (r ≡ byte (now (s .entry)) i) × (r < 256) ⌝ }
+// The byte at a position.
+fn byte_at(sheet: &[u8], position: usize) -> usize
+    ensures { λ r. ⌜ (r ≡ byte (now (sheet .entry)) position) × (r < 256) ⌝ }
 {
-    if i < s.len() { wide(s[i]) } else { 0 }
+    if position < sheet.len() {
+        wide(sheet[position])
+    } else {
+        0
+    }
 }
 
-// The two bytes from i on, "low byte first".
-fn number_at(s: &[u8], i: usize) -> usize
-    requires { ⌜ i < 1000000000 ⌝ }
-    ensures { λ r. ⌜ (r ≡ u16At (now (s .entry)) i) × (r < 65536) ⌝ }
+// The two bytes from a position on, "low byte first".
+fn number_at(sheet: &[u8], position: usize) -> usize
+    requires { ⌜ position < 1000000000 ⌝ }
+    ensures { λ r. ⌜ (r ≡ u16At (now (sheet .entry)) position) × (r < 65536) ⌝ }
 {
-    byte_at(s, i) + 256 * byte_at(s, i + 1)
+    byte_at(sheet, position) + 256 * byte_at(sheet, position + 1)
 }
 
 // "kinds n"
-pub fn kinds(s: &[u8]) -> usize
-    ensures { λ r. ⌜ (r ≡ kindCount (now (s .entry))) × (r < 65536) ⌝ }
+pub fn kinds(sheet: &[u8]) -> usize
+    ensures { λ r. ⌜ (r ≡ kindCount (now (sheet .entry))) × (r < 65536) ⌝ }
 {
-    number_at(s, 0)
+    number_at(sheet, 0)
 }
 
 // "lines m"
-pub fn lines(s: &[u8]) -> usize
-    ensures { λ r. ⌜ (r ≡ lineCount (now (s .entry))) × (r < 65536) ⌝ }
+pub fn lines(sheet: &[u8]) -> usize
+    ensures { λ r. ⌜ (r ≡ lineCount (now (sheet .entry))) × (r < 65536) ⌝ }
 {
-    number_at(s, 4)
+    number_at(sheet, 4)
 }
 
 // "fields f"
-pub fn fields(s: &[u8]) -> usize
-    ensures { λ r. ⌜ (r ≡ fieldCount (now (s .entry))) × (r < 65536) ⌝ }
+pub fn fields(sheet: &[u8]) -> usize
+    ensures { λ r. ⌜ (r ≡ fieldCount (now (sheet .entry))) × (r < 65536) ⌝ }
 {
-    number_at(s, 6)
+    number_at(sheet, 6)
 }
 
-// Where line j starts; for j the number of lines, where the fields start.
-fn line_start(s: &[u8], j: usize) -> usize
-    requires { ⌜ (kindCount (now s) ≤ 32) × (j < 65536) ⌝ }
-    ensures { λ r. ⌜ (r ≡ linesOffset + j * (2 + kindCount (now (s .entry)))) × (r < 10000000) ⌝ }
+// Where the line of a number starts; for the number of lines, where the fields start.
+fn line_start(sheet: &[u8], line: usize) -> usize
+    requires { ⌜ (kindCount (now sheet) ≤ 32) × (line < 65536) ⌝ }
+    ensures { λ r. ⌜ (r ≡ linesOffset + line * (2 + kindCount (now (sheet .entry)))) × (r < 10000000) ⌝ }
 {
-    20 + j * (2 + kinds(s))
+    20 + line * (2 + kinds(sheet))
 }
 
-// The kind of line j.
-pub fn line_kind(s: &[u8], j: usize) -> usize
-    requires { ⌜ (kindCount (now s) ≤ 32) × (j < 65536) ⌝ }
-    ensures { λ r. ⌜ r ≡ lineOf (now (s .entry)) j .kind ⌝ }
+// The kind of a line.
+pub fn line_kind(sheet: &[u8], line: usize) -> usize
+    requires { ⌜ (kindCount (now sheet) ≤ 32) × (line < 65536) ⌝ }
+    ensures { λ r. ⌜ r ≡ lineOf (now (sheet .entry)) line .kind ⌝ }
 {
-    byte_at(s, line_start(s, j))
+    byte_at(sheet, line_start(sheet, line))
 }
 
-// The code of line j.
-pub fn line_code(s: &[u8], j: usize) -> usize
-    requires { ⌜ (kindCount (now s) ≤ 32) × (j < 65536) ⌝ }
-    ensures { λ r. ⌜ r ≡ lineOf (now (s .entry)) j .code ⌝ }
+// The code of a line.
+pub fn line_code(sheet: &[u8], line: usize) -> usize
+    requires { ⌜ (kindCount (now sheet) ≤ 32) × (line < 65536) ⌝ }
+    ensures { λ r. ⌜ r ≡ lineOf (now (sheet .entry)) line .code ⌝ }
 {
-    byte_at(s, line_start(s, j) + 1)
+    byte_at(sheet, line_start(sheet, line) + 1)
 }
 
-// How many tokens of kind k, one of the card's, line j leaves.
-pub fn line_left(s: &[u8], j: usize, k: usize) -> usize
-    requires { ⌜ (kindCount (now s) ≤ 32) × (j < 65536) × (k < kindCount (now s)) ⌝ }
-    ensures { λ r. ⌜ (r ≡ lineOf (now (s .entry)) j .left k) × (r < 256) ⌝ }
+// How many tokens of a kind, one of the card's, a line leaves.
+pub fn line_left(sheet: &[u8], line: usize, kind: usize) -> usize
+    requires { ⌜ (kindCount (now sheet) ≤ 32) × (line < 65536) × (kind < kindCount (now sheet)) ⌝ }
+    ensures { λ r. ⌜ (r ≡ lineOf (now (sheet .entry)) line .left kind) × (r < 256) ⌝ }
 {
-    byte_at(s, line_start(s, j) + 2 + k)
+    byte_at(sheet, line_start(sheet, line) + 2 + kind)
 }
 
-// How many tokens of kind k, one of the card's, field i has.
-pub fn field_count(s: &[u8], i: usize, k: usize) -> usize
-    requires { ⌜ (kindCount (now s) ≤ 32) × (i < 65536) × (k < kindCount (now s)) ⌝ }
-    ensures { λ r. ⌜ (r ≡ fieldOf (now (s .entry)) i k) × (r < 65536) ⌝ }
+// How many tokens of a kind, one of the card's, the field of a number has.
+pub fn field_count(sheet: &[u8], number: usize, kind: usize) -> usize
+    requires { ⌜ (kindCount (now sheet) ≤ 32) × (number < 65536) × (kind < kindCount (now sheet)) ⌝ }
+    ensures { λ r. ⌜ (r ≡ fieldOf (now (sheet .entry)) number kind) × (r < 65536) ⌝ }
 {
-    number_at(s, line_start(s, lines(s)) + 2 * kinds(s) * i + 2 * k)
+    number_at(
+        sheet,
+        line_start(sheet, lines(sheet)) + 2 * kinds(sheet) * number + 2 * kind,
+    )
 }
 
-// Field i, with room for 200 rounds.
-pub fn field(s: &[u8], i: usize) -> [usize; 32]
-    requires { ⌜ (kindCount (now s) ≤ 32) × (i < 65536) ⌝ }
-    ensures { λ r. ⌜ (at r ≡ fieldOf (now (s .entry)) i) × Fits (now (s .entry)) 200 r ⌝ }
+// The field of a number, with room for 200 rounds.
+pub fn field(sheet: &[u8], number: usize) -> [usize; 32]
+    requires { ⌜ (kindCount (now sheet) ≤ 32) × (number < 65536) ⌝ }
+    ensures { λ r. ⌜ (at r ≡ fieldOf (now (sheet .entry)) number) × Fits (now (sheet .entry)) 200 r ⌝ }
 {
-    let n = kinds(s);
+    let n = kinds(sheet);
     let mut counts = [0usize; 32];
-    let mut k = 0;
-    while k < n {
-        counts[k] = field_count(s, i, k);
-        k += 1;
+    let mut kind = 0;
+    while kind < n {
+        counts[kind] = field_count(sheet, number, kind);
+        kind += 1;
     }
     counts
 }

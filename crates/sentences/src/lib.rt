@@ -3,7 +3,7 @@
 // The table of sentences.
 mod table;
 
-// Its sentences, written.
+// The sentence of a refusal, written.
 mod sentence;
 
 pub use sentence::put_sentence;

@@ -153,15 +153,15 @@ const TABLE: [Row; ROWS] = [
     },
 ];
 
-// Row i of the table.
-fn entry(i: usize) -> Row
-    requires { ⌜ i < length sentences ⌝ }
-    ensures { λ r. ⌜ r ≡ rowOf (getD sentences i unsaid) ⌝ }
+// The row of the table at an index.
+fn entry(index: usize) -> Row
+    requires { ⌜ index < length sentences ⌝ }
+    ensures { λ r. ⌜ r ≡ rowOf (getD sentences index unsaid) ⌝ }
 {
-    TABLE[i]
+    TABLE[index]
 }
 
-// Whether a row has the number and the place.
+// Whether a row has a number and a place.
 fn is_of(row: Row, number: usize, place: usize) -> bool
     ensures { λ r. ⌜ r ≡ both (eqb (row .number) number) (among (row .places) place) ⌝ }
 {
@@ -176,7 +176,7 @@ fn is_of(row: Row, number: usize, place: usize) -> bool
     }
 }
 
-// The first row that has them; one with no words where there is none.
+// The first row that has a number and a place; one with no words where no row has them.
 pub fn find_row(number: usize, place: usize) -> Row
     ensures { λ r. ⌜ r ≡ rowOf (pick (has number place) sentences unsaid) ⌝ }
 {

@@ -73,76 +73,76 @@ impl Card {
     }
 
     // The header's numbers, whatever they are.
-    pub fn of_header(s: &[u8]) -> Card
-        ensures { λ r. ⌜ r ≡ headerOf (now (s .entry)) ⌝ }
+    pub fn of_header(sheet: &[u8]) -> Card
+        ensures { λ r. ⌜ r ≡ headerOf (now (sheet .entry)) ⌝ }
     {
         Card {
-            kinds: u16_at(s, 0),
-            codes: u16_at(s, 2),
-            lines: u16_at(s, 4),
-            fields: u16_at(s, 6),
+            kinds: u16_at(sheet, 0),
+            codes: u16_at(sheet, 2),
+            lines: u16_at(sheet, 4),
+            fields: u16_at(sheet, 6),
         }
     }
 
-    // Where line j starts; for j the number of lines, where the fields start.
-    pub fn line_start(self, j: usize) -> usize
-        requires { ⌜ (self .kinds ≤ mostKinds) × (j ≤ mostLines) ⌝ }
-        ensures { λ r. ⌜ (r ≡ linesOffset + j * (2 + self .kinds)) × (r < 65536) ⌝ }
+    // Where a line starts; for the number of lines, where the fields start.
+    pub fn line_start(self, line: usize) -> usize
+        requires { ⌜ (self .kinds ≤ mostKinds) × (line ≤ mostLines) ⌝ }
+        ensures { λ r. ⌜ (r ≡ linesOffset + line * (2 + self .kinds)) × (r < 65536) ⌝ }
     {
-        Card::HEADER + j * (2 + self.kinds)
+        Card::HEADER + line * (2 + self.kinds)
     }
 
-    // Where field i starts; for i the number of fields, where the sheet ends.
-    pub fn field_start(self, i: usize) -> usize
-        requires { ⌜ (self .kinds ≤ mostKinds) × (self .lines ≤ mostLines) × (i ≤ mostFields) ⌝ }
-        ensures { λ r. ⌜ (r ≡ linesOffset + self .lines * (2 + self .kinds) + 2 * self .kinds * i) × (r < 65536) ⌝ }
+    // Where a field starts; for the number of fields, where the sheet ends.
+    pub fn field_start(self, field: usize) -> usize
+        requires { ⌜ (self .kinds ≤ mostKinds) × (self .lines ≤ mostLines) × (field ≤ mostFields) ⌝ }
+        ensures { λ r. ⌜ (r ≡ linesOffset + self .lines * (2 + self .kinds) + 2 * self .kinds * field) × (r < 65536) ⌝ }
     {
-        self.line_start(self.lines) + 2 * self.kinds * i
+        self.line_start(self.lines) + 2 * self.kinds * field
     }
 
-    // The kind of line j.
-    pub fn line_kind(self, s: &[u8], j: usize) -> usize
-        requires { ⌜ Reads (now s) self ⌝ }
-        requires { ⌜ j < self .lines ⌝ }
-        ensures { λ r. ⌜ r ≡ lineOf (now (s .entry)) j .kind ⌝ }
+    // The kind of a line.
+    pub fn line_kind(self, sheet: &[u8], line: usize) -> usize
+        requires { ⌜ Reads (now sheet) self ⌝ }
+        requires { ⌜ line < self .lines ⌝ }
+        ensures { λ r. ⌜ r ≡ lineOf (now (sheet .entry)) line .kind ⌝ }
     {
-        byte_at(s, self.line_start(j))
+        byte_at(sheet, self.line_start(line))
     }
 
-    // The code of line j.
-    pub fn line_code(self, s: &[u8], j: usize) -> usize
-        requires { ⌜ Reads (now s) self ⌝ }
-        requires { ⌜ j < self .lines ⌝ }
-        ensures { λ r. ⌜ r ≡ lineOf (now (s .entry)) j .code ⌝ }
+    // The code of a line.
+    pub fn line_code(self, sheet: &[u8], line: usize) -> usize
+        requires { ⌜ Reads (now sheet) self ⌝ }
+        requires { ⌜ line < self .lines ⌝ }
+        ensures { λ r. ⌜ r ≡ lineOf (now (sheet .entry)) line .code ⌝ }
     {
-        byte_at(s, self.line_start(j) + 1)
+        byte_at(sheet, self.line_start(line) + 1)
     }
 
-    // The counts of line j: the part of the sheet's own bytes that starts two bytes into the line.
-    pub fn line_counts(self, s: &[u8], j: usize) -> &[u8]
-        requires { ⌜ Reads (now s) self ⌝ }
-        requires { ⌜ j < self .lines ⌝ }
-        ensures { λ r. ⌜ now r ≡ lineCounts (now (s .entry)) j ⌝ }
+    // The counts of a line: the part of the sheet's own bytes that starts two bytes into the line.
+    pub fn line_counts(self, sheet: &[u8], line: usize) -> &[u8]
+        requires { ⌜ Reads (now sheet) self ⌝ }
+        requires { ⌜ line < self .lines ⌝ }
+        ensures { λ r. ⌜ now r ≡ lineCounts (now (sheet .entry)) line ⌝ }
     {
-        let start = self.line_start(j) + 2;
+        let start = self.line_start(line) + 2;
         let end = start + self.kinds;
-        &s[start..end]
+        &sheet[start..end]
     }
 
-    // Field i by value, 0 past the card's kinds.
-    pub fn field(self, s: &[u8], i: usize) -> [u32; Card::KINDS]
-        requires { ⌜ Reads (now s) self ⌝ }
-        requires { ⌜ i < self .fields ⌝ }
-        ensures { λ r. ⌜ r ≡ fieldCounts (now (s .entry)) i ⌝ }
+    // A field by value, 0 past the card's kinds.
+    pub fn field(self, sheet: &[u8], field: usize) -> [u32; Card::KINDS]
+        requires { ⌜ Reads (now sheet) self ⌝ }
+        requires { ⌜ field < self .fields ⌝ }
+        ensures { λ r. ⌜ r ≡ fieldCounts (now (sheet .entry)) field ⌝ }
     {
         let kinds = self.kinds;
-        let start = self.field_start(i);
-        let mut f = [0u32; Card::KINDS];
-        let mut k = 0;
-        while k < kinds {
-            f[k] = u16_at(s, start + 2 * k) as u32;
-            k += 1;
+        let start = self.field_start(field);
+        let mut counts = [0u32; Card::KINDS];
+        let mut kind = 0;
+        while kind < kinds {
+            counts[kind] = u16_at(sheet, start + 2 * kind) as u32;
+            kind += 1;
         }
-        f
+        counts
     }
 }

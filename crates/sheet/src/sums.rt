@@ -3,11 +3,11 @@ ghost use mathlib.Core.Path.{_≡_};
 ghost use Prim.Native.Nat.{_<_};
 ghost use Rattle.sheet.specs.Sum.{Addable, plus};
 
-// The byte as a number to add.
-fn wide(x: u8) -> u32
-    ensures { λ r. ⌜ (r ≡ x) × (r < 256) ⌝ }
+// A byte as a number to add.
+fn wide(value: u8) -> u32
+    ensures { λ r. ⌜ (r ≡ value) × (r < 256) ⌝ }
 {
-    x as u32
+    value as u32
 }
 
 // A line's counts are added to the field's, kind by kind.

@@ -8,7 +8,7 @@ use Rattle.model.specs.Limits.{mostKinds, mostTokens}
 use Rattle.model.specs.Shelf.{entry}
 use Rattle.theory.proofs.Exec.{tells-eq}
 use Rattle.theory.proofs.Lists.{tells-below}
-use Rattle.theory.proofs.Numbering.{entry-most}
+use Rattle.theory.proofs.Entries.{entry-most}
 use Rattle.shelf.specs.Rule.{tableEntry, ruled, obeysRule}
 
 module _ (table : List ℕ) (obeys : T (obeysRule table)) where

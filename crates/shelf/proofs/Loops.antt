@@ -11,7 +11,8 @@ use Rattle.model.specs.Limits.{mostKinds, mostTokens}
 use Rattle.model.specs.Shelf.{entry, listed, numberIn, fieldIn}
 use Rattle.theory.proofs.Field.{unit-same, unit-other}
 use Rattle.theory.proofs.Listing.{total, Once, listed-total}
-use Rattle.theory.proofs.Numbering.{number-has, number-kind, number-end, entry-next, entry-empty, entry-none, field-none, field-left, field-more}
+use Rattle.theory.proofs.Entries.{entry-next, entry-empty, entry-none}
+use Rattle.theory.proofs.Numbering.{number-has, number-kind, number-end, field-none, field-left, field-more}
 use Rattle.theory.proofs.Shelves.{entries-fit}
 use Rattle.shelf.specs.Kinds.{InOrder}
 

@@ -18,6 +18,6 @@ ruled table zero (suc t) = 0
 ruled table (suc k) zero = tableEntry table k zero
 ruled table (suc k) (suc t) = tableEntry table k (suc t) + tableEntry table (suc k) t
 
--- Whether every entry is so.
+-- Whether every entry of a table is what the rule asks of it.
 unfoldable pub obeysRule : List ℕ → Bool
 obeysRule table = all (λ k. all (λ t. eqb (tableEntry table k t) (ruled table k t)) (below (suc mostTokens))) (below (suc mostKinds))

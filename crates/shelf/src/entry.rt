@@ -18,20 +18,20 @@ pub fn entries() -> [u64; 561]
     TABLE
 }
 
-// "how many fields there are" of t tokens of k kinds.
-pub fn entry_of(k: usize, t: usize) -> u64
-    requires { ⌜ (k ≤ mostKinds) × (t ≤ mostTokens) ⌝ }
-    ensures { λ r. ⌜ r ≡ entry k t ⌝ }
+// "how many fields there are" of so many tokens of so many kinds.
+pub fn entry_of(kinds: usize, tokens: usize) -> u64
+    requires { ⌜ (kinds ≤ mostKinds) × (tokens ≤ mostTokens) ⌝ }
+    ensures { λ r. ⌜ r ≡ entry kinds tokens ⌝ }
 {
     let table = entries();
-    entry_in(&table, k, t)
+    entry_in(&table, kinds, tokens)
 }
 
-// The same, of the table that the caller has.
-pub fn entry_in(table: &[u64; 561], k: usize, t: usize) -> u64
-    requires { ⌜ (k ≤ mostKinds) × (t ≤ mostTokens) ⌝ }
+// The entry for so many kinds and tokens, of the table that the caller has.
+pub fn entry_in(table: &[u64; 561], kinds: usize, tokens: usize) -> u64
+    requires { ⌜ (kinds ≤ mostKinds) × (tokens ≤ mostTokens) ⌝ }
     requires { ⌜ T (obeysRule (now table)) ⌝ }
-    ensures { λ r. ⌜ r ≡ entry k t ⌝ }
+    ensures { λ r. ⌜ r ≡ entry kinds tokens ⌝ }
 {
-    table[k * SIZES + t]
+    table[kinds * SIZES + tokens]
 }

@@ -23,7 +23,7 @@ pub fn field_of(kinds: &[usize], size: usize, number: u64) -> [u16; 32]
     field_in(&table, kinds, size, number)
 }
 
-// The same, by the table that the caller has.
+// The field of a number among those of a size, over kinds in number order, by the table that the caller has.
 fn field_in(table: &[u64; 561], kinds: &[usize], size: usize, number: u64) -> [u16; 32]
     requires { ⌜ InOrder (now kinds) ⌝ }
     requires { ⌜ size ≤ mostTokens ⌝ }

@@ -11,20 +11,20 @@ ghost use Rattle.shelf.specs.Rule.{obeysRule};
 use crate::entry::entries;
 use crate::entry::entry_in;
 
-// How many of the fields of t tokens of k kinds have fewer than this count of the last kind: the entry, less that for the tokens left beside the count.
-fn with_fewer(table: &[u64; 561], k: usize, t: usize, count: usize) -> u64
-    requires { ⌜ (1 ≤ k) × (k ≤ mostKinds) × (t ≤ mostTokens) × (count ≤ t) ⌝ }
+// How many of the fields of so many tokens of so many kinds have fewer than this count of the last kind: the entry, less that for the tokens left beside the count.
+fn with_fewer(table: &[u64; 561], kinds: usize, tokens: usize, count: usize) -> u64
+    requires { ⌜ (1 ≤ kinds) × (kinds ≤ mostKinds) × (tokens ≤ mostTokens) × (count ≤ tokens) ⌝ }
     requires { ⌜ T (obeysRule (now table)) ⌝ }
-    ensures { λ r. ⌜ r + entry k (t - count) ≡ entry k t ⌝ }
+    ensures { λ r. ⌜ r + entry kinds (tokens - count) ≡ entry kinds tokens ⌝ }
 {
-    entry_in(table, k, t) - entry_in(table, k, t - count)
+    entry_in(table, kinds, tokens) - entry_in(table, kinds, tokens - count)
 }
 
-// The count as a number of tokens.
-fn wide(x: u32) -> usize
-    ensures { λ r. ⌜ r ≡ x ⌝ }
+// A count as a number of tokens.
+fn wide(count: u32) -> usize
+    ensures { λ r. ⌜ r ≡ count ⌝ }
 {
-    x as usize
+    count as usize
 }
 
 // The number of a field among those of its size, which it is one of, over kinds in number order.
@@ -38,7 +38,7 @@ pub fn number_of(kinds: &[usize], field: &[u32; 32], size: usize) -> u64
     number_in(&table, kinds, field, size)
 }
 
-// The same, by the table that the caller has.
+// The number of a field among those of its size, over kinds in number order, by the table that the caller has.
 fn number_in(table: &[u64; 561], kinds: &[usize], field: &[u32; 32], size: usize) -> u64
     requires { ⌜ InOrder (now kinds) ⌝ }
     requires { ⌜ size ≤ mostTokens ⌝ }

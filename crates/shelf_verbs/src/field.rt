@@ -1,4 +1,5 @@
 // field SIZE NUMBER.
+use copies::bits16::widen_u16;
 use numbering::ShelfField;
 use numbering::field::shelf_field;
 use replies::reply::Outcome;
@@ -6,11 +7,10 @@ use replies::reply::Reply;
 use replies::reply::no_call;
 use replies::reply::refuse;
 use sheet::Card;
-use text::put_form_line;
+use text::put_counts_line;
 ghost use mathlib.Core.Path.{_≡_};
 ghost use Prim.Native.Nat.{_≤_};
-ghost use lib.ListN.{length, take};
-ghost use Rattle.model.specs.Limits.{mostKinds};
+ghost use lib.ListN.{length};
 ghost use Rattle.replies.specs.Told.{Tells};
 ghost use Rattle.shelf_verbs.specs.Texts.{shelfRoom};
 ghost use Rattle.replies.specs.Texts.{mostText};
@@ -23,35 +23,21 @@ fn shelf_room() -> [u16; 32]
     [0u16; 32]
 }
 
-// The same counts, of 64 bits each: they are the first of the array.
-fn widened(counts: &[u16]) -> [u64; 32]
-    requires { ⌜ length (now counts) ≤ mostKinds ⌝ }
-    ensures { λ r. ⌜ take (length (now (counts .entry))) r ≡ now (counts .entry) ⌝ }
-{
-    let mut wide = [0u64; 32];
-    let mut i = 0;
-    while i < counts.len() {
-        wide[i] = counts[i] as u64;
-        i += 1;
-    }
-    wide
-}
-
 // The counts of the field of a size and a number.
-pub fn numbered_field(s: &[u8], numbers: &[u64], out: &mut [u8]) -> Reply
+pub fn numbered_field(sheet: &[u8], numbers: &[u64], out: &mut [u8]) -> Reply
     requires { ⌜ mostText ≤ length (now out) ⌝ }
-    ensures { λ r. ⌜ Tells (fieldTold (now (s .entry)) (now (numbers .entry))) (now (out .entry)) (now (out .exit)) r ⌝ }
+    ensures { λ r. ⌜ Tells (fieldTold (now (sheet .entry)) (now (numbers .entry))) (now (out .entry)) (now (out .exit)) r ⌝ }
 {
     if numbers.len() != 2 {
         return no_call();
     }
     let mut counts = shelf_room();
-    match shelf_field(s, numbers[0] as usize, numbers[1], &mut counts) {
+    match shelf_field(sheet, numbers[0] as usize, numbers[1], &mut counts) {
         ShelfField::Written => {
-            let card = Card::of_header(s);
+            let card = Card::of_header(sheet);
             let n = card.kinds;
-            let wide = widened(&counts[..n]);
-            let length = put_form_line(out, 0, &wide[..n]);
+            let wide = widen_u16(&counts[..n]);
+            let length = put_counts_line(out, 0, &wide[..n]);
             Reply {
                 outcome: Outcome::Answered,
                 length,

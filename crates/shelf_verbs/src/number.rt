@@ -11,28 +11,28 @@ ghost use Prim.Native.Nat.{_+_, _≤_};
 ghost use lib.ListN.{length};
 ghost use Rattle.text.specs.Appended.{Appended};
 ghost use Rattle.replies.specs.Told.{Tells};
-ghost use Rattle.shelf_verbs.specs.Texts.{shelvedLine};
+ghost use Rattle.shelf_verbs.specs.Texts.{mostShelved, shelvedLine};
 ghost use Rattle.replies.specs.Texts.{mostText};
 ghost use Rattle.shelf_verbs.specs.Calls.{numberTold};
 
 // `size S number X`.
 fn put_shelved(out: &mut [u8], at: usize, size: usize, number: u64) -> usize
-    requires { ⌜ at + 54 ≤ length (now out) ⌝ }
-    ensures { λ r. ⌜ Appended 54 (now (out .entry)) at (shelvedLine size number) (now (out .exit)) r ⌝ }
+    requires { ⌜ at + mostShelved ≤ length (now out) ⌝ }
+    ensures { λ r. ⌜ Appended mostShelved (now (out .entry)) at (shelvedLine size number) (now (out .exit)) r ⌝ }
 {
     let last = put_two_labelled(out, at, b"size ", size as u64, b" number ", number);
     put_byte(out, last, b'\n')
 }
 
 // The size and the number of a field.
-pub fn field_number(s: &[u8], numbers: &[u64], out: &mut [u8]) -> Reply
+pub fn field_number(sheet: &[u8], numbers: &[u64], out: &mut [u8]) -> Reply
     requires { ⌜ mostText ≤ length (now out) ⌝ }
-    ensures { λ r. ⌜ Tells (numberTold (now (s .entry)) (now (numbers .entry))) (now (out .entry)) (now (out .exit)) r ⌝ }
+    ensures { λ r. ⌜ Tells (numberTold (now (sheet .entry)) (now (numbers .entry))) (now (out .entry)) (now (out .exit)) r ⌝ }
 {
     if numbers.len() != 1 {
         return no_call();
     }
-    match shelf_number(s, numbers[0] as usize) {
+    match shelf_number(sheet, numbers[0] as usize) {
         ShelfNumber::Given { size, number } => {
             let length = put_shelved(out, 0, size, number);
             Reply {

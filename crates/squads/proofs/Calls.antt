@@ -13,11 +13,18 @@ use Rattle.model.specs.Sheet.{kindCount, fieldCount, fieldOf}
 use Rattle.model.specs.Refusal.{refusal, firstOf, acceptChecks, Accepted, squadsChecks, check}
 use Rattle.model.specs.Answer.{refused, given, primeForm, squadCount, remainderForm, squadsOf, written}
 use Rattle.theory.proofs.Exec.{tells-eq}
-use Rattle.theory.proofs.Checks.{first-left, first-right, first-here, first-later, from-some, not-none}
+use Rattle.theory.proofs.Checks.{first-right, first-here, first-later, from-some, not-none}
 use Rattle.theory.proofs.Answers.{demand1}
 use Rattle.theory.proofs.Squads.{form-some}
 use Rattle.theory.proofs.Told.{gives}
-use Rattle.validation.proofs.Checking.{less-stops, past-stops, past-passes}
+use Rattle.validation.proofs.Checking.{less-stops}
+use Rattle.validation.proofs.FieldNumbers.{numbers-pass, fields-refused}
+use Rattle.validation.specs.Fields.{withFields}
+use Rattle.validation.specs.declared.checks.Checked.{Checked}
+use Rattle.validation.specs.declared.checks.Checked.the-variants.{Refused}
+use Rattle.sheet.proofs.Laws.{fields-are}
+use Rattle.acceptance.specs.Acceptance.{acceptanceOf}
+use Rattle.acceptance.proofs.Acceptances.{accepts, refused as refused-checks}
 
 -- The test for tokens, as it is read in the code.
 module _ (n : ℕ) (b : Bool) (e : b ≡ eqb n 0) where
@@ -35,47 +42,39 @@ module _ (s : List ℕ) (i j : ℕ) (buffer : List ℕ) where
   refuses : (k p : ℕ) → firstOf (squadsChecks s i j (length buffer)) ≡ refusal k p → Refuses k p
   refuses k p e = gives (demand1 s .squads-refused i j buffer k p e)
 
-  -- The sheet's own checks refuse.
-  pub sheet-refuses : (k p : ℕ) → firstOf (acceptChecks s) ≡ refusal k p → Refuses k p
-  unfolding squadsChecks
-  sheet-refuses k p e = refuses k p (first-left (acceptChecks s) _ k p e)
+  -- The checks of the sheet and of the two field numbers refuse.
+  pub fields-refuse : (checked : Checked) → checked ≡ acceptanceOf s .checked → (k p : ℕ) → withFields i j checked ≡ Refused k p → Refuses k p
+  unfolding Accepted squadsChecks
+  fields-refuse checked e k p r =
+      refuses k p
+      (fields-refused (acceptChecks s) _ (fieldCount s) i j k p checked (λ f. refused-checks s k p (sym e ∙ f)) (λ c f. let A = accepts s c (sym e ∙ f) in (A .accepted, fields-are (A .reads))) r)
 
-  module _ (ok : Accepted s) where
-    -- The call's own: 11 for each field, 17 and 12.
-    pub no-whole : fieldCount s ≤ i → Refuses 11 0
+  -- The call's own: 17 and 12.
+  module _ (ok : Accepted s) (h : i < fieldCount s) (l : j < fieldCount s) where
+    abbrev size : ℕ
+    size = tokens (kindCount s) (fieldOf s j)
+
+    pub empty-squad : size ≡ 0 → Refuses 17 1
     unfolding Accepted squadsChecks
-    no-whole h = refuses 11 0 (first-right (acceptChecks s) _ ok ∙ past-stops 11 0 _ i (fieldCount s) h)
+    empty-squad m =
+        refuses 17 1
+        (first-right (acceptChecks s) _ ok ∙ numbers-pass _ (fieldCount s) i j h l
+        ∙ first-here (check 17 1 (eqb size 0)) _ (tells-eq size 0 .test m))
 
-    module _ (h : i < fieldCount s) where
-      pub no-squad : fieldCount s ≤ j → Refuses 11 1
+    module _ (m : 0 < size) where
+      pub buffer-short : length buffer < kindCount s → Refuses 12 0
       unfolding Accepted squadsChecks
-      no-squad l = refuses 11 1 (first-right (acceptChecks s) _ ok ∙ past-passes 11 0 _ i (fieldCount s) h ∙ past-stops 11 1 _ j (fieldCount s) l)
+      buffer-short q =
+          refuses 12 0
+          (first-right (acceptChecks s) _ ok ∙ numbers-pass _ (fieldCount s) i j h l
+          ∙ first-later (check 17 1 (eqb size 0)) _ (not-none size m) ∙ less-stops 12 0 [] (length buffer) (kindCount s) q)
 
-      module _ (l : j < fieldCount s) where
-        abbrev size : ℕ
-        size = tokens (kindCount s) (fieldOf s j)
-
-        pub empty-squad : size ≡ 0 → Refuses 17 1
-        unfolding Accepted squadsChecks
-        empty-squad m =
-            refuses 17 1
-            (first-right (acceptChecks s) _ ok ∙ past-passes 11 0 _ i (fieldCount s) h ∙ past-passes 11 1 _ j (fieldCount s) l
-            ∙ first-here (check 17 1 (eqb size 0)) _ (tells-eq size 0 .test m))
-
-        module _ (m : 0 < size) where
-          pub buffer-short : length buffer < kindCount s → Refuses 12 0
-          unfolding Accepted squadsChecks
-          buffer-short q =
-              refuses 12 0
-              (first-right (acceptChecks s) _ ok ∙ past-passes 11 0 _ i (fieldCount s) h ∙ past-passes 11 1 _ j (fieldCount s) l
-              ∙ first-later (check 17 1 (eqb size 0)) _ (not-none size m) ∙ less-stops 12 0 [] (length buffer) (kindCount s) q)
-
-          -- The number, and the remainder written.
-          pub counted : (count : ℕ) (after : List ℕ) → kindCount s ≤ length buffer → count ≡ squadCount s i j → after ≡ written (remainderForm s i j) buffer
-              → (given count ≡ squadsOf s i j buffer .answer) × (after ≡ squadsOf s i j buffer .lent)
-          counted count after q e d =
-              let g = gives (demand1 s .squads-given i j buffer (demand1 s .squads-taken i j (length buffer) .1 (demand1 s .accepted .0 ok, h, l, m, q))) in
-              (ap given e ∙ g .0, d ∙ g .1)
+      -- The number, and the remainder written.
+      pub counted : (count : ℕ) (after : List ℕ) → kindCount s ≤ length buffer → count ≡ squadCount s i j → after ≡ written (remainderForm s i j) buffer
+          → (given count ≡ squadsOf s i j buffer .answer) × (after ≡ squadsOf s i j buffer .lent)
+      counted count after q e d =
+          let g = gives (demand1 s .squads-given i j buffer (demand1 s .squads-taken i j (length buffer) .1 (demand1 s .accepted .0 ok, h, l, m, q))) in
+          (ap given e ∙ g .0, d ∙ g .1)
 
 -- Two lists of counts that are the prime forms, divided.
 module _ (s : List ℕ) (i j : ℕ) (whole squad : List ℕ) (w : whole ≡ primeForm s i) (q : squad ≡ primeForm s j) where

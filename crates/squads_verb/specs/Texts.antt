@@ -5,11 +5,16 @@ use lib.ListN.{replicate}
 use Rattle.model.specs.Sheet.{kindCount}
 use Rattle.model.specs.Answer.{Answer, squadsOf}
 use Rattle.model.specs.Page.{bytes, number, newline, countsOf}
+use Rattle.text.specs.Lengths.{letters, mostLabelledCounts}
 use Rattle.replies.specs.Texts.{lentText}
 
 -- The room that is lent: a remainder on any card.
 unfoldable pub remainderRoom : List ℕ
 remainderRoom = replicate 32 0
+
+-- The most bytes of `squads Q = COUNTS`, by the number of its counts.
+abbrev pub mostSquads : ℕ → ℕ
+mostSquads n = mostLabelledCounts (letters "squads ") n
 
 -- squads WHOLE SQUAD: `squads Q = COUNTS`.
 unfoldable pub squadsLine : ℕ → List ℕ → List ℕ

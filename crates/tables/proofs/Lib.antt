@@ -1,10 +1,13 @@
 -- Laws that the code cites.
--- Laws over plain lists, for the loops: tables of counts, the order of kinds, marks of classes, lines that match.
+-- Laws over plain lists, for the loops: tables of counts, rows that are stored, candidates for a row, the order of kinds, marks of classes.
 pub mod Tables
+pub mod Stores
+pub mod Subtraction
 pub mod Sooner
-pub mod Marks
+pub mod Marking
+-- Lines that match, by tables and by anything that agrees with them.
 pub mod Matching
--- Rows of tables that are set; forms of lines; what tests of lines come to.
+-- What tests of lines come to.
 pub mod Answers
 pub mod LineLists
 pub mod Products

@@ -1,10 +1,10 @@
--- The tests of a product and the candidates that lines tell, over plain lists.
+-- The tests of a kind's row, over plain lists.
 -- Assumes nothing.
 use mathlib.Core.Bool.{Bool, true}
 use mathlib.Core.List.{List}
 use mathlib.Core.Logic.{_↔_}
-use mathlib.Core.Path.{_≡_, sym, _∙_, fun-ext}
-use Prim.Native.Nat.{ℕ, _+_, _*_, _≤_, _<_}
+use mathlib.Core.Path.{_≡_, sym, subst, _∙_, fun-ext}
+use Prim.Native.Nat.{ℕ, _+_, _*_, _<_}
 use native.Mathlib.Decide.{ℕ-discrete}
 use native.Mathlib.Omega.{arith}
 use borrow.Author.Tests.{eqb-true, eq-eqb}
@@ -14,9 +14,9 @@ use lib.Seq.{getD-set-same, getD-set-other}
 use Rattle.model.specs.Field.{Field, unit, at}
 use Rattle.model.specs.Limits.{mostKinds}
 use Rattle.theory.proofs.Field.{unit-same, unit-other}
-use Rattle.tables.specs.Table.{rowPart, rowIn, IsCandidate}
-use Rattle.tables.specs.Class.{MayUseAlike}
-use Rattle.tables.specs.Answer.{AllAnswered, Passes}
+use Rattle.tables.specs.Table.{rowPart, rowIn}
+use Rattle.tables.specs.Match.{Answered}
+use Rattle.tables.specs.Class.{AlikeIn, Passes}
 use Rattle.tables.proofs.Tables.{zero-counts, row-at, lent-row}
 
 -- One count set in a list of none.
@@ -28,23 +28,20 @@ token-counts n k h = fun-ext (λ j. go j (ℕ-discrete j k))
     go j (no d) = rw (getD-set-other {A = ℕ} (replicate n 0) k j 1 0 d, zero-counts n j, unit-other k j d)
 
 -- A kind that is its own row may use the lines that its row may.
-pub atom-uses : (kinds classes : List ℕ) (k : ℕ) {f : Field} → f ≡ unit k → MayUseAlike kinds classes (unit k) f
-atom-uses kinds classes k e = rw e (λ x. ((λ u. u), (λ u. u)))
+pub atom-uses : (lines classes : List ℕ) (k : ℕ) {f : Field} → f ≡ unit k → AlikeIn lines classes (unit k) f
+atom-uses lines classes k e = rw e (λ x. ((λ u. u), (λ u. u)))
+
+-- The test of the part of a table that holds a row is that of the row.
+pub uses-row : {r : Bool} {row : List ℕ} (rows lines classes : List ℕ) (k : ℕ) → row ≡ rowPart rows k → (r ≡ true) ↔ AlikeIn lines classes (unit k) (at row)
+    → (r ≡ true) ↔ AlikeIn lines classes (unit k) (rowIn rows k)
+uses-row {r} rows lines classes k e t = subst (λ (f : Field). (r ≡ true) ↔ AlikeIn lines classes (unit k) f) (lent-row rows k e) t
 
 -- The test of a kind's own count in its row.
 pub own-one : (rows : List ℕ) (k : ℕ) → k < mostKinds → (eqb (at rows (k * mostKinds + k)) 1 ≡ true) ↔ (rowIn rows k k ≡ 1)
 own-one rows k h =
     (λ t. row-at rows k k h ∙ eqb-true (at rows (k * mostKinds + k)) 1 t, λ e. eq-eqb (at rows (k * mostKinds + k)) 1 (sym (row-at rows k k h) ∙ e))
 
--- The candidate of the rows that hold two lines' forms.
-pub told-candidate : {own other : List ℕ} {kind : ℕ} {found : Bool} {counts : List ℕ} (forms : List ℕ) (l m : ℕ) → own ≡ rowPart forms l → other ≡ rowPart forms m
-    → IsCandidate (at own) (at other) kind found counts → IsCandidate (rowIn forms l) (rowIn forms m) kind found counts
-told-candidate forms l m p q C = rw (lent-row forms l p, lent-row forms m q) at C
-
--- All tests.
-module _ {r : Bool} {kinds codes forms : List ℕ} {lowers : List Bool} {t : ℕ} {classes : List ℕ} {k : ℕ} {b : Field} (a : (r ≡ true) ↔ AllAnswered kinds codes forms lowers k b) where
-  pub passes-first : t ≤ 0 → (r ≡ true) ↔ Passes kinds codes forms lowers t classes k b
-  passes-first z = (λ h. record { uses = λ p. absurd (omega arith); answered = a .0 h }, λ w. a .1 (w .answered))
-
-  pub passes-later : MayUseAlike kinds classes (unit k) b → (r ≡ true) ↔ Passes kinds codes forms lowers t classes k b
-  passes-later w = (λ h. record { uses = λ _. w; answered = a .0 h }, λ p. a .1 (p .answered))
+-- Both tests, where the first holds.
+pub passes-tells : {r : Bool} {lines rows forms classes : List ℕ} {k : ℕ} → AlikeIn lines classes (unit k) (rowIn rows k) → (r ≡ true) ↔ Answered lines rows forms k
+    → (r ≡ true) ↔ Passes lines rows forms classes k
+passes-tells w a = (λ h. record { uses = w; answered = a .0 h }, λ p. a .1 (p .answered))

@@ -1,20 +1,20 @@
 -- Laws over plain lists of counts, of any length, read as fields. The record of a loop is its invariant after i turns; its laws are the loop's begin, one turn, and end.
 -- Assumes nothing.
 use mathlib.Core.Bool.{Bool, true, false}
-use mathlib.Core.List.{List, _++_}
+use mathlib.Core.List.{List}
 use mathlib.Core.Logic.{_↔_}
-use mathlib.Core.Path.{_≡_, refl, sym, subst, ap, _∙_, fun-ext}
-use Prim.Native.Nat.{ℕ, zero, suc, _+_, _*_, _-_, _^_, _≤_, _<_}
+use mathlib.Core.Path.{_≡_, refl, sym, ap, _∙_, fun-ext}
+use Prim.Native.Nat.{ℕ, zero, suc, _+_, _*_, _-_, _≤_, _<_}
 use native.Mathlib.Decide.{ℕ-discrete, decLt}
 use native.Mathlib.Nat.{mul-zero, zero-mul, add-sub-cancel-left}
 use native.Mathlib.Numerals.{add-one}
 use native.Mathlib.Omega.{arith}
-use lib.ListN.{length, getD, set, take, drop, replicate, List·getD-eq-default, List·getD-append, length-append, length-take, length-drop, length-set, length-replicate, getD-replicate}
-use lib.Seq.{getD-set-same, getD-set-other, getD-take, getD-drop, getD-append-add, length-take-le, take-all, paste, paste-zero, paste-suc, length-paste, take-length}
+use lib.ListN.{length, set, take, drop, replicate, List·getD-eq-default, length-take, length-drop, length-set, length-replicate, getD-replicate}
+use lib.Seq.{getD-set-same, getD-set-other, getD-take, getD-drop, length-take-le, take-all}
 use Rattle.model.specs.Field.{Field, none, _⊕_, times, unit, at, weigh}
 use Rattle.model.specs.Limits.{mostKinds}
 use Rattle.theory.proofs.Field.{unit-same, unit-other, weigh-next, weigh-weights}
-use Rattle.tables.specs.Table.{Under, rowPart, rowIn, Atoms, formIn, withRow, IsCandidate}
+use Rattle.tables.specs.Table.{Under, rowPart, rowIn, Atoms, formIn}
 
 -- Equal fields have equal counts.
 pub at-kind : {a b : Field} → a ≡ b → (j : ℕ) → a j ≡ b j
@@ -127,10 +127,6 @@ partOf t k = take (k * mostKinds + mostKinds - k * mostKinds) (drop (k * mostKin
 
 pub part-is : (t : List ℕ) (k : ℕ) → partOf t k ≡ rowPart t k
 part-is t k = rw (add-sub-cancel-left (k * mostKinds) mostKinds)
-
-pub part-row : (t : List ℕ) (k : ℕ) → at (partOf t k) ≡ rowIn t k
-unfolding rowIn
-part-row t k = rw (add-sub-cancel-left (k * mostKinds) mostKinds)
 
 -- A list that is row k: as a field it is the row, it is 32 counts long, and its counts are the table's.
 pub lent-row : {xs : List ℕ} (t : List ℕ) (k : ℕ) → xs ≡ rowPart t k → at xs ≡ rowIn t k
@@ -266,104 +262,6 @@ zero-counts n j = go (decLt j n)
 pub zero-under : {bound : ℕ} (n : ℕ) → 0 < bound → Under bound (replicate n 0)
 zero-under n p j = rw (zero-counts n j) p
 
--- The counts below i are those of the second side less m's, and no others are set.
-pub record Subtracted (l m : List ℕ) (kind : ℕ) (counts : List ℕ) (i : ℕ) : Type 0 where
-  pub within : i ≤ length l
-  pub wide : length l ≤ length counts
-  pub agree : Agree (at counts ⊕ at m) (unit kind ⊕ at l) i
-  pub rest : (j : ℕ) → i ≤ j → at counts j ≡ 0
-
-pub subtracted-none : {l m : List ℕ} {kind : ℕ} → length l ≤ mostKinds → Subtracted l m kind (replicate mostKinds 0) 0
-subtracted-none {l} {m} {kind} h =
-    record { within = omega arith; wide = h; agree = agree-none; rest = λ j _. zero-counts mostKinds j }
-
-module _ {l m : List ℕ} {kind : ℕ} {counts : List ℕ} {i : ℕ} (h : Subtracted l m kind counts i) where
-  pub subtracted-more : (v : ℕ) → v + at m i ≡ unit kind i + at l i → i < length l → Subtracted l m kind (set counts i v) (i + 1)
-  subtracted-more v e q =
-      record {
-        within = omega arith;
-        wide = simp length-set (h .wide);
-        agree = record { same = λ j b. go j b (ℕ-discrete j i) };
-        rest = λ j b. getD-set-other counts i j v 0 (λ p. omega arith) ∙ h .rest j (omega arith);
-      }
-    where
-      go : (j : ℕ) → j < i + 1 → Dec (j ≡ i) → at (set counts i v) j + at m j ≡ unit kind j + at l j
-      go j b (yes p) = rw (p, getD-set-same counts i v 0 (omega (arith, h .wide))) e
-      go j b (no p) = rw (getD-set-other counts i j v 0 p) (h .agree .same j (omega arith))
-
-  pub subtracted-all : length l ≤ i → length m ≤ i → kind < i → IsCandidate (at l) (at m) kind true counts
-  subtracted-all p q r =
-      record {
-        gives = λ _. total;
-        only = λ b _ e. (refl, fun-ext (λ j. omega (arith, at-kind e j, at-kind total j)));
-        empty = λ e. let z : _≡_ {A = ℕ} 0 1 = cc in absurd (omega arith);
-      }
-    where
-      total : at counts ⊕ at m ≡ unit kind ⊕ at l
-      total = agree-all (h .agree) (λ j b. omega (arith, h .rest j b, past m j (omega arith), past l j (omega arith), unit-other kind j (λ e. omega arith)))
-
--- A kind at which no count will do.
-pub subtracted-not : {l m : Field} {kind : ℕ} (i : ℕ) → ((v : ℕ) → v < 2 ^ 32 → v + m i ≡ unit kind i + l i → ⊥) → IsCandidate l m kind false (replicate mostKinds 0)
-subtracted-not i h =
-    record {
-      gives = λ e. let z : _≡_ {A = ℕ} 0 1 = cc in absurd (omega arith);
-      only = λ b f e. absurd (h (b i) (f i) (at-kind e i));
-      empty = λ _. refl;
-    }
-
--- A list with the counts from index a on replaced by those of another.
-module _ (t r : List ℕ) (a : ℕ) (fits : a + length r ≤ length t) where
-  abbrev replaced : List ℕ
-  replaced = take a t ++ r ++ drop (a + length r) t
-
-  head-length : length (take a t ++ r) ≡ a + length r
-  head-length = length-append (take a t) r ∙ ap (λ (x : ℕ). x + length r) (length-take-le a t (omega arith))
-
-  pub replaced-length : length replaced ≡ length t
-  replaced-length = omega (arith, length-append (take a t ++ r) (drop (a + length r) t), head-length, length-drop (a + length r) t)
-
-  pub replaced-before : (i : ℕ) → i < a → at replaced i ≡ at t i
-  replaced-before i h =
-      List·getD-append (take a t ++ r) (drop (a + length r) t) 0 i (omega (arith, head-length))
-      ∙ List·getD-append (take a t) r 0 i (omega (arith, length-take-le a t (omega arith)))
-      ∙ getD-take a t i 0 h
-
-  pub replaced-in : (i : ℕ) → i < length r → at replaced (a + i) ≡ at r i
-  replaced-in i h =
-      let e : length (take a t) ≡ a = length-take-le a t (omega arith) in
-      List·getD-append (take a t ++ r) (drop (a + length r) t) 0 (a + i) (omega (arith, head-length))
-      ∙ subst (λ (x : ℕ). getD (take a t ++ r) (x + i) 0 ≡ at r i) e (getD-append-add (take a t) r i 0)
-
-  pub replaced-after : (i : ℕ) → a + length r ≤ i → at replaced i ≡ at t i
-  replaced-after i h =
-      let n : ℕ = i - (a + length r) in
-      let e : length (take a t ++ r) + n ≡ i = omega (arith, head-length) in
-      let d : a + length r + n ≡ i = omega arith in
-      subst (λ (x : ℕ). getD replaced x 0 ≡ getD (drop (a + length r) t) n 0) e (getD-append-add (take a t ++ r) (drop (a + length r) t) n 0)
-      ∙ getD-drop (a + length r) t n 0
-      ∙ ap (at t) d
-
--- A table with row k replaced: the row is the new one, and the others are as they were.
-module _ (t r : List ℕ) (k : ℕ) (wide : length r ≡ mostKinds) (fits : k * mostKinds + mostKinds ≤ length t) where
-  inside : k * mostKinds + length r ≤ length t
-  inside = omega arith
-
-  pub with-length : length (withRow t k r) ≡ length t
-  unfolding withRow
-  with-length = replaced-length t r (k * mostKinds) inside
-
-  pub with-row : rowIn (withRow t k r) k ≡ at r
-  unfolding withRow
-  with-row = row-same _ k (λ j l. replaced-in t r (k * mostKinds) inside j (omega arith)) (λ j l. past r j (omega arith))
-
-  pub with-others : (i : ℕ) → ¬ (i ≡ k) → rowIn (withRow t k r) i ≡ rowIn t i
-  unfolding withRow
-  with-others i d = row-same _ i (λ j l. go j l (decLt i k) ∙ sym (row-at t i j l)) (λ j l. row-past t i j l)
-    where
-      go : (j : ℕ) → j < mostKinds → Dec (i < k) → at (withRow t k r) (i * mostKinds + j) ≡ at t (i * mostKinds + j)
-      go j l (yes b) = replaced-before t r (k * mostKinds) inside (i * mostKinds + j) (omega arith)
-      go j l (no b) = replaced-after t r (k * mostKinds) inside (i * mostKinds + j) (omega arith)
-
 -- A table of zeros has no counts.
 pub zero-row : (n k : ℕ) → rowIn (replicate n 0) k ≡ none
 zero-row n k = row-same _ k (λ j _. zero-counts n (k * mostKinds + j)) (λ j _. refl)
@@ -371,26 +269,6 @@ zero-row n k = row-same _ k (λ j _. zero-counts n (k * mostKinds + j)) (λ j _.
 -- So it tells no atom.
 pub zero-atoms : (n m : ℕ) → Atoms (replicate n 0) m
 zero-atoms n m k _ one = absurd (omega (arith, at-kind (zero-row n k) k, one))
-
--- The first i counts of a row are copied to a table, from an index on.
-pub record Copied (old row rows : List ℕ) (start i : ℕ) : Type 0 where
-  pub within : i ≤ length row
-  pub fits : start + length row ≤ length old
-  pub copy : rows ≡ paste old start row i
-
-pub copied-none : {old row : List ℕ} {start : ℕ} → start + length row ≤ length old → Copied old row old start 0
-copied-none {old} {row} {start} f = record { within = omega arith; fits = f; copy = paste-zero old start row }
-
-module _ {old row rows : List ℕ} {start i : ℕ} (h : Copied old row rows start i) where
-  pub copied-more : i < length row → Copied old row (set rows (start + i) (at row i)) start (i + 1)
-  copied-more l =
-      record { within = omega arith; fits = h .fits; copy = rw (h .copy, add-one) (paste-suc old start row i 0 (omega (arith, h .fits)) l) }
-
-  pub copied-length : length rows ≡ length old
-  copied-length = rw (h .copy) (length-paste old start row i (omega (arith, h .fits, h .within)) (h .within))
-
-  pub copied-all : length row ≤ i → rows ≡ take start old ++ row ++ drop (start + length row) old
-  copied-all l = let e : i ≡ length row = omega (arith, h .within) in rw (h .copy, e, take-length)
 
 -- A decomposition needs the rows of the kinds that the field holds.
 pub form-is : (n : ℕ) (t : List ℕ) (rows : ℕ → Field) (a : Field) → ((k : ℕ) → k < n → 0 < a k → rowIn t k ≡ rows k) → formIn n t a ≡ (λ j. weigh n (λ k. rows k j) a)

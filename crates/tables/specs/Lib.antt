@@ -1,6 +1,9 @@
 -- What the contracts of this crate cite.
--- Flat tables of counts, read as fields; which lines match by them.
+-- Flat tables of counts, read as fields.
 pub mod Table
+-- The lines as a table of bytes.
+pub mod Lines
+-- Which lines match, and what can be said by it.
+pub mod Match
+-- The classes of the lines that a field may use.
 pub mod Class
--- Challenges and replies that lower the norm, and the tests that a product passes.
-pub mod Answer

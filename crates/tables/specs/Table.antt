@@ -47,4 +47,4 @@ pub record Earliest (w : Field) (done : List Bool) (n m r : ℕ) : Type 0 where
   pub within : r ≤ n
   pub all-done : r ≡ n → (k : ℕ) → k < m → isDone done k ≡ true
   pub here : r < n → (r < m) × (isDone done r ≡ false)
-  pub first : r < n → (k : ℕ) → k < m → earlier w r k ≡ true → isDone done k ≡ true
+  pub first : r < n → (k : ℕ) → k < m → earlier w k r ≡ true → isDone done k ≡ true

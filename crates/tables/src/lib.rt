@@ -1,10 +1,14 @@
-// Tables of rows, effects, orders and classes of lines, over plain arrays.
+// Tables of rows, lines, effects, orders, marks and classes, over plain arrays.
 
 // Tables of rows, and the decomposition of counts by them.
 pub mod table;
-// Comparisons of effects and of what lines leave; the candidates for a row.
+// The lines of a sheet as one table of bytes.
+pub mod lines;
+// Comparisons of effects; the candidates for a row.
 pub mod effect;
 // The order in which the kinds' rows are found.
 pub mod order;
-// Which lines match, and which classes of lines a field may use.
+// Tables of marks: which classes of lines a field may use.
+pub mod marks;
+// Which lines match, and the classes of the lines.
 pub mod class;

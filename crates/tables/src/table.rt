@@ -9,17 +9,17 @@ ghost use Rattle.model.specs.Limits.{mostKinds};
 ghost use Rattle.tables.specs.Table.{rowPart, rowIn, Atoms, formIn, withRow};
 
 // A count of 32 bits as one of 64.
-pub fn wide(x: u32) -> u64
-    ensures { λ r. ⌜ (r ≡ x) × (r < 2 ^ 32) ⌝ }
+pub fn wide(count: u32) -> u64
+    ensures { λ r. ⌜ (r ≡ count) × (r < 2 ^ 32) ⌝ }
 {
-    x as u64
+    count as u64
 }
 
 // A count byte as a count of 64 bits.
-fn wide_byte(x: u8) -> u64
-    ensures { λ r. ⌜ r ≡ x ⌝ }
+fn wide_byte(count: u8) -> u64
+    ensures { λ r. ⌜ r ≡ count ⌝ }
 {
-    x as u64
+    count as u64
 }
 
 // Adds count times the row to the sum.
@@ -40,50 +40,50 @@ pub fn add_times(sum: &mut [u64], row: &[u32], count: u64)
     }
 }
 
-// Row k of a table of counts of 32 bits, as a part of it.
-pub fn row_of(rows: &[u32], k: usize) -> &[u32]
-    requires { ⌜ k * 32 + 32 ≤ length (now rows) ⌝ }
-    ensures { λ r. ⌜ now r ≡ rowPart (now (rows .entry)) k ⌝ }
+// The row of a kind in a table of counts of 32 bits, as a part of it.
+pub fn row_of(rows: &[u32], kind: usize) -> &[u32]
+    requires { ⌜ kind * 32 + 32 ≤ length (now rows) ⌝ }
+    ensures { λ r. ⌜ now r ≡ rowPart (now (rows .entry)) kind ⌝ }
 {
-    let start = k * 32;
+    let start = kind * 32;
     let end = start + 32;
     &rows[start..end]
 }
 
 // Whether a kind's own count in its row is 1: whether the kind is an atom.
-pub fn is_atom(rows: &[u32], k: usize) -> bool
-    requires { ⌜ (k < mostKinds) × (length (now rows) ≡ 1024) ⌝ }
-    ensures { λ r. ⌜ (r ≡ true) ↔ (rowIn (now (rows .entry)) k k ≡ 1) ⌝ }
+pub fn is_atom(rows: &[u32], kind: usize) -> bool
+    requires { ⌜ (kind < mostKinds) × (length (now rows) ≡ 1024) ⌝ }
+    ensures { λ r. ⌜ (r ≡ true) ↔ (rowIn (now (rows .entry)) kind kind ≡ 1) ⌝ }
 {
-    let own = k * 32 + k;
+    let own = kind * 32 + kind;
     let count = rows[own];
     count == 1
 }
 
-// Adds count times row k of a table to the sum. The row of an atom is the kind itself.
-fn add_row(sum: &mut [u64], rows: &[u32], k: usize, count: u64)
-    requires { ⌜ (k < mostKinds) × (length (now rows) ≡ 1024) × (32 ≤ length (now sum)) ⌝ }
-    requires { ⌜ (rowIn (now rows) k k ≡ 1 → rowIn (now rows) k ≡ unit k) ⌝ }
-    requires { ⌜ ((j : ℕ) → at (now sum) j + count * rowIn (now rows) k j < 2 ^ 64) ⌝ }
-    ensures { λ _. ⌜ at (now (sum .exit)) ≡ at (now (sum .entry)) ⊕ times count (rowIn (now (rows .entry)) k) ⌝ }
+// Adds count times the row of a kind in a table to the sum. The row of an atom is the kind itself.
+fn add_row(sum: &mut [u64], rows: &[u32], kind: usize, count: u64)
+    requires { ⌜ (kind < mostKinds) × (length (now rows) ≡ 1024) × (32 ≤ length (now sum)) ⌝ }
+    requires { ⌜ (rowIn (now rows) kind kind ≡ 1 → rowIn (now rows) kind ≡ unit kind) ⌝ }
+    requires { ⌜ ((j : ℕ) → at (now sum) j + count * rowIn (now rows) kind j < 2 ^ 64) ⌝ }
+    ensures { λ _. ⌜ at (now (sum .exit)) ≡ at (now (sum .entry)) ⊕ times count (rowIn (now (rows .entry)) kind) ⌝ }
 {
     if count == 0 {
         return;
     }
-    if is_atom(rows, k) {
-        let old = sum[k];
-        sum[k] = old + count;
+    if is_atom(rows, kind) {
+        let old = sum[kind];
+        sum[kind] = old + count;
         return;
     }
-    add_times(sum, row_of(rows, k), count);
+    add_times(sum, row_of(rows, kind), count);
 }
 
-// Replaces row k of a table by the counts.
-pub fn set_row(rows: &mut [u32], k: usize, row: &[u32])
-    requires { ⌜ (k * 32 + 32 ≤ length (now rows)) × (length (now row) ≡ 32) ⌝ }
-    ensures { λ _. ⌜ now (rows .exit) ≡ withRow (now (rows .entry)) k (now (row .entry)) ⌝ }
+// Replaces the row of a kind in a table by the counts.
+pub fn set_row(rows: &mut [u32], kind: usize, row: &[u32])
+    requires { ⌜ (kind * 32 + 32 ≤ length (now rows)) × (length (now row) ≡ 32) ⌝ }
+    ensures { λ _. ⌜ now (rows .exit) ≡ withRow (now (rows .entry)) kind (now (row .entry)) ⌝ }
 {
-    let start = k * 32;
+    let start = kind * 32;
     let mut i = 0;
     while i < row.len() {
         rows[start + i] = row[i];
@@ -91,12 +91,12 @@ pub fn set_row(rows: &mut [u32], k: usize, row: &[u32])
     }
 }
 
-// Row j of a table of counts of 64 bits, as a part of it: the form of what line j leaves.
-pub fn form_of(forms: &[u64], j: usize) -> &[u64]
-    requires { ⌜ j * 32 + 32 ≤ length (now forms) ⌝ }
-    ensures { λ r. ⌜ now r ≡ rowPart (now (forms .entry)) j ⌝ }
+// A row of a table of counts of 64 bits, as a part of it: the form of what a line leaves.
+pub fn form_of(forms: &[u64], line: usize) -> &[u64]
+    requires { ⌜ line * 32 + 32 ≤ length (now forms) ⌝ }
+    ensures { λ r. ⌜ now r ≡ rowPart (now (forms .entry)) line ⌝ }
 {
-    let start = j * 32;
+    let start = line * 32;
     let end = start + 32;
     &forms[start..end]
 }

@@ -11,8 +11,8 @@ use lib.Seq.{ext-getD}
 use Rattle.model.specs.Field.{Field}
 use Rattle.model.specs.Sheet.{kindCount, fieldCount, fieldOf}
 use Rattle.second_reader.proofs.Counts.{field-past}
-use Rattle.player.specs.declared.game.Tried.{Tried}
-use Rattle.player.specs.declared.game.Tried.the-variants.{Parted}
+use Rattle.test_player.specs.declared.game.Tried.{Tried}
+use Rattle.test_player.specs.declared.game.Tried.the-variants.{Parted}
 use Rattle.tally.specs.declared.tally.Called.{Called}
 use Rattle.tally.specs.declared.tally.Called.the-variants.{Different}
 use Rattle.tally.specs.declared.tally.Judgement.{Judgement}

@@ -8,11 +8,11 @@ use borrow.Author.Tests.{ltb-false, leb-true, leb-false}
 use lib.Dec.{ltb, leb}
 use Rattle.model.specs.Sheet.{cardOf, fieldOf}
 use Rattle.theory.proofs.Walks.{Holds-less}
-use Rattle.player.specs.declared.game.Tried.{Tried}
-use Rattle.player.specs.declared.game.Tried.the-variants.{Parted, Held, OutOfBudget, OutOfBounds}
-use Rattle.player.specs.Played.{partingOf}
-use Rattle.player.specs.Meaning.{HoldsAt, Means}
-use Rattle.player.proofs.Meaning.{parting-means}
+use Rattle.test_player.specs.declared.game.Tried.{Tried}
+use Rattle.test_player.specs.declared.game.Tried.the-variants.{Parted, Held, OutOfBudget, OutOfBounds}
+use Rattle.test_player.specs.Played.{partingOf}
+use Rattle.test_player.specs.Meaning.{HoldsAt, Means}
+use Rattle.test_player.proofs.Meaning.{parting-means}
 use Rattle.tally.specs.declared.tally.Called.{Called}
 use Rattle.tally.specs.declared.tally.Called.the-variants.{Same, Different}
 use Rattle.tally.specs.declared.tally.Judgement.the-variants.{Agrees, Open, Wrong}

@@ -6,8 +6,8 @@ use Prim.Native.Nat.{ℕ, _+_, _≤_, _<_}
 use lib.Dec.{ltb, leb, eqb}
 use Rattle.model.specs.Finite.{both}
 use Rattle.model.specs.Sheet.{kindCount, fieldCount, fieldOf}
-use Rattle.player.specs.declared.game.Tried.{Tried}
-use Rattle.player.specs.declared.game.Tried.the-variants.{Parted, Held, OutOfBudget, OutOfBounds}
+use Rattle.test_player.specs.declared.game.Tried.{Tried}
+use Rattle.test_player.specs.declared.game.Tried.the-variants.{Parted, Held, OutOfBudget, OutOfBounds}
 use Rattle.tally.specs.declared.tally.Called.{Called}
 use Rattle.tally.specs.declared.tally.Called.the-variants.{Same, Different}
 use Rattle.tally.specs.declared.tally.Judgement.{Judgement}

@@ -1,7 +1,7 @@
 -- What a judgement says of the game.
 use mathlib.Core.List.{List}
 use Prim.Native.Nat.{ℕ, _≤_}
-use Rattle.player.specs.Meaning.{HoldsAt}
+use Rattle.test_player.specs.Meaning.{HoldsAt}
 use Rattle.tally.specs.declared.tally.Called.{Called}
 use Rattle.tally.specs.declared.tally.Called.the-variants.{Same, Different}
 use Rattle.tally.specs.declared.tally.Judgement.{Judgement}

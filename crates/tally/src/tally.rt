@@ -1,8 +1,8 @@
 // Verdicts held against what was played, and counted.
-use player::Tried;
 use second_reader::field_count;
 use second_reader::fields;
 use second_reader::kinds;
+use test_player::Tried;
 ghost use mathlib.Core.Path.{_≡_};
 ghost use lib.Dec.{ltb, leb};
 ghost use Rattle.model.specs.Finite as model;
@@ -56,11 +56,11 @@ pub struct Tally {
     pub misfiled: u64,
 }
 
-// Fields called different that hold at r rounds: open only where more rounds are reported.
-fn judge_held(r: u64, rounds: u64) -> Judgement
-    ensures { λ j. ⌜ j ≡ heldOf r rounds ⌝ }
+// Fields called different that hold at some rounds: open only where more rounds are reported.
+fn judge_held(held: u64, rounds: u64) -> Judgement
+    ensures { λ r. ⌜ r ≡ heldOf held rounds ⌝ }
 {
-    if r < rounds {
+    if held < rounds {
         Judgement::Open
     } else {
         Judgement::Wrong
@@ -150,23 +150,23 @@ fn both(first: bool, second: bool) -> bool
     if first { second } else { false }
 }
 
-// Whether x lies between two numbers.
-fn between(low: usize, x: usize, high: usize) -> bool
-    ensures { λ r. ⌜ r ≡ model.both (ltb low x) (leb x high) ⌝ }
+// Whether a number lies above another and not above a third.
+fn between(low: usize, number: usize, high: usize) -> bool
+    ensures { λ r. ⌜ r ≡ model.both (ltb low number) (leb number high) ⌝ }
 {
-    both(low < x, x <= high)
+    both(low < number, number <= high)
 }
 
 // One more where the test is passed; the greatest number stays.
-fn counted(test: bool, x: u64) -> u64
-    ensures { λ r. ⌜ r ≡ countedOf test x ⌝ }
+fn counted(test: bool, number: u64) -> u64
+    ensures { λ r. ⌜ r ≡ countedOf test number ⌝ }
 {
     if test {
-        if x < 18446744073709551615 {
-            return x + 1;
+        if number < 18446744073709551615 {
+            return number + 1;
         }
     }
-    x
+    number
 }
 
 impl Played {
@@ -288,42 +288,42 @@ impl Tally {
 }
 
 // Whether two prime forms are equal, count by count.
-pub fn same_counts(a: &[u64], b: &[u64]) -> bool
-    ensures { λ r. ⌜ Tests r (now (a .entry) ≡ now (b .entry)) ⌝ }
+pub fn same_counts(first: &[u64], second: &[u64]) -> bool
+    ensures { λ r. ⌜ Tests r (now (first .entry) ≡ now (second .entry)) ⌝ }
 {
-    if a.len() != b.len() {
+    if first.len() != second.len() {
         return false;
     }
-    let mut i = 0;
-    while i < a.len() {
-        if a[i] != b[i] {
+    let mut kind = 0;
+    while kind < first.len() {
+        if first[kind] != second[kind] {
             return false;
         }
-        i += 1;
+        kind += 1;
     }
     true
 }
 
 // Whether two fields look unlike: they have other counts of some kind.
-pub fn look_unlike(s: &[u8], first: usize, second: usize) -> bool
-    ensures { λ r. ⌜ Tests r (Unlike (now (s .entry)) first second) ⌝ }
+pub fn look_unlike(sheet: &[u8], first: usize, second: usize) -> bool
+    ensures { λ r. ⌜ Tests r (Unlike (now (sheet .entry)) first second) ⌝ }
 {
-    if 32 < kinds(s) {
+    if 32 < kinds(sheet) {
         return false;
     }
-    if fields(s) <= first {
+    if fields(sheet) <= first {
         return false;
     }
-    if fields(s) <= second {
+    if fields(sheet) <= second {
         return false;
     }
-    let n = kinds(s);
-    let mut k = 0;
-    while k < n {
-        if field_count(s, first, k) != field_count(s, second, k) {
+    let count = kinds(sheet);
+    let mut kind = 0;
+    while kind < count {
+        if field_count(sheet, first, kind) != field_count(sheet, second, kind) {
             return true;
         }
-        k += 1;
+        kind += 1;
     }
     false
 }

@@ -24,7 +24,7 @@ then {m} {n} {i} {j} {k} {b} {c} {d} {s} {t} p q =
       within = omega (arith, p .within, q .within, length-append s t);
     }
 
--- The same with another bound, and another form of the text.
+-- An appended text with a larger bound, and in another form.
 pub reads-as : {m i k : ℕ} {b d s : List ℕ} (n : ℕ) (t : List ℕ) → Appended m b i s d k → m ≤ n → s ≡ t → Appended n b i t d k
 reads-as n t p h e =
     let l = ap length e in

@@ -9,6 +9,7 @@ use lib.ListN.{length, length-append}
 use Rattle.model.specs.Page.{number}
 use Rattle.theory.proofs.Decimals.{decimals}
 use Rattle.text.specs.Appended.{Appended}
+use Rattle.text.specs.Lengths.{mostDigits}
 use Rattle.text.proofs.Append.{then, reads-as}
 
 -- A number below 10 is its one digit.
@@ -45,8 +46,8 @@ number-digits (suc k) x h = go (decLt x 10) (λ l. number-digits k (x / 10) l)
     go (yes l) r = omega (arith, length-small x l)
     go (no l) r = omega (arith, length-more x (omega arith), r fewer)
 
--- A number of 64 bits has at most 20.
-pub number-most : (x : ℕ) → x < 2 ^ 64 → length (number x) ≤ 20
+-- A number of 64 bits has at most `mostDigits` digits.
+pub number-most : (x : ℕ) → x < 2 ^ 64 → length (number x) ≤ mostDigits
 number-most x h = number-digits 19 x (omega arith)
 
 -- A number's digits are appended: the only one; those before the last, then the last.

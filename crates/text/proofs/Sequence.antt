@@ -11,6 +11,7 @@ use Rattle.model.specs.Finite.{concat, listFrom}
 use Rattle.model.specs.Page.{bytes, number, newline, countsOf}
 use Rattle.text.specs.Appended.{Appended}
 use Rattle.text.specs.Count.{countText, countTexts, countsLine, labelledCounts}
+use Rattle.text.specs.Lengths.{mostDigits, mostCounts}
 use Rattle.text.proofs.Append.{nothing, then, reads-as}
 
 module _ (f : ℕ → List ℕ) where
@@ -57,42 +58,43 @@ by-number [] = refl
 by-number (x ∷ xs) = ap (λ (l : List (List ℕ)). countText x ∷ l) (shifted (countAt (x ∷ xs)) 0 (length xs) ∙ by-number xs)
 
 -- All counts of a list.
-pub counts-all : {i k start : ℕ} {b d : List ℕ} (xs : List ℕ) → i ≡ length xs → Appended (21 * i) b start (concat (listFrom (countAt xs) 0 i)) d k
-    → Appended (21 * length xs) b start (countTexts xs) d k
+pub counts-all : {i k start : ℕ} {b d : List ℕ} (xs : List ℕ) → i ≡ length xs → Appended (mostCounts i) b start (concat (listFrom (countAt xs) 0 i)) d k
+    → Appended (mostCounts (length xs)) b start (countTexts xs) d k
 unfolding countTexts
 counts-all {i} xs e p =
-    reads-as (21 * length xs) (countTexts xs) p (omega arith)
+    reads-as (mostCounts (length xs)) (countTexts xs) p (omega arith)
     (ap (λ (n : ℕ). concat (listFrom (countAt xs) 0 n)) e ∙ ap concat (by-number xs))
 
 -- The page has "=" before them.
-pub marked : {i j k : ℕ} {b c d : List ℕ} (xs : List ℕ) → Appended 1 b i (61 ∷ []) c j → Appended (21 * length xs) c j (countTexts xs) d k
-    → Appended (1 + 21 * length xs) b i (countsOf xs) d k
+pub marked : {i j k : ℕ} {b c d : List ℕ} (xs : List ℕ) → Appended 1 b i (61 ∷ []) c j → Appended (mostCounts (length xs)) c j (countTexts xs) d k
+    → Appended (1 + mostCounts (length xs)) b i (countsOf xs) d k
 unfolding bytes countText countTexts countsOf
-marked xs sign counts = reads-as (1 + 21 * length xs) (countsOf xs) (then sign counts) (omega arith) refl
+marked xs sign counts = reads-as (1 + mostCounts (length xs)) (countsOf xs) (then sign counts) (omega arith) refl
 
--- On a line of their own the first stands alone; a line of none is its end.
-pub line-of-none : {i j : ℕ} {b c : List ℕ} (xs : List ℕ) → length xs ≡ 0 → Appended 1 b i (10 ∷ []) c j → Appended (1 + 21 * length xs) b i (countsLine xs) c j
+-- A line of no counts is its end.
+pub line-of-none : {i j : ℕ} {b c : List ℕ} (xs : List ℕ) → length xs ≡ 0 → Appended 1 b i (10 ∷ []) c j → Appended (1 + mostCounts (length xs)) b i (countsLine xs) c j
 unfolding countsLine newline bytes
-line-of-none xs none end = reads-as (1 + 21 * length xs) (countsLine xs) end (omega arith) (line xs none)
+line-of-none xs none end = reads-as (1 + mostCounts (length xs)) (countsLine xs) end (omega arith) (line xs none)
   where
     line : (xs : List ℕ) → length xs ≡ 0 → 10 ∷ [] ≡ countsLine xs
     line [] none = refl
     line (x ∷ xs) none = absurd (omega arith)
 
--- Those past the first, as a part of the list.
+-- The counts past the first, as a part of the list.
 abbrev pub others : List ℕ → List ℕ
 others xs = take (length xs - 1) (drop 1 xs)
 
-pub line-of-some : {i j k l : ℕ} {b c d e : List ℕ} (xs : List ℕ) → ¬ (length xs ≡ 0) → Appended 20 b i (number (getD xs 0 0)) c j
-    → Appended (21 * length (others xs)) c j (countTexts (others xs)) d k → Appended 1 d k (10 ∷ []) e l → Appended (1 + 21 * length xs) b i (countsLine xs) e l
+-- A line of counts: the first, the others with a space before each, and the end of the line.
+pub line-of-some : {i j k l : ℕ} {b c d e : List ℕ} (xs : List ℕ) → ¬ (length xs ≡ 0) → Appended mostDigits b i (number (getD xs 0 0)) c j
+    → Appended (mostCounts (length (others xs))) c j (countTexts (others xs)) d k → Appended 1 d k (10 ∷ []) e l → Appended (1 + mostCounts (length xs)) b i (countsLine xs) e l
 unfolding countsLine newline bytes
 line-of-some xs some first rest end =
-    reads-as (1 + 21 * length xs) (countsLine xs) (then (then first rest) end) (room xs some) (line xs some)
+    reads-as (1 + mostCounts (length xs)) (countsLine xs) (then (then first rest) end) (room xs some) (line xs some)
   where
     all-others : (x : ℕ) (xs : List ℕ) → others (x ∷ xs) ≡ xs
     all-others x xs = take-all (length (x ∷ xs) - 1) xs (omega arith)
 
-    room : (xs : List ℕ) → ¬ (length xs ≡ 0) → 20 + 21 * length (others xs) + 1 ≤ 1 + 21 * length xs
+    room : (xs : List ℕ) → ¬ (length xs ≡ 0) → mostDigits + mostCounts (length (others xs)) + 1 ≤ 1 + mostCounts (length xs)
     room [] some = absurd (some refl)
     room (x ∷ xs) some = omega (arith, ap length (all-others x xs))
 

@@ -3,3 +3,5 @@
 pub mod Appended
 -- The texts of counts.
 pub mod Count
+-- How long texts get.
+pub mod Lengths

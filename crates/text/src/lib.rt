@@ -9,11 +9,9 @@ pub use number::put_labelled;
 pub use number::put_number;
 pub use number::put_two_labelled;
 
-// The counts of a row or of a prime form.
+// Counts of kinds.
 mod counts;
 
-pub use counts::put_form;
-pub use counts::put_form_line;
-pub use counts::put_labelled_form;
-pub use counts::put_row;
-pub use counts::put_row_line;
+pub use counts::put_counts;
+pub use counts::put_counts_line;
+pub use counts::put_labelled_counts;

@@ -5,6 +5,7 @@ ghost use mathlib.Core.Path.{_≡_};
 ghost use lib.ListN.{length};
 ghost use Rattle.model.specs.Page.{number};
 ghost use Rattle.text.specs.Appended.{Appended};
+ghost use Rattle.text.specs.Lengths.{mostDigits};
 
 // One byte.
 pub fn put_byte(out: &mut [u8], at: usize, byte: u8) -> usize
@@ -30,54 +31,54 @@ pub fn put_bytes(out: &mut [u8], at: usize, text: &[u8]) -> usize
 }
 
 // The last digit of a number.
-fn digit(x: u64) -> u8
-    ensures { λ r. ⌜ r ≡ 48 + x % 10 ⌝ }
+fn digit(value: u64) -> u8
+    ensures { λ r. ⌜ r ≡ 48 + value % 10 ⌝ }
 {
-    48 + (x % 10) as u8
+    48 + (value % 10) as u8
 }
 
 // A number in decimal without leading zeros, given room for its digits: those before the last, then the last.
-fn put_digits(out: &mut [u8], at: usize, x: u64) -> usize
-    requires { ⌜ at + length (number x) ≤ length (now out) ⌝ }
-    ensures { λ r. ⌜ Appended (length (number x)) (now (out .entry)) at (number x) (now (out .exit)) r ⌝ }
+fn put_digits(out: &mut [u8], at: usize, value: u64) -> usize
+    requires { ⌜ at + length (number value) ≤ length (now out) ⌝ }
+    ensures { λ r. ⌜ Appended (length (number value)) (now (out .entry)) at (number value) (now (out .exit)) r ⌝ }
 {
-    if x < 10 {
-        put_byte(out, at, digit(x))
+    if value < 10 {
+        put_byte(out, at, digit(value))
     } else {
-        let next = put_digits(out, at, x / 10);
-        put_byte(out, next, digit(x))
+        let next = put_digits(out, at, value / 10);
+        put_byte(out, next, digit(value))
     }
 }
 
-// A number in decimal without leading zeros: 64 bits have at most 20 digits.
-pub fn put_number(out: &mut [u8], at: usize, x: u64) -> usize
-    requires { ⌜ at + 20 ≤ length (now out) ⌝ }
-    ensures { λ r. ⌜ Appended 20 (now (out .entry)) at (number x) (now (out .exit)) r ⌝ }
+// A number in decimal without leading zeros.
+pub fn put_number(out: &mut [u8], at: usize, value: u64) -> usize
+    requires { ⌜ at + mostDigits ≤ length (now out) ⌝ }
+    ensures { λ r. ⌜ Appended mostDigits (now (out .entry)) at (number value) (now (out .exit)) r ⌝ }
 {
-    put_digits(out, at, x)
+    put_digits(out, at, value)
 }
 
 // A text and a number after it.
-pub fn put_labelled(out: &mut [u8], at: usize, label: &[u8], x: u64) -> usize
-    requires { ⌜ at + (length (now label) + 20) ≤ length (now out) ⌝ }
-    ensures { λ r. ⌜ Appended (length (now (label .entry)) + 20) (now (out .entry)) at (now (label .entry) ++ number x) (now (out .exit)) r ⌝ }
+pub fn put_labelled(out: &mut [u8], at: usize, label: &[u8], value: u64) -> usize
+    requires { ⌜ at + (length (now label) + mostDigits) ≤ length (now out) ⌝ }
+    ensures { λ r. ⌜ Appended (length (now (label .entry)) + mostDigits) (now (out .entry)) at (now (label .entry) ++ number value) (now (out .exit)) r ⌝ }
 {
     let next = put_bytes(out, at, label);
-    put_number(out, next, x)
+    put_number(out, next, value)
 }
 
-// The same twice.
+// A text and a number after it, and once more.
 pub fn put_two_labelled(
     out: &mut [u8],
     at: usize,
     label: &[u8],
-    x: u64,
+    first: u64,
     between: &[u8],
-    y: u64,
+    second: u64,
 ) -> usize
-    requires { ⌜ at + (length (now label) + 20 + (length (now between) + 20)) ≤ length (now out) ⌝ }
-    ensures { λ r. ⌜ Appended (length (now (label .entry)) + 20 + (length (now (between .entry)) + 20)) (now (out .entry)) at (now (label .entry) ++ number x ++ (now (between .entry) ++ number y)) (now (out .exit)) r ⌝ }
+    requires { ⌜ at + (length (now label) + mostDigits + (length (now between) + mostDigits)) ≤ length (now out) ⌝ }
+    ensures { λ r. ⌜ Appended (length (now (label .entry)) + mostDigits + (length (now (between .entry)) + mostDigits)) (now (out .entry)) at (now (label .entry) ++ number first ++ (now (between .entry) ++ number second)) (now (out .exit)) r ⌝ }
 {
-    let next = put_labelled(out, at, label, x);
-    put_labelled(out, next, between, y)
+    let next = put_labelled(out, at, label, first);
+    put_labelled(out, next, between, second)
 }

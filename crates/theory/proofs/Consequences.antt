@@ -13,7 +13,8 @@ use Rattle.theory.proofs.Norms.{clears-least}
 use Rattle.theory.proofs.Stages.{Stage, level, level-cong, stage-less}
 use Rattle.theory.proofs.Game.{FineHolds, Fine, rounds, holds-stage, bisimilar-stage}
 use Rattle.theory.proofs.Rank.{Within, within-plus}
-use Rattle.theory.proofs.Base.{Base, form, form-plus, form-iff}
+use Rattle.theory.proofs.Base.{Base, form, form-plus}
+use Rattle.theory.proofs.Unique.{form-iff}
 use Rattle.theory.proofs.Settle.{Settled, AtStage, settled-bisimulation, settled-holds, tidy-fire, tidy-within}
 use Rattle.theory.proofs.Decide.{Finite, dec-stage}
 use Rattle.theory.proofs.Count.{past, past-whole, level-low, level-base}

@@ -11,7 +11,8 @@ use Rattle.theory.proofs.Search.{some-below, dec-and}
 use Rattle.theory.proofs.Normed.{Normed, Low, low-of}
 use Rattle.theory.proofs.Stages.{Cong}
 use Rattle.theory.proofs.Rank.{rank, rank-apart, Within, low-within}
-use Rattle.theory.proofs.Base.{Base, Prime, Atom, Made, form, form-within, form-atoms, form-rel, candidate, unit-some}
+use Rattle.theory.proofs.Base.{Base, Prime, Atom, Made, form, form-within, form-atoms, form-rel, unit-some}
+use Rattle.theory.proofs.Unique.{candidate}
 use Rattle.theory.proofs.Decide.{Finite, low-finite}
 
 -- The rows with one replaced.

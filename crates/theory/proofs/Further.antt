@@ -11,7 +11,8 @@ use Rattle.theory.proofs.Normed.{Normed, norm, extra, Low, Tidy}
 use Rattle.theory.proofs.Stages.{Cong, Alike, Next, alike-cong, next-cong}
 use Rattle.theory.proofs.Game.{Fine}
 use Rattle.theory.proofs.Rank.{rank, Within, decomp, decomp-plus, decomp-unit, decomp-self, decomp-rel}
-use Rattle.theory.proofs.Base.{Base, Prime, Atom, Made, Atoms, unique, unit-some}
+use Rattle.theory.proofs.Base.{Base, Prime, Atom, Made, Atoms, unit-some}
+use Rattle.theory.proofs.Unique.{unique}
 use Rattle.theory.proofs.Settle.{Whole, tidy-within, tidy-fire}
 
 -- Two bases of one relation have the same rows.

@@ -9,6 +9,7 @@ pub mod Stages
 pub mod Game
 pub mod Rank
 pub mod Base
+pub mod Unique
 pub mod Settle
 pub mod Decide
 pub mod Find
@@ -25,8 +26,10 @@ pub mod Fewest
 pub mod Cut
 pub mod Enumerate
 pub mod Rows
--- Shelf numbers: the listing, its order and its numbers, the listing of a card.
+-- Shelf numbers: the listing, its order, the table's entries, numbers and fields, the listing of a card.
 pub mod Listing
+pub mod Order
+pub mod Entries
 pub mod Numbering
 pub mod Shelves
 -- Squads: counts that go into counts, joined fields under a bisimulation.
@@ -43,10 +46,13 @@ pub mod Sheets
 pub mod Checks
 pub mod Limits
 pub mod Gain
+pub mod Refusals
 pub mod Places
 pub mod Headers
 pub mod Verdicts
 pub mod Walks
+pub mod Calls
+pub mod Taken
 pub mod Answers
 pub mod Days
 pub mod Settling

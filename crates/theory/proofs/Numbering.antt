@@ -1,12 +1,11 @@
--- The order of the listing; numbers and fields are each other's inverse; and what a program goes by: one kind at a time, by the table's entries.
+-- Numbers and fields are each other's inverse; and what a program goes by: one kind at a time, by the table's entries.
 use mathlib.Core.Bool.{Bool, true, false}
-use mathlib.Core.List.{List, [], _∷_, _++_, map, List·Memᴰ, List·Memᴰ·head, List·Memᴰ·tail, List·Memᴰ·append-cases}
-use mathlib.Core.Logic.{_⊎_, inl, inr}
+use mathlib.Core.List.{List, [], _∷_, _++_, map, List·Memᴰ, List·Memᴰ·head, List·Memᴰ·tail}
+use mathlib.Core.Logic.{inl, inr}
 use mathlib.Core.Path.{_≡_, refl, sym, _∙_, ap, fun-ext}
-use Prim.Native.Nat.{ℕ, zero, suc, _+_, _-_, _^_, _≤_, _<_}
+use Prim.Native.Nat.{ℕ, zero, suc, _+_, _-_, _<_}
 use native.Mathlib.Decide.{ℕ-discrete}
 use native.Mathlib.Omega.{arith}
-use lib.Dec.{eqb}
 use lib.ListN.{length, getD, List·getD-append}
 use lib.Seq.{getD-append-add}
 use Rattle.model.specs.Field.{Field, none, _⊕_, unit}
@@ -14,8 +13,9 @@ use Rattle.model.specs.Shelf.{entry, listed, agree, placeOf, numberIn, fieldIn}
 use Rattle.theory.specs.Shelves.{Precedes}
 use Rattle.theory.proofs.Field.{unit-same, unit-other}
 use Rattle.theory.proofs.Exec.{Tells, tells-eq, tells-all}
-use Rattle.theory.proofs.Enumerate.{mem-map}
 use Rattle.theory.proofs.Listing.{more, listed-zero, listed-next, listed-length, total, Over, Once, none-over, listed-over, listed-total, less, less-same, less-total, Alike, listed-has, over-same}
+use Rattle.theory.proofs.Order.{getD-mem, Rises, listed-rises}
+use Rattle.theory.proofs.Entries.{entry-none, entry-next, entry-grows}
 
 -- Two tests of one fact are equal.
 pub tells-same : {A B : Type 0} (b c : Bool) → Tells b A → Tells c B → (A → B) → (B → A) → b ≡ c
@@ -24,95 +24,10 @@ tells-same true false f g u v = absurd (g .test (u (f .fact tt)))
 tells-same false true f g u v = absurd (f .test (v (g .fact tt)))
 tells-same false false f g u v = refl
 
-pub getD-mem : {A : Type 0} (xs : List A) (i : ℕ) (d : A) → i < length xs → List·Memᴰ (getD xs i d) xs
-getD-mem [] i d h = absurd (omega arith)
-getD-mem (x ∷ xs) zero d h = List·Memᴰ·head refl
-getD-mem (x ∷ xs) (suc i) d h = List·Memᴰ·tail (getD-mem xs i d (omega arith))
-
+-- The place of a member.
 pub mem-getD : {A : Type 0} {xs : List A} (x d : A) → List·Memᴰ x xs → (i : ℕ) × (i < length xs) × (getD xs i d ≡ x)
 mem-getD x d (List·Memᴰ·head e) = (0, omega arith, sym e)
 mem-getD x d (List·Memᴰ·tail m) = let u = mem-getD x d m in (suc (u .0), omega (arith, u .1), u .2)
-
--- Each member stands in the relation to all after it.
-module _ {A : Type 0} (R : A → A → Type 0) where
-  unfoldable pub Rises : List A → Type 0
-  Rises [] = Unit {0}
-  Rises (x ∷ xs) = ((y : A) → List·Memᴰ y xs → R x y) × Rises xs
-
-  pub rises-at : (d : A) (xs : List A) (i j : ℕ) → Rises xs → i < j → j < length xs → R (getD xs i d) (getD xs j d)
-  unfolding Rises
-  rises-at d [] i j r h l = absurd (omega arith)
-  rises-at d (x ∷ xs) i zero r h l = absurd (omega arith)
-  rises-at d (x ∷ xs) zero (suc j) r h l = r .0 (getD xs j d) (getD-mem xs j d (omega arith))
-  rises-at d (x ∷ xs) (suc i) (suc j) r h l = rises-at d xs i j (r .1) (omega arith) (omega arith)
-
-  rises-append : (xs ys : List A) → Rises xs → Rises ys → ((x y : A) → List·Memᴰ x xs → List·Memᴰ y ys → R x y) → Rises (xs ++ ys)
-  unfolding Rises
-  rises-append [] ys p q f = q
-  rises-append (x ∷ xs) ys p q f = (after, rises-append xs ys (p .1) q (λ a b m. f a b (List·Memᴰ·tail m)))
-    where
-      after : (y : A) → List·Memᴰ y (xs ++ ys) → R x y
-      after y m = go (List·Memᴰ·append-cases xs m)
-        where
-          go : List·Memᴰ y xs ⊎ List·Memᴰ y ys → R x y
-          go (inl q) = p .0 y q
-          go (inr q) = f x y (List·Memᴰ·head refl) q
-
--- The same for another relation, where members so related are related by it.
-rises-mono : {A : Type 0} (R S : A → A → Type 0) (xs : List A) → ((x y : A) → List·Memᴰ x xs → List·Memᴰ y xs → R x y → S x y) → Rises R xs → Rises S xs
-unfolding Rises
-rises-mono R S [] f r = tt
-rises-mono R S (x ∷ xs) f r =
-    ((λ y m. f x y (List·Memᴰ·head refl) (List·Memᴰ·tail m) (r .0 y m)), rises-mono R S xs (λ a b p q. f a b (List·Memᴰ·tail p) (List·Memᴰ·tail q)) (r .1))
-
-rises-map : {A : Type 0} (R : A → A → Type 0) (g : A → A) (xs : List A) → ((x y : A) → R x y → R (g x) (g y)) → Rises R xs → Rises R (map g xs)
-unfolding Rises
-rises-map R g [] f r = tt
-rises-map R g (x ∷ xs) f r = ((λ y m. let u = mem-map g xs y m in rw (u .2) (f x (u .0) (r .0 (u .0) (u .1)))), rises-map R g xs f (r .1))
-
--- The same tokens added on both sides.
-precedes-plus : (ks : List ℕ) (a b c : Field) → Precedes ks a b → Precedes ks (a ⊕ c) (b ⊕ c)
-unfolding Precedes
-precedes-plus [] a b c p = p
-precedes-plus (k ∷ ks) a b c (inl h) = inl (omega arith)
-precedes-plus (k ∷ ks) a b c (inr h) = inr (omega (arith, h .0), precedes-plus ks a b c (h .1))
-
--- Of two fields at most one comes before the other.
-pub precedes-one : (ks : List ℕ) (a b : Field) → Precedes ks a b → ¬ Precedes ks b a
-unfolding Precedes
-precedes-one [] a b p q = p
-precedes-one (k ∷ ks) a b (inl h) (inl l) = omega arith
-precedes-one (k ∷ ks) a b (inl h) (inr l) = omega (arith, l .0)
-precedes-one (k ∷ ks) a b (inr h) (inl l) = omega (arith, h .0)
-precedes-one (k ∷ ks) a b (inr h) (inr l) = precedes-one ks a b (h .1) (l .1)
-
--- Members with none of a later kind, and members with some of it.
-flat : (k : ℕ) (ks : List ℕ) (t : ℕ) → ¬ List·Memᴰ k ks → (x y : Field) → List·Memᴰ x (listed ks t) → List·Memᴰ y (listed ks t) → Precedes ks x y → Precedes (k ∷ ks) x y
-unfolding Precedes
-flat k ks t n x y p q h = inr (none-over k ks x n (listed-over ks t x p) ∙ sym (none-over k ks y n (listed-over ks t y q)), h)
-
-with-some : (k : ℕ) (ks : List ℕ) (t : ℕ) → ¬ List·Memᴰ k ks → (x y : Field)
-    → List·Memᴰ x (listed ks (suc t)) → List·Memᴰ y (map (more k ks) (listed (k ∷ ks) t)) → Precedes (k ∷ ks) x y
-unfolding Precedes
-with-some k ks t n x y p q =
-    let u = mem-map (more k ks) (listed (k ∷ ks) t) y q in
-    inl (omega (arith, none-over k ks x n (listed-over ks (suc t) x p), ap (λ (z : Field). z k) (u .2), unit-same k))
-
--- "with the smaller count of the last kind first, then of the one before it, and so on"
-pub listed-rises : (ks : List ℕ) (t : ℕ) → Once ks → Rises (Precedes ks) (listed ks t)
-unfolding listed Rises Once
-listed-rises [] t o = go (eqb t 0)
-  where
-    go : (b : Bool) → Rises (Precedes []) (elim b as (λ _. List Field) [ true ↦ none ∷ [] | false ↦ [] ])
-    go true = ((λ y m. elim m [ ]), tt)
-    go false = tt
-listed-rises (k ∷ ks) zero o =
-    rw (listed-zero k ks) (rises-mono (Precedes ks) (Precedes (k ∷ ks)) (listed ks 0) (flat k ks 0 (o .0)) (listed-rises ks 0 (o .1)))
-listed-rises (k ∷ ks) (suc t) o =
-    rw (listed-next k ks t) (rises-append (Precedes (k ∷ ks)) (listed ks (suc t)) (map (more k ks) (listed (k ∷ ks) t))
-    (rises-mono (Precedes ks) (Precedes (k ∷ ks)) (listed ks (suc t)) (flat k ks (suc t) (o .0)) (listed-rises ks (suc t) (o .1)))
-    (rises-map (Precedes (k ∷ ks)) (more k ks) (listed (k ∷ ks) t) (λ x y. precedes-plus (k ∷ ks) x y (unit k)) (listed-rises (k ∷ ks) t o))
-    (λ x y p q. with-some k ks t (o .0) x y p q))
 
 -- Where a member is found.
 module _ (ks : List ℕ) where
@@ -177,55 +92,6 @@ module _ (ks : List ℕ) (t : ℕ) (o : Once ks) where
   -- A field is listed at the number that has it alone.
   pub number-only : (a : Field) (x : ℕ) → x < entry (length ks) t → Alike ks a (fieldIn ks t x) → numberIn ks t a ≡ x
   number-only a x h f = place-agree ks (listed ks t) a (fieldIn ks t x) f ∙ number-field x h
-
--- The table's rule, as a program has it.
-pub entry-none : (k : ℕ) → entry k 0 ≡ 1
-unfolding entry
-entry-none zero = refl
-entry-none (suc k) = entry-none k
-
-pub entry-next : (k t : ℕ) → entry (suc k) (suc t) ≡ entry k (suc t) + entry (suc k) t
-unfolding entry
-entry-next k t = refl
-
-pub entry-empty : (t : ℕ) → 0 < t → entry 0 t ≡ 0
-unfolding entry
-entry-empty zero h = absurd (omega arith)
-entry-empty (suc t) h = refl
-
-pub entry-grows : (k t : ℕ) → entry k t ≤ entry (suc k) t
-unfolding entry
-entry-grows k zero = omega arith
-entry-grows k (suc t) = omega arith
-
-pub entry-width : (k t : ℕ) → entry k t ≤ 2 ^ (k + t)
-unfolding entry
-entry-width zero zero = omega arith
-entry-width zero (suc t) = omega arith
-entry-width (suc k) zero = let e : suc k + 0 ≡ suc (k + 0) = omega arith in rw e (omega (arith, entry-width k zero))
-entry-width (suc k) (suc t) =
-    let e : suc k + suc t ≡ suc (suc (k + t)) = omega arith in
-    let f : k + suc t ≡ suc (k + t) = omega arith in
-    let g : suc k + t ≡ suc (k + t) = omega arith in
-    rw e (omega (arith, rw f at (entry-width k (suc t)), rw g at (entry-width (suc k) t)))
-
--- The greatest entry is the last.
-pub entry-more : (k t : ℕ) → entry (suc k) t ≤ entry (suc k) (suc t)
-entry-more k t = omega (arith, entry-next k t)
-
-entry-kinds : (k t d : ℕ) → entry k t ≤ entry (k + d) t
-entry-kinds k t zero = let e : k + 0 ≡ k = omega arith in rw e (omega arith)
-entry-kinds k t (suc d) = let e : k + suc d ≡ suc (k + d) = omega arith in rw e (omega (arith, entry-kinds k t d, entry-grows (k + d) t))
-
-entry-sizes : (k t d : ℕ) → entry (suc k) t ≤ entry (suc k) (t + d)
-entry-sizes k t zero = let e : t + 0 ≡ t = omega arith in rw e (omega arith)
-entry-sizes k t (suc d) = let e : t + suc d ≡ suc (t + d) = omega arith in rw e (omega (arith, entry-sizes k t d, entry-more k (t + d)))
-
-pub entry-most : (k n t m : ℕ) → k ≤ suc n → t ≤ m → entry k t ≤ entry (suc n) m
-entry-most k n t m h l =
-    let e : k + (suc n - k) ≡ suc n = omega arith in
-    let f : t + (m - t) ≡ m = omega arith in
-    omega (arith, rw e at (entry-kinds k t (suc n - k)), rw f at (entry-sizes n t (m - t)))
 
 -- No token: the empty field alone.
 pub listed-none : (ks : List ℕ) → listed ks 0 ≡ none ∷ []

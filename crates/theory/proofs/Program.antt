@@ -17,7 +17,8 @@ use Rattle.theory.proofs.Moves.{expands-map, weigh-fire}
 use Rattle.theory.proofs.Normed.{Normed}
 use Rattle.theory.proofs.Stages.{Stage, level, level-cong}
 use Rattle.theory.proofs.Rank.{Within}
-use Rattle.theory.proofs.Base.{Base, Prime, Atom, Made, form, form-iff, candidate}
+use Rattle.theory.proofs.Base.{Base, Prime, Atom, Made, form}
+use Rattle.theory.proofs.Unique.{form-iff, candidate}
 use Rattle.theory.proofs.Settle.{tidy-within}
 use Rattle.theory.proofs.Decide.{Finite}
 use Rattle.theory.proofs.Count.{past, past-whole, level-low, level-base}
@@ -125,7 +126,7 @@ module _ (c : Card) (w : ℕ → ℕ) (F : Found (c .lines) (c .kinds) w) where
   pub record Candidate (q k : ℕ) (l : Line) : Type 0 where
     pub line : Line
     pub lowers : Lowers c w line
-    pub before : T (earlier w k (line .kind))
+    pub before : T (earlier w (line .kind) k)
     pub own : rowBy q (line .kind) ≡ unit (line .kind)
     pub code : line .code ≡ l .code
     pub row-told : rowBy q k ⊕ formBy q (line .left) ≡ unit (line .kind) ⊕ formBy q (l .left)

@@ -17,7 +17,8 @@ use Rattle.theory.proofs.Field.{weigh-unit, weigh-weights}
 use Rattle.theory.proofs.Normed.{Normed, norm, Tidy}
 use Rattle.theory.proofs.Stages.{Alike, level, Stage, level-cong}
 use Rattle.theory.proofs.Rank.{rank, rank-norm, rank-number, Within, decomp}
-use Rattle.theory.proofs.Base.{Base, Prime, Atom, Made, unique, form, unit-some}
+use Rattle.theory.proofs.Base.{Base, Prime, Atom, Made, form, unit-some}
+use Rattle.theory.proofs.Unique.{unique}
 use Rattle.theory.proofs.Settle.{Whole, Settled}
 use Rattle.theory.proofs.Decide.{Finite, list-finite}
 use Rattle.theory.proofs.Count.{past, past-whole, level-low, level-base, passes-settled, settles}
@@ -74,7 +75,7 @@ module _ (N : Normed) (xs : List Line) (to : (l : Line) → N .on l → List·Me
           go (no q) (no u) (no v) (yes e) = absurd (omega (arith, ap (rank N) e))
           go (no q) (no u) (no v) (no e) = absurd (omega (arith, rank-number N k j (omega arith) (omega arith)))
 
-  pub tells-earlier : (k j : ℕ) → k < N .n → j < N .n → Tells (earlier (N .w) k j) (rank N j < rank N k)
+  pub tells-earlier : (k j : ℕ) → k < N .n → j < N .n → Tells (earlier (N .w) j k) (rank N j < rank N k)
   unfolding earlier
   tells-earlier k j h i =
       tells-map (order-iff k j h i .0) (order-iff k j h i .1)
@@ -90,17 +91,17 @@ module _ (N : Normed) (xs : List Line) (to : (l : Line) → N .on l → List·Me
     unfolding atom
     tells-atom k h =
         tells-map (λ n c w p. n (c, listed c w (related-norm k h c p), p)) (λ f t. f (t .0) (within (t .0) (t .1)) (t .2))
-        (tells-not _ ((c : Field) × List·Memᴰ c (fieldsOfNorm (N .n) (earlier (N .w) k) (N .w) (N .w k)) × level N s (unit k) c)
-        (tells-any _ (level N s (unit k)) (tells s (unit k)) (fieldsOfNorm (N .n) (earlier (N .w) k) (N .w) (N .w k))))
+        (tells-not _ ((c : Field) × List·Memᴰ c (fieldsOfNorm (N .n) (λ j. earlier (N .w) j k) (N .w) (N .w k)) × level N s (unit k) c)
+        (tells-any _ (level N s (unit k)) (tells s (unit k)) (fieldsOfNorm (N .n) (λ j. earlier (N .w) j k) (N .w) (N .w k))))
       where
-        listed : (c : Field) → Within N (rank N k) c → norm N c ≡ N .w k → List·Memᴰ c (fieldsOfNorm (N .n) (earlier (N .w) k) (N .w) (N .w k))
+        listed : (c : Field) → Within N (rank N k) c → norm N c ≡ N .w k → List·Memᴰ c (fieldsOfNorm (N .n) (λ j. earlier (N .w) j k) (N .w) (N .w k))
         listed c w e =
-            fields-complete (earlier (N .w) k) (N .w) (N .n) (N .w k) c e
+            fields-complete (λ j. earlier (N .w) j k) (N .w) (N .n) (N .w k) c e
             (λ j i. let u = w j i in (u .0, tells-earlier k j h (u .0) .test (u .2))) (λ j i. w j i .1)
 
-        within : (c : Field) → List·Memᴰ c (fieldsOfNorm (N .n) (earlier (N .w) k) (N .w) (N .w k)) → Within N (rank N k) c
+        within : (c : Field) → List·Memᴰ c (fieldsOfNorm (N .n) (λ j. earlier (N .w) j k) (N .w) (N .w k)) → Within N (rank N k) c
         within c m j i =
-            let u = fields-sound (earlier (N .w) k) (N .w) (N .n) (N .w k) c m .1 j i in
+            let u = fields-sound (λ j. earlier (N .w) j k) (N .w) (N .n) (N .w k) c m .1 j i in
             (u .0, pos j (u .0), tells-earlier k j h (u .0) .fact (u .1))
 
     -- The row found is the base's.
@@ -115,7 +116,7 @@ module _ (N : Normed) (xs : List Line) (to : (l : Line) → N .on l → List·Me
         W = past-whole N finite
 
         ok : ℕ → Bool
-        ok j = both (earlier (N .w) k j) (atom card (N .w) S (suc s) j)
+        ok j = both (earlier (N .w) j k) (atom card (N .w) S (suc s) j)
 
         tells-ok : (j : ℕ) → j < N .n → Tells (ok j) ((rank N j < rank N k) × Prime N (level N s) j)
         tells-ok j i = tells-and _ _ (tells-earlier k j h i) (tells-atom j i)

@@ -11,7 +11,8 @@ use Rattle.theory.proofs.Normed.{Normed, Low, Tidy}
 use Rattle.theory.proofs.Stages.{Cong, Next, Stage, next-cong, stage-cong}
 use Rattle.theory.proofs.Game.{Fine, FineHolds, bisimilar-stage, bisimilar-holds}
 use Rattle.theory.proofs.Rank.{rank, Within, decomp-rel}
-use Rattle.theory.proofs.Base.{Base, Prime, form, form-unit, form-iff, within-unit}
+use Rattle.theory.proofs.Base.{Base, Prime, form, form-unit, within-unit}
+use Rattle.theory.proofs.Unique.{form-iff}
 
 -- The bound is past every kind.
 abbrev pub Whole : Normed → ℕ → Type 0

@@ -14,7 +14,9 @@ use Rattle.theory.specs.Shelves.{Precedes, Shelves, EntriesFit}
 use Rattle.theory.proofs.Field.{weigh-part}
 use Rattle.theory.proofs.Lists.{length-from, from-append}
 use Rattle.theory.proofs.Listing.{listed-length, total, Over, Once, listed-over, listed-total, listed-complete}
-use Rattle.theory.proofs.Numbering.{Rises, rises-at, listed-rises, number-field, number-has, field-number, field-over, entry-most, entry-width}
+use Rattle.theory.proofs.Order.{Rises, rises-at, listed-rises}
+use Rattle.theory.proofs.Entries.{entry-most, entry-width}
+use Rattle.theory.proofs.Numbering.{number-field, number-has, field-number, field-over}
 
 -- The kinds below n, the last first: kind n stands before them.
 down-next : (n : ℕ) → reverse (below (suc n)) ≡ n ∷ reverse (below n)

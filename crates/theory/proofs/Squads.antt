@@ -20,7 +20,8 @@ use Rattle.theory.specs.Squads.{Joined, IsLargest, Squads}
 use Rattle.theory.proofs.Field.{weigh-plus, weigh-part, weigh-some, weigh-mono}
 use Rattle.theory.proofs.Stages.{level-cong}
 use Rattle.theory.proofs.Rank.{Within}
-use Rattle.theory.proofs.Base.{form, form-self, form-iff, form-within, form-rel}
+use Rattle.theory.proofs.Base.{form, form-self, form-within, form-rel}
+use Rattle.theory.proofs.Unique.{form-iff}
 use Rattle.theory.proofs.Settle.{tidy-within}
 use Rattle.theory.proofs.Count.{past-whole, level-low}
 use Rattle.theory.proofs.Lists.{getD-from, getD-past}

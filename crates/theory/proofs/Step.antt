@@ -10,7 +10,8 @@ use Rattle.theory.proofs.Moves.{expands-map}
 use Rattle.theory.proofs.Normed.{Normed, Low, Tidy}
 use Rattle.theory.proofs.Stages.{Cong, Down, down-cong, Down-in, Down-out, Down-make}
 use Rattle.theory.proofs.Rank.{rank, Within, low-within}
-use Rattle.theory.proofs.Base.{Base, form, form-iff, within-fire, unit-some}
+use Rattle.theory.proofs.Base.{Base, form, within-fire, unit-some}
+use Rattle.theory.proofs.Unique.{form-iff}
 use Rattle.theory.proofs.Settle.{Whole, tidy-within, tidy-fire}
 
 -- Equal forms under a base.

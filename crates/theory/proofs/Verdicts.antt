@@ -23,7 +23,8 @@ use Rattle.theory.proofs.Moves.{expands-map}
 use Rattle.theory.proofs.Normed.{Normed, Tidy}
 use Rattle.theory.proofs.Stages.{Stage, level, level-cong}
 use Rattle.theory.proofs.Rank.{rank, Within}
-use Rattle.theory.proofs.Base.{Base, form, form-within, form-rel, form-iff, unit-some}
+use Rattle.theory.proofs.Base.{Base, form, form-within, form-rel, unit-some}
+use Rattle.theory.proofs.Unique.{form-iff}
 use Rattle.theory.proofs.Base.{Prime as BasePrime}
 use Rattle.theory.proofs.Settle.{tidy-within, tidy-fire}
 use Rattle.theory.proofs.Decide.{Finite, dec-stage}

@@ -13,24 +13,24 @@ pub enum Checked {
     Refused { number: usize, place: usize },
 }
 
-// "out of range"
-pub fn outside(low: usize, high: usize, x: usize) -> bool
-    ensures { λ r. ⌜ r ≡ outsideOf low high x ⌝ }
+// "out of range": whether a number is below the low end or above the high one.
+pub fn outside(low: usize, high: usize, number: usize) -> bool
+    ensures { λ r. ⌜ r ≡ outsideOf low high number ⌝ }
 {
-    x < low || high < x
+    number < low || high < number
 }
 
 // 1 to 5: the length, and the header's four numbers.
-fn check_numbers(s: &[u8]) -> Checked
-    ensures { λ r. ⌜ r ≡ outcome (headerOf (now (s .entry))) (firstOf (numberChecks (now (s .entry)))) ⌝ }
+fn check_numbers(sheet: &[u8]) -> Checked
+    ensures { λ r. ⌜ r ≡ outcome (headerOf (now (sheet .entry))) (firstOf (numberChecks (now (sheet .entry)))) ⌝ }
 {
-    if s.len() < Card::HEADER {
+    if sheet.len() < Card::HEADER {
         return Checked::Refused {
             number: 1,
             place: 0,
         };
     }
-    let card = Card::of_header(s);
+    let card = Card::of_header(sheet);
     let kinds = card.kinds;
     let codes = card.codes;
     let lines = card.lines;
@@ -63,32 +63,32 @@ fn check_numbers(s: &[u8]) -> Checked
 }
 
 // 6, at places 0 to 3: the offset of the lines, that of the fields, the total, and the bytes given.
-fn check_layout(s: &[u8], card: Card) -> Checked
-    requires { ⌜ card ≡ headerOf (now s) ⌝ }
-    requires { ⌜ firstOf (numberChecks (now s)) ≡ clear ⌝ }
-    ensures { λ r. ⌜ r ≡ outcome card (firstOf (layoutChecks (now (s .entry)))) ⌝ }
+fn check_layout(sheet: &[u8], card: Card) -> Checked
+    requires { ⌜ card ≡ headerOf (now sheet) ⌝ }
+    requires { ⌜ firstOf (numberChecks (now sheet)) ≡ clear ⌝ }
+    ensures { λ r. ⌜ r ≡ outcome card (firstOf (layoutChecks (now (sheet .entry)))) ⌝ }
 {
     let fields = card.line_start(card.lines);
     let total = card.field_start(card.fields);
-    if u32_at(s, 8) != Card::HEADER {
+    if u32_at(sheet, 8) != Card::HEADER {
         return Checked::Refused {
             number: 6,
             place: 0,
         };
     }
-    if u32_at(s, 12) != fields {
+    if u32_at(sheet, 12) != fields {
         return Checked::Refused {
             number: 6,
             place: 1,
         };
     }
-    if u32_at(s, 16) != total {
+    if u32_at(sheet, 16) != total {
         return Checked::Refused {
             number: 6,
             place: 2,
         };
     }
-    if s.len() != total {
+    if sheet.len() != total {
         return Checked::Refused {
             number: 6,
             place: 3,
@@ -98,10 +98,10 @@ fn check_layout(s: &[u8], card: Card) -> Checked
 }
 
 // 7 and 8, line by line.
-fn check_lines(s: &[u8], card: Card) -> Checked
-    requires { ⌜ card ≡ headerOf (now s) ⌝ }
-    requires { ⌜ firstOf (headerChecks (now s)) ≡ clear ⌝ }
-    ensures { λ r. ⌜ r ≡ outcome card (firstOf (lineChecks (now (s .entry)))) ⌝ }
+fn check_lines(sheet: &[u8], card: Card) -> Checked
+    requires { ⌜ card ≡ headerOf (now sheet) ⌝ }
+    requires { ⌜ firstOf (headerChecks (now sheet)) ≡ clear ⌝ }
+    ensures { λ r. ⌜ r ≡ outcome card (firstOf (lineChecks (now (sheet .entry)))) ⌝ }
 {
     let kinds = card.kinds;
     let codes = card.codes;
@@ -109,13 +109,13 @@ fn check_lines(s: &[u8], card: Card) -> Checked
     let mut j = 0;
     while j < lines {
         let start = card.line_start(j);
-        if kinds <= byte_at(s, start) {
+        if kinds <= byte_at(sheet, start) {
             return Checked::Refused {
                 number: 7,
                 place: j,
             };
         }
-        if codes <= byte_at(s, start + 1) {
+        if codes <= byte_at(sheet, start + 1) {
             return Checked::Refused {
                 number: 8,
                 place: j,
@@ -127,14 +127,14 @@ fn check_lines(s: &[u8], card: Card) -> Checked
 }
 
 // 1 to 8, of any bytes of any length.
-pub fn check_sheet(s: &[u8]) -> Checked
-    ensures { λ r. ⌜ r ≡ checkedOf (now (s .entry)) ⌝ }
+pub fn check_sheet(sheet: &[u8]) -> Checked
+    ensures { λ r. ⌜ r ≡ checkedOf (now (sheet .entry)) ⌝ }
 {
-    match check_numbers(s) {
+    match check_numbers(sheet) {
         Checked::Refused { number, place } => Checked::Refused { number, place },
-        Checked::Passed(card) => match check_layout(s, card) {
+        Checked::Passed(card) => match check_layout(sheet, card) {
             Checked::Refused { number, place } => Checked::Refused { number, place },
-            Checked::Passed(card) => check_lines(s, card),
+            Checked::Passed(card) => check_lines(sheet, card),
         },
     }
 }

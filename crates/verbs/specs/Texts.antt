@@ -1,13 +1,15 @@
 -- The text of each call's answer.
 use mathlib.Core.List.{List, _++_}
-use Prim.Native.Nat.{ℕ}
+use Prim.Native.Nat.{ℕ, _+_}
 use lib.ListN.{replicate}
 use Rattle.model.specs.Finite.{concat, listFrom}
+use Rattle.model.specs.Limits.{mostKinds}
 use Rattle.model.specs.Sheet.{kindCount}
 use Rattle.model.specs.Refusal.{Finding, clear, refusal}
 use Rattle.model.specs.Answer.{Answer, refused, given, Verdict, settleOf, rowOf, rowCheckOf, compareOf, formOf}
 use Rattle.model.specs.Page.{bytes, number, newline, wordOf}
 use Rattle.text.specs.Count.{countsLine}
+use Rattle.text.specs.Lengths.{letters, mostDigits, mostCounts}
 use Rattle.replies.specs.Texts.{worded, countsText}
 
 -- The room that is lent: a table and a form of any card.
@@ -16,6 +18,14 @@ tableRoom = replicate 1024 0
 
 unfoldable pub formRoom : List ℕ
 formRoom = replicate 32 0
+
+-- The most bytes of `stages S`.
+abbrev pub mostStages : ℕ
+mostStages = letters "stages " + mostDigits + letters "\n"
+
+-- The most bytes of a row: a count for every kind that a sheet may have.
+abbrev pub mostRow : ℕ
+mostRow = letters "\n" + mostCounts mostKinds
 
 -- `stages S`, and then the rows, each on a line of its own.
 unfoldable pub stagesLine : ℕ → List ℕ

@@ -40,13 +40,13 @@ fn put_verdict(out: &mut [u8], verdict: Verdict) -> Reply
 }
 
 // The verdict on two fields.
-pub fn compare_fields(s: &[u8], numbers: &[u64], out: &mut [u8]) -> Reply
+pub fn compare_fields(sheet: &[u8], numbers: &[u64], out: &mut [u8]) -> Reply
     requires { ⌜ mostText ≤ length (now out) ⌝ }
-    ensures { λ r. ⌜ Tells (compareTold (now (s .entry)) (now (numbers .entry))) (now (out .entry)) (now (out .exit)) r ⌝ }
+    ensures { λ r. ⌜ Tells (compareTold (now (sheet .entry)) (now (numbers .entry))) (now (out .entry)) (now (out .exit)) r ⌝ }
 {
     if numbers.len() != 2 {
         return no_call();
     }
-    let verdict = compare(s, numbers[0] as usize, numbers[1] as usize);
+    let verdict = compare(sheet, numbers[0] as usize, numbers[1] as usize);
     put_verdict(out, verdict)
 }

@@ -6,7 +6,7 @@ use replies::reply::Reply;
 use replies::reply::no_call;
 use replies::reply::refuse;
 use sheet::Card;
-use text::put_form_line;
+use text::put_counts_line;
 ghost use mathlib.Core.Path.{_≡_};
 ghost use Prim.Native.Nat.{_≤_};
 ghost use lib.ListN.{length};
@@ -23,19 +23,19 @@ fn form_room() -> [u64; 32]
 }
 
 // The counts of a field's prime form.
-pub fn field_form(s: &[u8], numbers: &[u64], out: &mut [u8]) -> Reply
+pub fn field_form(sheet: &[u8], numbers: &[u64], out: &mut [u8]) -> Reply
     requires { ⌜ mostText ≤ length (now out) ⌝ }
-    ensures { λ r. ⌜ Tells (formTold (now (s .entry)) (now (numbers .entry))) (now (out .entry)) (now (out .exit)) r ⌝ }
+    ensures { λ r. ⌜ Tells (formTold (now (sheet .entry)) (now (numbers .entry))) (now (out .entry)) (now (out .exit)) r ⌝ }
 {
     if numbers.len() != 1 {
         return no_call();
     }
     let mut form = form_room();
-    match prime_form(s, numbers[0] as usize, &mut form) {
+    match prime_form(sheet, numbers[0] as usize, &mut form) {
         Forming::Written => {
-            let card = Card::of_header(s);
+            let card = Card::of_header(sheet);
             let n = card.kinds;
-            let length = put_form_line(out, 0, &form[..n]);
+            let length = put_counts_line(out, 0, &form[..n]);
             Reply {
                 outcome: Outcome::Answered,
                 length,

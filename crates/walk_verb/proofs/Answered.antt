@@ -8,7 +8,7 @@ use Rattle.model.specs.Walk.{WalkAnswer}
 use Rattle.model.specs.Answer.{Answer, refused, given, walkOf}
 use Rattle.text.specs.Appended.{Appended}
 use Rattle.text.proofs.Append.{from-start}
-use Rattle.walkline.specs.Line.{drawnText, foundText, answerLine}
+use Rattle.walk_text.specs.Line.{drawnText, foundText, answerLine}
 use Rattle.replies.specs.Told.{told, noCall, endOf, Tells}
 use Rattle.replies.specs.Texts.{worded}
 use Rattle.replies.specs.declared.reply.Outcome.{Outcome}

@@ -4,7 +4,7 @@ use Prim.Native.Nat.{ℕ, suc}
 use lib.ListN.{replicate, set}
 use Rattle.model.specs.Limits.{lastDesk}
 use Rattle.model.specs.Answer.{Answer, walkOf}
-use Rattle.walkline.specs.Line.{drawnText, foundText}
+use Rattle.walk_text.specs.Line.{drawnText, foundText}
 use Rattle.replies.specs.Texts.{worded}
 
 -- A session in which one desk has an allowance and the others have none.

@@ -2,11 +2,11 @@
 use replies::reply::Outcome;
 use replies::reply::Reply;
 use replies::reply::no_call;
+use walk_text::put_walk;
 use walker::Answer;
 use walker::DESKS;
 use walker::Session;
 use walker::walk;
-use walkline::put_walk;
 ghost use mathlib.Core.Path.{_≡_};
 ghost use Prim.Native.Nat.{_≤_};
 ghost use lib.ListN.{getD, length};
@@ -54,9 +54,9 @@ fn session_of(desk: usize, allowance: u32) -> Session
 }
 
 // The walk of two fields by a desk, in a session that gives it the allowance.
-pub fn walk_fields(s: &[u8], numbers: &[u64], out: &mut [u8]) -> Reply
+pub fn walk_fields(sheet: &[u8], numbers: &[u64], out: &mut [u8]) -> Reply
     requires { ⌜ mostText ≤ length (now out) ⌝ }
-    ensures { λ r. ⌜ Tells (walkTold (now (s .entry)) (now (numbers .entry))) (now (out .entry)) (now (out .exit)) r ⌝ }
+    ensures { λ r. ⌜ Tells (walkTold (now (sheet .entry)) (now (numbers .entry))) (now (out .entry)) (now (out .exit)) r ⌝ }
 {
     if numbers.len() < 4 {
         return no_call();
@@ -71,7 +71,7 @@ pub fn walk_fields(s: &[u8], numbers: &[u64], out: &mut [u8]) -> Reply
     let desk = desk_of(numbers);
     let session = session_of(desk, allowance as u32);
     let walked = walk(
-        s,
+        sheet,
         numbers[0] as usize,
         numbers[1] as usize,
         numbers[2],

@@ -1,4 +1,5 @@
 // The walk as it is called: the checks, the numbers of rounds one after another, and the session.
+use game::challenges::Part;
 use game::rounds::Examined;
 use game::rounds::challenge;
 use moves::follow::ENTRIES;
@@ -6,6 +7,7 @@ use moves::follow::fill_table;
 use sheet::Card;
 use validation::Checked;
 use validation::check_sheet;
+use validation::fields::check_fields;
 ghost use mathlib.Core.Path.{_≡_};
 ghost use Prim.Native.Nat.{_≤_, _<_};
 ghost use Rattle.model.specs.Field.{at};
@@ -108,19 +110,19 @@ fn spend(allowance: u32) -> Played
 
 // "It tries 1, 2, up to the limit", each time from the pair itself, which counts 1.
 fn try_rounds(
+    sheet: &[u8],
     card: Card,
-    s: &[u8],
-    t: &[u16; ENTRIES],
-    a: &[u32; 32],
-    b: &[u32; 32],
+    table: &[u16; ENTRIES],
+    first: &[u32; 32],
+    second: &[u32; 32],
     limit: u64,
     allowance: u32,
 ) -> Played
-    requires { ⌜ Reads (now s) card × Follows (now s) (now t) ⌝ }
+    requires { ⌜ Reads (now sheet) card × Follows (now sheet) (now table) ⌝ }
     requires { ⌜ limit ≤ mostRounds ⌝ }
-    requires { ⌜ Bounded mostRounds (now a) × Bounded mostRounds (now b) ⌝ }
+    requires { ⌜ Bounded mostRounds (now first) × Bounded mostRounds (now second) ⌝ }
     ensures { λ r. ⌜
-        Plays r (within allowance (model.walk (cardOf (now (s .entry)) .lines) (at (now (a .entry))) (at (now (b .entry))) 1 limit)) ⌝ }
+        Plays r (within allowance (model.walk (cardOf (now (sheet .entry)) .lines) (at (now (first .entry))) (at (now (second .entry))) 1 limit)) ⌝ }
 {
     let challenges = 2 * card.lines;
     let mut left = allowance;
@@ -129,7 +131,8 @@ fn try_rounds(
         if left == 0 {
             return spend(allowance);
         }
-        match challenge(card, s, t, rounds, 0, challenges, a, b, left - 1) {
+        let part = Part::new(rounds, 0, challenges, left - 1);
+        match challenge(sheet, card, table, part, first, second) {
             Examined::Holds(rest) => {
                 left = rest;
             }
@@ -149,55 +152,56 @@ fn try_rounds(
     }
 }
 
-// The walk on a card that was read, by a desk that there is: 11 and 13 are checked, the fields are read, and the table of the lines that follow is made, 33 KB in this frame.
+// The walk on a card that was read, of two fields that there are, by a desk that there is: 13 is checked, the fields are read, and the table of the lines that follow is made, 33 KB in this frame.
 fn walk_card(
+    sheet: &[u8],
     card: Card,
-    s: &[u8],
     first: usize,
     second: usize,
     limit: u64,
     desk: usize,
     session: Session,
 ) -> Walked
-    requires { ⌜ Reads (now s) card ⌝ }
-    requires { ⌜ desk ≤ lastDesk ⌝ }
-    ensures { λ r. ⌜ walkedOf r ≡ walkOf (now (s .entry)) first second limit desk (sessionOf session) ⌝ }
+    requires { ⌜ Reads (now sheet) card ⌝ }
+    requires { ⌜ (first < card .fields) × (second < card .fields) × (desk ≤ lastDesk) ⌝ }
+    ensures { λ r. ⌜ walkedOf r ≡ walkOf (now (sheet .entry)) first second limit desk (sessionOf session) ⌝ }
 {
-    let fields = card.fields;
-    if fields <= first {
-        return refuse(11, 0, session);
-    }
-    if fields <= second {
-        return refuse(11, 1, session);
-    }
     if ROUNDS < limit {
         return refuse(13, 0, session);
     }
-    let a = card.field(s, first);
-    let b = card.field(s, second);
-    let mut t = [0u16; ENTRIES];
-    fill_table(card, s, &mut t);
+    let first_field = card.field(sheet, first);
+    let second_field = card.field(sheet, second);
+    let mut table = [0u16; ENTRIES];
+    fill_table(sheet, card, &mut table);
     let allowance = left_of(desk, session);
-    let played = try_rounds(card, s, &t, &a, &b, limit, allowance);
+    let played = try_rounds(
+        sheet,
+        card,
+        &table,
+        &first_field,
+        &second_field,
+        limit,
+        allowance,
+    );
     draw(played, desk, session)
 }
 
 // Walk: "two fields, a round limit 0 to 8, a session", and its desk: "16 a desk over 7, place 0, before the header is looked at".
 pub fn walk(
-    s: &[u8],
+    sheet: &[u8],
     first: usize,
     second: usize,
     limit: u64,
     desk: usize,
     session: Session,
 ) -> Walked
-    ensures { λ r. ⌜ walkedOf r ≡ walkOf (now (s .entry)) first second limit desk (sessionOf session) ⌝ }
+    ensures { λ r. ⌜ walkedOf r ≡ walkOf (now (sheet .entry)) first second limit desk (sessionOf session) ⌝ }
 {
     if DESKS <= desk {
         return refuse(16, 0, session);
     }
-    match check_sheet(s) {
-        Checked::Passed(card) => walk_card(card, s, first, second, limit, desk, session),
+    match check_fields(check_sheet(sheet), first, second) {
+        Checked::Passed(card) => walk_card(sheet, card, first, second, limit, desk, session),
         Checked::Refused { number, place } => refuse(number, place, session),
     }
 }

@@ -1,17 +1,16 @@
--- The values of reads, the lesser of two, and the order of kinds.
+-- The values of reads, and the lesser of two.
 use mathlib.Core.Bool.{Bool, true, false}
 use mathlib.Core.List.{List, _∷_}
 use mathlib.Core.Path.{_≡_, refl, sym, _∙_, ap}
 use Prim.Native.Nat.{ℕ, suc, _<_, min}
 use native.Mathlib.Decide.{ℕ-discrete}
 use native.Mathlib.Omega.{arith}
-use borrow.Author.Tests.{eq-eqb, ne-eqb, le-ltb}
-use lib.Dec.{eqb, ltb}
-use Rattle.model.specs.Finite.{both, either}
+use borrow.Author.Tests.{eq-eqb, ne-eqb}
+use lib.Dec.{eqb}
+use Rattle.model.specs.Finite.{both}
 use Rattle.model.specs.Field.{Field, weigh}
 use Rattle.model.specs.Card.{Line}
 use Rattle.model.specs.Norm.{ready, sooner, best}
-use Rattle.model.specs.Base.{earlier}
 use Rattle.weights.specs.Value.{readValue, lesserOf}
 
 -- The value of a read.
@@ -39,19 +38,6 @@ lesser-left x y n e = rw (ne-eqb x 0 n, lesserOf, eq-eqb y 0 e, sooner)
 pub lesser-both : (x y : ℕ) → ¬ (x ≡ 0) → ¬ (y ≡ 0) → lesserOf x y ≡ min x y
 unfolding lesserOf
 lesser-both x y n m = rw (ne-eqb x 0 n, lesserOf, ne-eqb y 0 m, sooner)
-
--- "by norm, then by number"
-pub earlier-tie : (w : ℕ → ℕ) (k j : ℕ) → w j ≡ w k → earlier w k j ≡ ltb j k
-unfolding earlier
-earlier-tie w k j e = rw (le-ltb (w j) (w k) (omega arith), earlier, eq-eqb (w j) (w k) e)
-
-pub earlier-norm : (w : ℕ → ℕ) (k j : ℕ) → ¬ (w j ≡ w k) → earlier w k j ≡ ltb (w j) (w k)
-unfolding earlier
-earlier-norm w k j n = rw (ne-eqb (w j) (w k) n, earlier) (either-false (ltb (w j) (w k)))
-  where
-    either-false : (b : Bool) → either b false ≡ b
-    either-false true = refl
-    either-false false = refl
 
 -- The value that a line gives kind k: that of a read by it, if it is a line of k.
 unfoldable pub lineValue : ℕ → (ℕ → ℕ) → ℕ → Line → ℕ

@@ -49,28 +49,28 @@ pub fn read_value(values: &[u32; 32], counts: &[u8]) -> u32
 }
 
 // The lesser of two values, where 0 is none.
-pub fn lesser(x: u32, y: u32) -> u32
-    ensures { λ r. ⌜ r ≡ lesserOf x y ⌝ }
+pub fn lesser(first: u32, second: u32) -> u32
+    ensures { λ r. ⌜ r ≡ lesserOf first second ⌝ }
 {
-    if x == 0 {
-        return y;
+    if first == 0 {
+        return second;
     }
-    if y == 0 {
-        return x;
+    if second == 0 {
+        return first;
     }
-    if x < y { x } else { y }
+    if first < second { first } else { second }
 }
 
 // A byte as a number of 64 bits.
-fn wide8(x: u8) -> u64
-    ensures { λ r. ⌜ r ≡ x ⌝ }
+fn wide8(value: u8) -> u64
+    ensures { λ r. ⌜ r ≡ value ⌝ }
 {
-    x as u64
+    value as u64
 }
 
 // A count or a norm as a number of 64 bits.
-pub fn wide32(x: u32) -> u64
-    ensures { λ r. ⌜ r ≡ x ⌝ }
+pub fn wide32(value: u32) -> u64
+    ensures { λ r. ⌜ r ≡ value ⌝ }
 {
-    x as u64
+    value as u64
 }

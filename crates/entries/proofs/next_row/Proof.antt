@@ -12,7 +12,7 @@ abbrev μ-loop : tie.MeasureT-loop
 μ-loop row₀ k t₀ row t = 17 - t
 
 loop-holds : tie.Need-loop-holds Inv-loop μ-loop
-loop-holds c = (omega arith, omega arith, none-new (c .args .k) (c .pre .0))
+loop-holds c = (omega arith, omega arith, none-new (c .args .kinds) (c .pre .0))
 
 mul-row : tie.Need-mul-row Inv-loop μ-loop
 mul-row c = omega arith
@@ -32,7 +32,7 @@ element-copy-out-row-2 c = omega arith
 add-row : tie.Need-add-row Inv-loop μ-loop
 add-row c =
     let loop = c .before .before .before in
-    omega (arith, sum-fits (loop .before .args .k) (loop .loop .t) (loop .loop .inv .2) (omega arith) (omega arith) (omega arith))
+    omega (arith, sum-fits (loop .before .args .kinds) (loop .loop .t) (loop .loop .inv .2) (omega arith) (omega arith) (omega arith))
 
 mul-row-3 : tie.Need-mul-row-3 Inv-loop μ-loop
 mul-row-3 c = omega arith
@@ -49,10 +49,10 @@ loop-less c = omega arith
 loop-again : tie.Need-loop-again Inv-loop μ-loop
 loop-again c =
     let loop = c .before .before .before in
-    (omega arith, omega arith, one-new (loop .before .args .k) (loop .loop .t) (loop .loop .inv .2) (omega arith) (omega arith))
+    (omega arith, omega arith, one-new (loop .before .args .kinds) (loop .loop .t) (loop .loop .inv .2) (omega arith) (omega arith))
 
 returns : tie.Need-returns Inv-loop μ-loop
-returns c = all-new (c .before .before .args .k) (c .before .loop .t) (c .before .loop .inv .2) (omega arith)
+returns c = all-new (c .before .before .args .kinds) (c .before .loop .t) (c .before .loop .inv .2) (omega arith)
 
 pub next-row-spec : {M : Type 1} → statement M
 next-row-spec =

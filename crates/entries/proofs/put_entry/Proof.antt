@@ -26,8 +26,9 @@ same-length c = search needs
 returns : tie.Need-returns
 unfolding entryLine bytes
 returns c =
-    let labelled = c .before .before .before .before .before .before .before in
-    reads-as 26 (entryLine (labelled .before .before .before .before .args .entry)) (then (labelled .put-labelled .ensures) (c .before .before .put-bytes .ensures)) (omega arith) refl
+    let start = c .before .before .before .before .before .before .before .before .before .before .before in
+    let labelled = c .before .before .before .before .before .before .before .put-labelled in
+    reads-as 26 (entryLine (start .args .entry)) (then (labelled .ensures) (c .before .before .put-bytes .ensures)) (omega arith) refl
 
 pub put-entry-spec : {M : Type 1} → statement M
 put-entry-spec =

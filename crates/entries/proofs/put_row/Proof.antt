@@ -44,7 +44,9 @@ same-length : tie.Need-same-length Inv-loop μ-loop
 same-length c = c .before .loop .inv .1 .size
 
 returns : tie.Need-returns Inv-loop μ-loop
-returns c = lines-all (c .before .before .before .before .args .row .now) (omega arith) (c .before .loop .inv .1)
+returns c =
+    let start = c .before .before .before .before in
+    lines-all (start .args .row .now) (omega arith) (c .before .loop .inv .1)
 
 pub put-row-spec : {M : Type 1} → statement M
 put-row-spec =

@@ -37,7 +37,9 @@ next-row-requires : tie.Need-next-row-requires Inv-loop μ-loop
 next-row-requires c κs = (c .before .before .loop .inv .1, omega arith)
 
 slice-aggregate-put-row-2 : tie.Need-slice-aggregate-put-row-2 Inv-loop μ-loop
-slice-aggregate-put-row-2 c = sym (seventeen (c .before .before .before .before .before .loop .k + 1) (c .before .before .next-row .ensures))
+slice-aggregate-put-row-2 c =
+    let loop = c .before .before .before .before .before .loop in
+    sym (seventeen (loop .k + 1) (c .before .before .next-row .ensures))
 
 put-row-requires-2 : tie.Need-put-row-requires-2 Inv-loop μ-loop
 put-row-requires-2 c κs =
@@ -59,7 +61,9 @@ loop-again c =
     (omega arith, row, next-text rowText 1 (loop .loop .k) (loop .loop .inv .2) (row-lines (loop .loop .k + 1) row (c .before .before .put-row2 .ensures)) (omega arith))
 
 same-length : tie.Need-same-length Inv-loop μ-loop
-same-length c = c .before .loop .inv .2 .size ∙ c .before .before .before .before .put-row .ensures .size
+same-length c =
+    let put-row = c .before .before .before .before .put-row in
+    c .before .loop .inv .2 .size ∙ put-row .ensures .size
 
 returns : tie.Need-returns Inv-loop μ-loop
 returns c =

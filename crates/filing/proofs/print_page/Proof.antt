@@ -4,15 +4,18 @@ use Prim.Native.Nat.{_≤_}
 use native.Mathlib.Omega.{arith}
 use lib.ListN.{length, replicate}
 use lib.Seq.{length-take-le}
+use Rattle.page.specs.Lengths.{mostPage}
 use Rattle.page.specs.Writing.{writingOf}
 use Rattle.page.proofs.Pages.{written-within}
 use borrow.Author.Needs.{needs}
 use Rattle.filing.proofs.print_page.Statement.{statement}
 use Rattle.filing.proofs.print_page.Tie as tie
 
-fits : (c : tie.After-print-arg) → c .before .before .length .given .0 .0 ≤ length (c .before .before .before .before .before .write-page .last .1 .0)
+fits : (c : tie.After-print-arg) → let write-page = c .before .before .before .before .before .write-page in c .before .before .length .given .0 .0 ≤ length (write-page .last .1 .0)
 fits c =
-    omega (arith, written-within (c .before .before .before .before .before .before .before .before .args .s .now) (replicate 73319 0) (c .before .before .length .given .0 .0) (ap writingOf (sym (c .before .before .length .given .1)) ∙ c .before .before .before .before .before .write-page .ensures .0))
+    let start = c .before .before .before .before .before .before .before .before in
+    let write-page = c .before .before .before .before .before .write-page in
+    omega (arith, written-within (start .args .sheet .now) (replicate mostPage 0) (c .before .before .length .given .0 .0) (ap writingOf (sym (c .before .before .length .given .1)) ∙ write-page .ensures .0))
 
 slice-aggregate-write-page : tie.Need-slice-aggregate-write-page
 slice-aggregate-write-page c = search needs

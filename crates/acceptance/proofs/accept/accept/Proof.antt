@@ -8,7 +8,7 @@ use Rattle.acceptance.proofs.accept.accept.Statement.{statement}
 use Rattle.acceptance.proofs.accept.accept.Tie as tie
 
 -- The card was read from the sheet.
-card-told : (c : tie.After-card) → Reads (c .before .before .before .before .args .s .now) (c .card .given .0 .0)
+card-told : (c : tie.After-card) → let start = c .before .before .before .before in Reads (start .args .sheet .now) (c .card .given .0 .0)
 card-told c = sheet-read _ _ (sym (c .before .before .check-sheet .ensures) ∙ c .card .given .1)
 
 check-sheet-requires : tie.Need-check-sheet-requires
@@ -39,17 +39,24 @@ enum-known-card-2 : tie.Need-enum-known-card-2
 enum-known-card-2 c = search needs
 
 returns : tie.Need-returns
-returns c = c .refuse .ensures ∙ sheet-refused _ _ _ (sym (c .before .before .before .before .check-sheet .ensures) ∙ c .before .before .number .given .1)
+returns c =
+    let check-sheet = c .before .before .before .before .check-sheet in
+    c .refuse .ensures ∙ sheet-refused _ _ _ (sym (check-sheet .ensures) ∙ c .before .before .number .given .1)
 
 returns-2 : tie.Need-returns-2
 returns-2 c =
+    let after-card = c .before .before .before .before .before .before .before .before in
+    let kind-norms = c .before .before .before .before .before .before .kind-norms in
+    let check-norms = c .before .before .before .before .check-norms in
     c .refuse2 .ensures
-    ∙ norms-refused (card-told (c .before .before .before .before .before .before .before .before)) _ (c .before .before .before .before .before .before .kind-norms .ensures) _ _
-    (sym (c .before .before .before .before .check-norms .ensures) ∙ c .before .before .number2 .given .1)
+    ∙ norms-refused (card-told after-card) _ (kind-norms .ensures) _ _
+    (sym (check-norms .ensures) ∙ c .before .before .number2 .given .1)
 
 returns-3 : tie.Need-returns-3
 returns-3 c =
-    norms-passed (card-told (c .before .before .before .before .before .before .before)) _ (c .before .before .before .before .before .kind-norms .ensures) _
+    let after-card = c .before .before .before .before .before .before .before in
+    let kind-norms = c .before .before .before .before .before .kind-norms in
+    norms-passed (card-told after-card) _ (kind-norms .ensures) _
     (sym (c .before .before .before .check-norms .ensures) ∙ c .before .card2 .given .1)
 
 pub accept-spec : {M : Type 1} → statement M

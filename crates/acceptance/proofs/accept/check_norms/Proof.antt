@@ -12,23 +12,23 @@ first-missing-requires c κs = search needs
 
 returns : tie.Need-returns
 returns c =
-    let a = c .before .before .args in
-    refuses _ _ _ _ (missing-stops (at (a .norms .now)) (a .card .kinds) _ (c .before .first-missing .ensures) (c .if1 .taken))
+    let args = c .before .before .args in
+    refuses _ _ _ _ (missing-stops (at (args .norms .now)) (args .card .kinds) _ (c .before .first-missing .ensures) (c .if1 .taken))
 
 first-over-requires : tie.Need-first-over-requires
 first-over-requires c κs = search needs
 
 returns-2 : tie.Need-returns-2
 returns-2 c =
-    let a = c .before .before .before .before .args in
+    let args = c .before .before .before .before .args in
     refuses _ _ _ _
-    (over-stops (at (a .norms .now)) (a .card .kinds) _ (c .before .before .before .first-missing .ensures) (c .before .before .if1 .left) _ (c .before .first-over .ensures) (c .if2 .taken))
+    (over-stops (at (args .norms .now)) (args .card .kinds) _ (c .before .before .before .first-missing .ensures) (c .before .before .if1 .left) _ (c .before .first-over .ensures) (c .if2 .taken))
 
 returns-3 : tie.Need-returns-3
 returns-3 c =
-    let a = c .before .before .before .before .args in
+    let args = c .before .before .before .before .args in
     passes _ _ _ refl
-    (norms-pass (at (a .norms .now)) (a .card .kinds) _ (c .before .before .before .first-missing .ensures) (c .before .before .if1 .left) _ (c .before .first-over .ensures) (c .if2 .left))
+    (norms-pass (at (args .norms .now)) (args .card .kinds) _ (c .before .before .before .first-missing .ensures) (c .before .before .if1 .left) _ (c .before .first-over .ensures) (c .if2 .left))
 
 pub check-norms-spec : {M : Type 1} → statement M
 check-norms-spec =

@@ -27,7 +27,9 @@ element-copy-out-norm : tie.Need-element-copy-out-norm Inv-loop μ-loop
 element-copy-out-norm c = search needs
 
 returns : tie.Need-returns Inv-loop μ-loop
-returns c = sym (c .before .before .before .loop .inv .1 ∙ least-here _ (c .before .before .before .loop .k) (c .before .before .before .before .args .kinds) (c .before .before .loop-test .taken) (lt-ltb normLimit (at (c .before .before .before .before .args .norms .now) (c .before .before .before .loop .k)) (c .if1 .taken)))
+returns c =
+    let start = c .before .before .before .before in
+    sym (c .before .before .before .loop .inv .1 ∙ least-here _ (c .before .before .before .loop .k) (start .args .kinds) (c .before .before .loop-test .taken) (lt-ltb normLimit (at (start .args .norms .now) (c .before .before .before .loop .k)) (c .if1 .taken)))
 
 add-k : tie.Need-add-k Inv-loop μ-loop
 add-k c = search needs
@@ -36,7 +38,9 @@ loop-less : tie.Need-loop-less Inv-loop μ-loop
 loop-less c = search needs
 
 loop-again : tie.Need-loop-again Inv-loop μ-loop
-loop-again c = (search needs, c .before .before .before .loop .inv .1 ∙ least-later _ (c .before .before .before .loop .k) (c .before .before .before .before .args .kinds) (c .before .before .loop-test .taken) (le-ltb normLimit (at (c .before .before .before .before .args .norms .now) (c .before .before .before .loop .k)) (c .if1 .left)))
+loop-again c =
+    let start = c .before .before .before .before in
+    (search needs, c .before .before .before .loop .inv .1 ∙ least-later _ (c .before .before .before .loop .k) (start .args .kinds) (c .before .before .loop-test .taken) (le-ltb normLimit (at (start .args .norms .now) (c .before .before .before .loop .k)) (c .if1 .left)))
 
 returns-2 : tie.Need-returns-2 Inv-loop μ-loop
 returns-2 c = sym (c .before .loop .inv .1 ∙ least-end _ (c .before .loop .k) (c .before .before .args .kinds) (c .loop-test .left))

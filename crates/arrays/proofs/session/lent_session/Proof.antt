@@ -1,70 +1,35 @@
--- After so many turns as many desks are taken.
+-- The array's first numbers are copied, one for each desk.
 use borrow.Author.Needs.{needs}
+use mathlib.Core.Path.{_≡_, sym, _∙_}
 use native.Mathlib.Omega.{arith}
-use mathlib.Core.Path.{sym, _∙_}
-use Prim.Native.Nat.{_-_}
-use lib.ListN.{take}
-use lib.Seq.{length-take-le, getD-take}
-use Rattle.theory.proofs.Writing.{Begun, begun-none, begun-more, begun-all}
+use lib.ListN.{length, take}
+use lib.Seq.{length-take-le}
 use Rattle.arrays.specs.Session.{desks}
 use Rattle.arrays.proofs.Sessions.{written-whole}
 use Rattle.arrays.proofs.session.lent_session.Statement.{statement}
 use Rattle.arrays.proofs.session.lent_session.Tie as tie
 
-abbrev Inv-loop : tie.InvT-loop
-Inv-loop session left₀ desk₀ left desk = Begun (take desks session) left₀ desk left
+-- As many as there are desks.
+all : (c : tie.Start) → length (take desks (c .args .session .now)) ≡ desks
+all c = length-take-le desks (c .args .session .now) (c .pre)
 
-abbrev μ-loop : tie.MeasureT-loop
-μ-loop session left₀ desk₀ left desk = desks - desk
+slice-aggregate-write-u32 : tie.Need-slice-aggregate-write-u32
+slice-aggregate-write-u32 c = sym (all (c .before .before))
 
-loop-holds : tie.Need-loop-holds Inv-loop μ-loop
-loop-holds c = begun-none _ _ (omega (arith, length-take-le desks (c .before .args .session .now) (c .before .pre)))
+slice-aggregate-write-u32-2 : tie.Need-slice-aggregate-write-u32-2
+slice-aggregate-write-u32-2 c = search needs
 
-mul-left : tie.Need-mul-left Inv-loop μ-loop
-mul-left c = search needs
+write-u32-requires : tie.Need-write-u32-requires
+write-u32-requires c κs = omega (arith, all (c .before .before .before))
 
-shared-slice-read-left : tie.Need-shared-slice-read-left Inv-loop μ-loop
-shared-slice-read-left c = omega (arith, c .before .loop-test .taken, c .before .before .before .before .pre)
-
-mul-left-2 : tie.Need-mul-left-2 Inv-loop μ-loop
-mul-left-2 c = search needs
-
-array-write-left : tie.Need-array-write-left Inv-loop μ-loop
-array-write-left c = search needs
-
-add-desk : tie.Need-add-desk Inv-loop μ-loop
-add-desk c = omega arith
-
-loop-less : tie.Need-loop-less Inv-loop μ-loop
-loop-less c = omega arith
-
-loop-again : tie.Need-loop-again Inv-loop μ-loop
-loop-again c =
-    let session = c .before .before .before .before .args .session .now in
-    begun-more (c .before .before .loop .inv) _ (omega (arith, c .before .loop-test .taken, length-take-le desks session (c .before .before .before .before .pre)))
-    (sym (getD-take desks session (c .before .before .loop .desk) 0 (c .before .loop-test .taken)))
-
-open-requires : tie.Need-open-requires Inv-loop μ-loop
+open-requires : tie.Need-open-requires
 open-requires c κs = search needs
 
-returns : tie.Need-returns Inv-loop μ-loop
+returns : tie.Need-returns
 returns c =
-    let size = length-take-le desks (c .before .before .before .before .args .session .now) (c .before .before .before .before .pre) in
-    c .open .ensures ∙ begun-all (c .before .before .loop .inv) (omega (arith, c .before .loop-test .left, size)) ∙ written-whole _ _ size
+    let start = c .before .before .before .before .before .before in
+    let copied = c .before .before in
+    c .open .ensures ∙ copied .write-u32 .ensures ∙ written-whole _ _ (all start)
 
 pub lent-session-spec : {M : Type 1} → statement M
-lent-session-spec =
-    tie.close
-    (tie.spec
-    Inv-loop
-    μ-loop
-    loop-holds
-    mul-left
-    shared-slice-read-left
-    mul-left-2
-    array-write-left
-    add-desk
-    loop-less
-    loop-again
-    open-requires
-    returns)
+lent-session-spec = tie.close (tie.spec slice-aggregate-write-u32 slice-aggregate-write-u32-2 write-u32-requires open-requires returns)

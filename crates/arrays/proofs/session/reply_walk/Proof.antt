@@ -6,19 +6,20 @@ use lib.ListN.{length}
 use Rattle.arrays.proofs.session.reply_walk.Statement.{statement}
 use Rattle.arrays.proofs.session.reply_walk.Tie as tie
 
-slice-aggregate-write-session : tie.Need-slice-aggregate-write-session
-slice-aggregate-write-session c = search needs
+slice-aggregate-write-u32 : tie.Need-slice-aggregate-write-u32
+slice-aggregate-write-u32 c = search needs
 
-write-session-requires : tie.Need-write-session-requires
-write-session-requires c κs =
-    let eight : length (c .before .before .before .before .before .args .after .left) ≡ 8 = search needs in
-    omega (arith, eight, c .before .before .before .before .before .pre .0)
+write-u32-requires : tie.Need-write-u32-requires
+write-u32-requires c κs =
+    let start = c .before .before .before .before .before in
+    let eight : length (start .args .after .left) ≡ 8 = search needs in
+    omega (arith, eight, start .pre .0)
 
-slice-aggregate-write-values : tie.Need-slice-aggregate-write-values
-slice-aggregate-write-values c = search needs
+slice-aggregate-write-u64 : tie.Need-slice-aggregate-write-u64
+slice-aggregate-write-u64 c = search needs
 
-write-values-requires : tie.Need-write-values-requires
-write-values-requires c κs = search needs
+write-u64-requires : tie.Need-write-u64-requires
+write-u64-requires c κs = search needs
 
 same-length : tie.Need-same-length
 same-length c = search needs
@@ -33,10 +34,10 @@ pub reply-walk-spec : {M : Type 1} → statement M
 reply-walk-spec =
     tie.close
     (tie.spec
-    slice-aggregate-write-session
-    write-session-requires
-    slice-aggregate-write-values
-    write-values-requires
+    slice-aggregate-write-u32
+    write-u32-requires
+    slice-aggregate-write-u64
+    write-u64-requires
     same-length
     same-length-2
     returns)

@@ -30,29 +30,31 @@ enum-known-found c = search needs
 
 refusal-code-requires : tie.Need-refusal-code-requires
 refusal-code-requires c κs =
-    let a = c .before .before .before .before .before .before .args in
-    walk-fits (a .sheet .now) (λ i. omega (arith, c .before .before .before .before .before .shared-slice-known .given i)) _ _ (a .first) (a .second) (a .limit) (a .desk) _ (ap (λ (w : Walked). w .answer) (sym (c .before .before .before .walk .ensures)) ∙ ap answerOf (c .before .found .given .1))
+    let args = c .before .before .before .before .before .before .args in
+    let shared-slice-known = c .before .before .before .before .before .shared-slice-known in
+    walk-fits (args .sheet .now) (λ i. omega (arith, shared-slice-known .given i)) _ _ (args .first) (args .second) (args .limit) (args .desk) _ (ap (λ (w : Walked). w .answer) (sym (c .before .before .before .walk .ensures)) ∙ ap answerOf (c .before .found .given .1))
 
 returns : tie.Need-returns
 returns c =
-    let a = c .before .before .before .before .before .args in
-    short-given (a .sheet .now) (a .first) (a .second) (a .limit) (a .desk) _ together (ap (λ (w : Walked). w .answer) (sym (c .before .before .walk .ensures)) ∙ ap answerOf (c .enum-told .given .1))
+    let args = c .before .before .before .before .before .args in
+    short-given (args .sheet .now) (args .first) (args .second) (args .limit) (args .desk) _ together (ap (λ (w : Walked). w .answer) (sym (c .before .before .walk .ensures)) ∙ ap answerOf (c .enum-told .given .1))
 
 returns-2 : tie.Need-returns-2
 returns-2 c =
-    let a = c .before .before .before .before .before .args in
-    short-given (a .sheet .now) (a .first) (a .second) (a .limit) (a .desk) _ (apart _) (ap (λ (w : Walked). w .answer) (sym (c .before .before .walk .ensures)) ∙ ap answerOf (c .enum-told2 .given .1))
+    let args = c .before .before .before .before .before .args in
+    short-given (args .sheet .now) (args .first) (args .second) (args .limit) (args .desk) _ (apart _) (ap (λ (w : Walked). w .answer) (sym (c .before .before .walk .ensures)) ∙ ap answerOf (c .enum-told2 .given .1))
 
 returns-3 : tie.Need-returns-3
 returns-3 c =
-    let a = c .before .before .before .before .before .args in
-    short-given (a .sheet .now) (a .first) (a .second) (a .limit) (a .desk) _ spent (ap (λ (w : Walked). w .answer) (sym (c .before .before .walk .ensures)) ∙ ap answerOf (c .enum-told3 .given .1))
+    let args = c .before .before .before .before .before .args in
+    short-given (args .sheet .now) (args .first) (args .second) (args .limit) (args .desk) _ spent (ap (λ (w : Walked). w .answer) (sym (c .before .before .walk .ensures)) ∙ ap answerOf (c .enum-told3 .given .1))
 
 returns-4 : tie.Need-returns-4
 returns-4 c =
-    let a = c .before .before .before .before .before .before .before .args in
+    let args = c .before .before .before .before .before .before .before .args in
+    let walk = c .before .before .before .before .walk in
     c .refusal-code .ensures
-    ∙ short-refused (a .sheet .now) (a .first) (a .second) (a .limit) (a .desk) _ _ _ (ap (λ (w : Walked). w .answer) (sym (c .before .before .before .before .walk .ensures)) ∙ ap answerOf (c .before .before .found .given .1))
+    ∙ short-refused (args .sheet .now) (args .first) (args .second) (args .limit) (args .desk) _ _ _ (ap (λ (w : Walked). w .answer) (sym (walk .ensures)) ∙ ap answerOf (c .before .before .found .given .1))
 
 pub short-walk-spec : {M : Type 1} → statement M
 short-walk-spec =

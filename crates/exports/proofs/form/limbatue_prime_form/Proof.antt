@@ -20,27 +20,31 @@ enum-known-number c = search needs
 
 refusal-code-requires : tie.Need-refusal-code-requires
 refusal-code-requires c κs =
-    let a = c .before .before .before .before .before .before .before .before .before .args in
-    form-fits (a .sheet .now) (λ i. omega (arith, c .before .before .before .before .before .before .before .before .shared-slice-known .given i)) _ _ (a .field) (a .counts .now) (sym (c .before .before .before .before .before .prime-form .ensures .0) ∙ ap formingOf (c .before .number .given .1))
+    let args = c .before .before .before .before .before .before .before .before .before .args in
+    let shared-slice-known = c .before .before .before .before .before .before .before .before .shared-slice-known in
+    let prime-form = c .before .before .before .before .before .prime-form in
+    form-fits (args .sheet .now) (λ i. omega (arith, shared-slice-known .given i)) _ _ (args .field) (args .counts .now) (sym (prime-form .ensures .0) ∙ ap formingOf (c .before .number .given .1))
 
 same-length : tie.Need-same-length
 same-length c = search needs
 
 returns : tie.Need-returns
 returns c =
-    let a = c .before .before .before .before .before .before .before .before .args in
-    let e = form-gives (a .sheet .now) (a .field) (a .counts .now) (sym (c .before .before .before .before .prime-form .ensures .0) ∙ ap formingOf (c .enum-told .given .1)) in
-    (code-is e, c .before .before .before .before .prime-form .ensures .1 ∙ lent-is e)
+    let args = c .before .before .before .before .before .before .before .before .args in
+    let prime-form = c .before .before .before .before .prime-form in
+    let e = form-gives (args .sheet .now) (args .field) (args .counts .now) (sym (prime-form .ensures .0) ∙ ap formingOf (c .enum-told .given .1)) in
+    (code-is e, prime-form .ensures .1 ∙ lent-is e)
 
 same-length-2 : tie.Need-same-length-2
 same-length-2 c = search needs
 
 returns-2 : tie.Need-returns-2
 returns-2 c =
-    let a = c .before .before .before .before .before .before .before .before .before .before .args in
-    let d = sym (c .before .before .before .before .before .before .prime-form .ensures .0) ∙ ap formingOf (c .before .before .number .given .1) in
-    let e = form-refuses (a .sheet .now) (a .field) (a .counts .now) _ _ d in
-    (c .refusal-code .ensures ∙ code-is e, c .before .before .before .before .before .before .prime-form .ensures .1 ∙ form-kept (a .sheet .now) (a .field) (a .counts .now) _ _ d ∙ lent-is e)
+    let args = c .before .before .before .before .before .before .before .before .before .before .args in
+    let prime-form = c .before .before .before .before .before .before .prime-form in
+    let d = sym (prime-form .ensures .0) ∙ ap formingOf (c .before .before .number .given .1) in
+    let e = form-refuses (args .sheet .now) (args .field) (args .counts .now) _ _ d in
+    (c .refusal-code .ensures ∙ code-is e, prime-form .ensures .1 ∙ form-kept (args .sheet .now) (args .field) (args .counts .now) _ _ d ∙ lent-is e)
 
 pub limbatue-prime-form-spec : {M : Type 1} → statement M
 limbatue-prime-form-spec =

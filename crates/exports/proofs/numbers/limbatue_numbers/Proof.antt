@@ -15,33 +15,34 @@ check-sheet-requires c κs = search needs
 enum-known-card : tie.Need-enum-known-card
 enum-known-card c = search needs
 
-slice-aggregate-reply : tie.Need-slice-aggregate-reply
-slice-aggregate-reply c = search needs
-
-reply-requires : tie.Need-reply-requires
-reply-requires c κs = search needs
+reply-card-requires : tie.Need-reply-card-requires
+reply-card-requires c κs = search needs
 
 enum-known-number : tie.Need-enum-known-number
 enum-known-number c = search needs
 
 refusal-code-requires : tie.Need-refusal-code-requires
 refusal-code-requires c κs =
-    let a = c .before .before .before .before .before .before .args in
-    found-fits _ (sheet-small (a .sheet .now) (λ i. omega (arith, c .before .before .before .before .before .shared-slice-known .given i))) _ _ (checked-refused (a .sheet .now) _ _ (sym (c .before .before .before .check-sheet .ensures) ∙ c .before .number .given .1))
+    let args = c .before .before .before .before .before .before .args in
+    let shared-slice-known = c .before .before .before .before .before .shared-slice-known in
+    found-fits _ (sheet-small (args .sheet .now) (λ i. omega (arith, shared-slice-known .given i))) _ _ (checked-refused (args .sheet .now) _ _ (sym (c .before .before .before .check-sheet .ensures) ∙ c .before .number .given .1))
 
 same-length : tie.Need-same-length
 same-length c = search needs
 
 returns : tie.Need-returns
 returns c =
-    let a = c .before .before .before .before .before .before .before .before .before .before .before .args in
-    let e = numbers-gives (a .sheet .now) (a .answer .now) _ (checked-reads (a .sheet .now) _ (sym (c .before .before .before .before .before .before .before .before .check-sheet .ensures) ∙ c .before .before .before .before .before .before .card .given .1)) in
-    (c .before .before .reply .ensures .0 ∙ code-is e, c .before .before .reply .ensures .1 ∙ values-are e)
+    let args = c .before .before .before .before .before .before .before .before .before .before .args in
+    let check-sheet = c .before .before .before .before .before .before .before .check-sheet in
+    let card = c .before .before .before .before .before .card in
+    let e = numbers-gives (args .sheet .now) (args .answer .now) _ (checked-reads (args .sheet .now) _ (sym (check-sheet .ensures) ∙ card .given .1)) in
+    (c .before .before .reply-card .ensures .0 ∙ code-is e, c .before .before .reply-card .ensures .1 ∙ values-are e)
 
 returns-2 : tie.Need-returns-2
 returns-2 c =
-    let a = c .before .before .before .before .before .before .before .args in
-    let e = numbers-refuses (a .sheet .now) (a .answer .now) _ _ (checked-refused (a .sheet .now) _ _ (sym (c .before .before .before .before .check-sheet .ensures) ∙ c .before .before .number .given .1)) in
+    let args = c .before .before .before .before .before .before .before .args in
+    let check-sheet = c .before .before .before .before .check-sheet in
+    let e = numbers-refuses (args .sheet .now) (args .answer .now) _ _ (checked-refused (args .sheet .now) _ _ (sym (check-sheet .ensures) ∙ c .before .before .number .given .1)) in
     (c .refusal-code .ensures ∙ code-is e, values-are e)
 
 pub limbatue-numbers-spec : {M : Type 1} → statement M
@@ -50,8 +51,7 @@ limbatue-numbers-spec =
     (tie.spec
     check-sheet-requires
     enum-known-card
-    slice-aggregate-reply
-    reply-requires
+    reply-card-requires
     enum-known-number
     refusal-code-requires
     same-length

@@ -11,8 +11,8 @@ use Rattle.exports.proofs.printing.limbatue_page.Tie as tie
 
 returns : tie.Need-returns
 returns c =
-    let a = c .before .before .before .before .args in
-    let e = page-short (a .sheet .now) (a .out .now) (a .answer .now) (c .if1 .taken) in
+    let args = c .before .before .before .before .args in
+    let e = page-short (args .sheet .now) (args .out .now) (args .answer .now) (c .if1 .taken) in
     (code-is e, (lent-is e, values-are e))
 
 write-page-requires : tie.Need-write-page-requires
@@ -21,19 +21,17 @@ write-page-requires c κs = search needs
 enum-known-length : tie.Need-enum-known-length
 enum-known-length c = search needs
 
-slice-aggregate-reply : tie.Need-slice-aggregate-reply
-slice-aggregate-reply c = search needs
-
-reply-requires : tie.Need-reply-requires
-reply-requires c κs = search needs
+reply-value-requires : tie.Need-reply-value-requires
+reply-value-requires c κs = search needs
 
 enum-known-number : tie.Need-enum-known-number
 enum-known-number c = search needs
 
 refusal-code-requires : tie.Need-refusal-code-requires
 refusal-code-requires c κs =
-    let a = c .before .before .before .before .before .before .before .before .before .before .before .args in
-    page-fits (a .sheet .now) (a .out .now) _ _ (sym (c .before .before .before .before .before .write-page .ensures .0) ∙ ap writingOf (c .before .number .given .1))
+    let args = c .before .before .before .before .before .before .before .before .before .before .before .args in
+    let write-page = c .before .before .before .before .before .write-page in
+    page-fits (args .sheet .now) (args .out .now) _ _ (sym (write-page .ensures .0) ∙ ap writingOf (c .before .number .given .1))
 
 same-length : tie.Need-same-length
 same-length c = search needs
@@ -43,21 +41,25 @@ same-length-2 c = search needs
 
 returns-2 : tie.Need-returns-2
 returns-2 c =
-    let a = c .before .before .before .before .before .before .before .before .before .before .before .before .before .before .before .before .args in
-    let t = c .before .before .before .before .before .before .length .given .0 .0 in
-    let e = page-gives (a .sheet .now) (a .out .now) (a .answer .now) t (sym (c .before .before .before .before .before .before .before .before .before .before .write-page .ensures .0) ∙ ap writingOf (c .before .before .before .before .before .before .length .given .1)) (c .before .before .before .before .before .before .before .before .before .before .before .before .if1 .left) in
-    let g = reply-gives tt tt (a .answer .now) (lengthValues t) (given (lengthValues t)) refl (c .before .before .before .before .before .before .before .before .before .before .before .before .if1 .left) in
-    (c .before .before .reply .ensures .0 ∙ sym (code-is g) ∙ code-is e, (c .before .before .before .before .before .before .before .before .before .before .write-page .ensures .1 ∙ lent-is e, c .before .before .reply .ensures .1 ∙ sym (values-are g) ∙ values-are e))
+    let args = c .before .before .before .before .before .before .before .before .before .before .before .before .before .before .before .args in
+    let if1 = c .before .before .before .before .before .before .before .before .before .before .before .if1 in
+    let write-page = c .before .before .before .before .before .before .before .before .before .write-page in
+    let at-length = c .before .before .before .before .before .length in
+    let length = at-length .given .0 .0 in
+    let e = page-gives (args .sheet .now) (args .out .now) (args .answer .now) length (sym (write-page .ensures .0) ∙ ap writingOf (at-length .given .1)) (if1 .left) in
+    let g = reply-gives tt tt (args .answer .now) (lengthValues length) (given (lengthValues length)) refl (if1 .left) in
+    (c .before .before .reply-value .ensures .0 ∙ sym (code-is g) ∙ code-is e, (write-page .ensures .1 ∙ lent-is e, c .before .before .reply-value .ensures .1 ∙ sym (values-are g) ∙ values-are e))
 
 same-length-3 : tie.Need-same-length-3
 same-length-3 c = search needs
 
 returns-3 : tie.Need-returns-3
 returns-3 c =
-    let a = c .before .before .before .before .before .before .before .before .before .before .before .before .args in
-    let d = sym (c .before .before .before .before .before .before .write-page .ensures .0) ∙ ap writingOf (c .before .before .number .given .1) in
-    let e = page-refuses (a .sheet .now) (a .out .now) (a .answer .now) _ _ d in
-    (c .refusal-code .ensures ∙ code-is e, (c .before .before .before .before .before .before .write-page .ensures .1 ∙ page-kept (a .sheet .now) (a .out .now) _ _ d ∙ lent-is e, values-are e))
+    let args = c .before .before .before .before .before .before .before .before .before .before .before .before .args in
+    let write-page = c .before .before .before .before .before .before .write-page in
+    let d = sym (write-page .ensures .0) ∙ ap writingOf (c .before .before .number .given .1) in
+    let e = page-refuses (args .sheet .now) (args .out .now) (args .answer .now) _ _ d in
+    (c .refusal-code .ensures ∙ code-is e, (write-page .ensures .1 ∙ page-kept (args .sheet .now) (args .out .now) _ _ d ∙ lent-is e, values-are e))
 
 pub limbatue-page-spec : {M : Type 1} → statement M
 limbatue-page-spec =
@@ -66,8 +68,7 @@ limbatue-page-spec =
     returns
     write-page-requires
     enum-known-length
-    slice-aggregate-reply
-    reply-requires
+    reply-value-requires
     enum-known-number
     refusal-code-requires
     same-length

@@ -16,39 +16,37 @@ row-check-requires c κs = search needs
 enum-told : tie.Need-enum-told
 enum-told c = search needs
 
-mul-t10 : tie.Need-mul-t10
-mul-t10 c =
-    let a = c .before .before .before .before .before .args in
-    let h : _ = row-inside (a .kinds) (a .kind) (a .table .now) (whole (a .kinds) (a .kind) (a .table .now) (sym (c .before .before .row-check .ensures) ∙ ap findingOf (c .enum-told .given .1))) in
+reply-row-requires : tie.Need-reply-row-requires
+reply-row-requires c κs =
+    let clear = c .before in
+    let args = clear .before .before .before .before .before .args in
+    let inside : _ = row-inside (args .kinds) (args .kind) (args .table .now) (whole (args .kinds) (args .kind) (args .table .now) (sym (clear .before .before .row-check .ensures) ∙ ap findingOf (clear .enum-told .given .1))) in
     omega arith
-
-slice-aggregate-reply : tie.Need-slice-aggregate-reply
-slice-aggregate-reply c = search needs
-
-reply-requires : tie.Need-reply-requires
-reply-requires c κs = search needs
 
 enum-known-number : tie.Need-enum-known-number
 enum-known-number c = search needs
 
 refusal-code-requires : tie.Need-refusal-code-requires
 refusal-code-requires c κs =
-    let a = c .before .before .before .before .before .before .args in
-    row-fits (a .kinds) (a .kind) (a .table .now) _ _ (sym (c .before .before .before .row-check .ensures) ∙ ap findingOf (c .before .number .given .1))
+    let args = c .before .before .before .before .before .before .args in
+    row-fits (args .kinds) (args .kind) (args .table .now) _ _ (sym (c .before .before .before .row-check .ensures) ∙ ap findingOf (c .before .number .given .1))
 
 same-length : tie.Need-same-length
 same-length c = search needs
 
 returns : tie.Need-returns
 returns c =
-    let a = c .before .before .before .before .before .before .before .before .before .before .args in
-    let e = row-gives (a .kinds) (a .kind) (a .table .now) (a .answer .now) (sym (c .before .before .before .before .before .before .before .row-check .ensures) ∙ ap findingOf (c .before .before .before .before .before .enum-told .given .1)) in
-    (c .before .before .reply .ensures .0 ∙ code-is e, c .before .before .reply .ensures .1 ∙ values-are e)
+    let args = c .before .before .before .before .before .before .before .before .before .args in
+    let row-check = c .before .before .before .before .before .before .row-check in
+    let at-enum-told = c .before .before .before .before .enum-told in
+    let e = row-gives (args .kinds) (args .kind) (args .table .now) (args .answer .now) (sym (row-check .ensures) ∙ ap findingOf (at-enum-told .given .1)) in
+    (c .before .before .reply-row .ensures .0 ∙ code-is e, c .before .before .reply-row .ensures .1 ∙ values-are e)
 
 returns-2 : tie.Need-returns-2
 returns-2 c =
-    let a = c .before .before .before .before .before .before .before .args in
-    let e = row-refuses (a .kinds) (a .kind) (a .table .now) (a .answer .now) _ _ (sym (c .before .before .before .before .row-check .ensures) ∙ ap findingOf (c .before .before .number .given .1)) in
+    let args = c .before .before .before .before .before .before .before .args in
+    let row-check = c .before .before .before .before .row-check in
+    let e = row-refuses (args .kinds) (args .kind) (args .table .now) (args .answer .now) _ _ (sym (row-check .ensures) ∙ ap findingOf (c .before .before .number .given .1)) in
     (c .refusal-code .ensures ∙ code-is e, values-are e)
 
 pub limbatue-row-check-spec : {M : Type 1} → statement M
@@ -57,9 +55,7 @@ limbatue-row-check-spec =
     (tie.spec
     row-check-requires
     enum-told
-    mul-t10
-    slice-aggregate-reply
-    reply-requires
+    reply-row-requires
     enum-known-number
     refusal-code-requires
     same-length

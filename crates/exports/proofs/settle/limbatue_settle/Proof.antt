@@ -16,8 +16,8 @@ short-code-requires c κs = search needs
 
 returns : tie.Need-returns
 returns c =
-    let a = c .before .before .before .before .before .args in
-    let e = settle-short (a .sheet .now) (a .table .now) (a .answer .now) (c .before .if1 .taken) in
+    let args = c .before .before .before .before .before .args in
+    let e = settle-short (args .sheet .now) (args .table .now) (args .answer .now) (c .before .if1 .taken) in
     (c .short-code .ensures ∙ code-is e, (lent-is e, values-are e))
 
 settle-sheet-requires : tie.Need-settle-sheet-requires
@@ -26,19 +26,18 @@ settle-sheet-requires c κs = search needs
 enum-known-stage : tie.Need-enum-known-stage
 enum-known-stage c = search needs
 
-slice-aggregate-reply : tie.Need-slice-aggregate-reply
-slice-aggregate-reply c = search needs
-
-reply-requires : tie.Need-reply-requires
-reply-requires c κs = search needs
+reply-value-requires : tie.Need-reply-value-requires
+reply-value-requires c κs = search needs
 
 enum-known-number : tie.Need-enum-known-number
 enum-known-number c = search needs
 
 refusal-code-requires : tie.Need-refusal-code-requires
 refusal-code-requires c κs =
-    let a = c .before .before .before .before .before .before .before .before .before .before .before .args in
-    settle-fits (a .sheet .now) (λ i. omega (arith, c .before .before .before .before .before .before .before .before .before .before .shared-slice-known .given i)) _ _ (a .table .now) (sym (c .before .before .before .before .before .settle-sheet .ensures .0) ∙ ap settlingOf (c .before .number .given .1))
+    let args = c .before .before .before .before .before .before .before .before .before .before .before .args in
+    let shared-slice-known = c .before .before .before .before .before .before .before .before .before .before .shared-slice-known in
+    let settle-sheet = c .before .before .before .before .before .settle-sheet in
+    settle-fits (args .sheet .now) (λ i. omega (arith, shared-slice-known .given i)) _ _ (args .table .now) (sym (settle-sheet .ensures .0) ∙ ap settlingOf (c .before .number .given .1))
 
 same-length : tie.Need-same-length
 same-length c = search needs
@@ -48,21 +47,25 @@ same-length-2 c = search needs
 
 returns-2 : tie.Need-returns-2
 returns-2 c =
-    let a = c .before .before .before .before .before .before .before .before .before .before .before .before .before .before .before .before .args in
-    let t = c .before .before .before .before .before .before .stage .given .0 .0 in
-    let e = settle-gives (a .sheet .now) (a .table .now) (a .answer .now) t (sym (c .before .before .before .before .before .before .before .before .before .before .settle-sheet .ensures .0) ∙ ap settlingOf (c .before .before .before .before .before .before .stage .given .1)) (c .before .before .before .before .before .before .before .before .before .before .before .before .if1 .left) in
-    let g = reply-gives tt tt (a .answer .now) (stageValues t) (given (stageValues t)) refl (c .before .before .before .before .before .before .before .before .before .before .before .before .if1 .left) in
-    (c .before .before .reply .ensures .0 ∙ sym (code-is g) ∙ code-is e, (c .before .before .before .before .before .before .before .before .before .before .settle-sheet .ensures .1 ∙ lent-is e, c .before .before .reply .ensures .1 ∙ sym (values-are g) ∙ values-are e))
+    let args = c .before .before .before .before .before .before .before .before .before .before .before .before .before .before .before .args in
+    let if1 = c .before .before .before .before .before .before .before .before .before .before .before .if1 in
+    let settle-sheet = c .before .before .before .before .before .before .before .before .before .settle-sheet in
+    let at-stage = c .before .before .before .before .before .stage in
+    let stage = at-stage .given .0 .0 in
+    let e = settle-gives (args .sheet .now) (args .table .now) (args .answer .now) stage (sym (settle-sheet .ensures .0) ∙ ap settlingOf (at-stage .given .1)) (if1 .left) in
+    let g = reply-gives tt tt (args .answer .now) (stageValues stage) (given (stageValues stage)) refl (if1 .left) in
+    (c .before .before .reply-value .ensures .0 ∙ sym (code-is g) ∙ code-is e, (settle-sheet .ensures .1 ∙ lent-is e, c .before .before .reply-value .ensures .1 ∙ sym (values-are g) ∙ values-are e))
 
 same-length-3 : tie.Need-same-length-3
 same-length-3 c = search needs
 
 returns-3 : tie.Need-returns-3
 returns-3 c =
-    let a = c .before .before .before .before .before .before .before .before .before .before .before .before .args in
-    let d = sym (c .before .before .before .before .before .before .settle-sheet .ensures .0) ∙ ap settlingOf (c .before .before .number .given .1) in
-    let e = settle-refuses (a .sheet .now) (a .table .now) (a .answer .now) _ _ d in
-    (c .refusal-code .ensures ∙ code-is e, (c .before .before .before .before .before .before .settle-sheet .ensures .1 ∙ settle-kept (a .sheet .now) (a .table .now) _ _ d ∙ lent-is e, values-are e))
+    let args = c .before .before .before .before .before .before .before .before .before .before .before .before .args in
+    let settle-sheet = c .before .before .before .before .before .before .settle-sheet in
+    let d = sym (settle-sheet .ensures .0) ∙ ap settlingOf (c .before .before .number .given .1) in
+    let e = settle-refuses (args .sheet .now) (args .table .now) (args .answer .now) _ _ d in
+    (c .refusal-code .ensures ∙ code-is e, (settle-sheet .ensures .1 ∙ settle-kept (args .sheet .now) (args .table .now) _ _ d ∙ lent-is e, values-are e))
 
 pub limbatue-settle-spec : {M : Type 1} → statement M
 limbatue-settle-spec =
@@ -72,8 +75,7 @@ limbatue-settle-spec =
     returns
     settle-sheet-requires
     enum-known-stage
-    slice-aggregate-reply
-    reply-requires
+    reply-value-requires
     enum-known-number
     refusal-code-requires
     same-length

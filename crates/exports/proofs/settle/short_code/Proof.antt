@@ -21,19 +21,21 @@ enum-known-checked c = search needs
 
 refusal-code-requires : tie.Need-refusal-code-requires
 refusal-code-requires c κs =
-    let a = c .before .before .before .before .before .args in
-    found-fits _ (accept-small (a .sheet .now) (λ i. omega (arith, c .before .before .before .before .shared-slice-known .given i))) _ _ (refused (a .sheet .now) _ _ (ap (λ (x : Acceptance). x .checked) (sym (c .before .before .before .accept .ensures)) ∙ c .before .checked .given .1))
+    let args = c .before .before .before .before .before .args in
+    let shared-slice-known = c .before .before .before .before .shared-slice-known in
+    found-fits _ (accept-small (args .sheet .now) (λ i. omega (arith, shared-slice-known .given i))) _ _ (refused (args .sheet .now) _ _ (ap (λ (x : Acceptance). x .checked) (sym (c .before .before .before .accept .ensures)) ∙ c .before .checked .given .1))
 
 returns : tie.Need-returns
 unfolding Accepted
 returns c =
-    let a = c .before .before .before .before .args in
-    short-clear (a .sheet .now) (accepts (a .sheet .now) _ (ap (λ (x : Acceptance). x .checked) (sym (c .before .before .accept .ensures)) ∙ c .enum-told .given .1) .accepted)
+    let args = c .before .before .before .before .args in
+    short-clear (args .sheet .now) (accepts (args .sheet .now) _ (ap (λ (x : Acceptance). x .checked) (sym (c .before .before .accept .ensures)) ∙ c .enum-told .given .1) .accepted)
 
 returns-2 : tie.Need-returns-2
 returns-2 c =
-    let a = c .before .before .before .before .before .before .args in
-    c .refusal-code .ensures ∙ short-refused (a .sheet .now) _ _ (refused (a .sheet .now) _ _ (ap (λ (x : Acceptance). x .checked) (sym (c .before .before .before .before .accept .ensures)) ∙ c .before .before .checked .given .1))
+    let args = c .before .before .before .before .before .before .args in
+    let accept = c .before .before .before .before .accept in
+    c .refusal-code .ensures ∙ short-refused (args .sheet .now) _ _ (refused (args .sheet .now) _ _ (ap (λ (x : Acceptance). x .checked) (sym (accept .ensures)) ∙ c .before .before .checked .given .1))
 
 pub short-code-spec : {M : Type 1} → statement M
 short-code-spec =

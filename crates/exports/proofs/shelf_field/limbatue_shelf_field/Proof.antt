@@ -20,27 +20,31 @@ enum-known-number c = search needs
 
 refusal-code-requires : tie.Need-refusal-code-requires
 refusal-code-requires c κs =
-    let a = c .before .before .before .before .before .before .before .before .before .args in
-    shelf-field-fits (a .sheet .now) (λ i. omega (arith, c .before .before .before .before .before .before .before .before .shared-slice-known .given i)) _ _ (a .size) (a .number) (a .counts .now) (sym (c .before .before .before .before .before .shelf-field .ensures .0) ∙ ap fieldAnswer (c .before .number .given .1))
+    let args = c .before .before .before .before .before .before .before .before .before .args in
+    let shared-slice-known = c .before .before .before .before .before .before .before .before .shared-slice-known in
+    let shelf-field = c .before .before .before .before .before .shelf-field in
+    shelf-field-fits (args .sheet .now) (λ i. omega (arith, shared-slice-known .given i)) _ _ (args .size) (args .number) (args .counts .now) (sym (shelf-field .ensures .0) ∙ ap fieldAnswer (c .before .number .given .1))
 
 same-length : tie.Need-same-length
 same-length c = search needs
 
 returns : tie.Need-returns
 returns c =
-    let a = c .before .before .before .before .before .before .before .before .args in
-    let e = shelf-field-gives (a .sheet .now) (a .size) (a .number) (a .counts .now) (sym (c .before .before .before .before .shelf-field .ensures .0) ∙ ap fieldAnswer (c .enum-told .given .1)) in
-    (code-is e, c .before .before .before .before .shelf-field .ensures .1 ∙ lent-is e)
+    let args = c .before .before .before .before .before .before .before .before .args in
+    let shelf-field = c .before .before .before .before .shelf-field in
+    let e = shelf-field-gives (args .sheet .now) (args .size) (args .number) (args .counts .now) (sym (shelf-field .ensures .0) ∙ ap fieldAnswer (c .enum-told .given .1)) in
+    (code-is e, shelf-field .ensures .1 ∙ lent-is e)
 
 same-length-2 : tie.Need-same-length-2
 same-length-2 c = search needs
 
 returns-2 : tie.Need-returns-2
 returns-2 c =
-    let a = c .before .before .before .before .before .before .before .before .before .before .args in
-    let d = sym (c .before .before .before .before .before .before .shelf-field .ensures .0) ∙ ap fieldAnswer (c .before .before .number .given .1) in
-    let e = shelf-field-refuses (a .sheet .now) (a .size) (a .number) (a .counts .now) _ _ d in
-    (c .refusal-code .ensures ∙ code-is e, c .before .before .before .before .before .before .shelf-field .ensures .1 ∙ shelf-field-kept (a .sheet .now) (a .size) (a .number) (a .counts .now) _ _ d ∙ lent-is e)
+    let args = c .before .before .before .before .before .before .before .before .before .before .args in
+    let shelf-field = c .before .before .before .before .before .before .shelf-field in
+    let d = sym (shelf-field .ensures .0) ∙ ap fieldAnswer (c .before .before .number .given .1) in
+    let e = shelf-field-refuses (args .sheet .now) (args .size) (args .number) (args .counts .now) _ _ d in
+    (c .refusal-code .ensures ∙ code-is e, shelf-field .ensures .1 ∙ shelf-field-kept (args .sheet .now) (args .size) (args .number) (args .counts .now) _ _ d ∙ lent-is e)
 
 pub limbatue-shelf-field-spec : {M : Type 1} → statement M
 limbatue-shelf-field-spec =

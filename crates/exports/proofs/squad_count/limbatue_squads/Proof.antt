@@ -18,8 +18,8 @@ short-squads-requires c κs = search needs
 
 returns : tie.Need-returns
 returns c =
-    let a = c .before .before .before .before .before .args in
-    let e = squads-short (a .sheet .now) (a .whole) (a .squad) (a .remainder .now) (a .answer .now) (omega (arith, c .before .if1 .taken)) in
+    let args = c .before .before .before .before .before .args in
+    let e = squads-short (args .sheet .now) (args .whole) (args .squad) (args .remainder .now) (args .answer .now) (omega (arith, c .before .if1 .taken)) in
     (c .short-squads .ensures ∙ code-is e, (lent-is e, values-are e))
 
 squads-requires : tie.Need-squads-requires
@@ -28,19 +28,18 @@ squads-requires c κs = search needs
 enum-known-count : tie.Need-enum-known-count
 enum-known-count c = search needs
 
-slice-aggregate-reply : tie.Need-slice-aggregate-reply
-slice-aggregate-reply c = search needs
-
-reply-requires : tie.Need-reply-requires
-reply-requires c κs = search needs
+reply-value-requires : tie.Need-reply-value-requires
+reply-value-requires c κs = search needs
 
 enum-known-number : tie.Need-enum-known-number
 enum-known-number c = search needs
 
 refusal-code-requires : tie.Need-refusal-code-requires
 refusal-code-requires c κs =
-    let a = c .before .before .before .before .before .before .before .before .before .before .before .args in
-    squads-fits (a .sheet .now) (λ i. omega (arith, c .before .before .before .before .before .before .before .before .before .before .shared-slice-known .given i)) _ _ (a .whole) (a .squad) (a .remainder .now) (sym (c .before .before .before .before .before .squads .ensures .0) ∙ ap squadsAnswer (c .before .number .given .1))
+    let args = c .before .before .before .before .before .before .before .before .before .before .before .args in
+    let shared-slice-known = c .before .before .before .before .before .before .before .before .before .before .shared-slice-known in
+    let squads = c .before .before .before .before .before .squads in
+    squads-fits (args .sheet .now) (λ i. omega (arith, shared-slice-known .given i)) _ _ (args .whole) (args .squad) (args .remainder .now) (sym (squads .ensures .0) ∙ ap squadsAnswer (c .before .number .given .1))
 
 same-length : tie.Need-same-length
 same-length c = search needs
@@ -50,22 +49,26 @@ same-length-2 c = search needs
 
 returns-2 : tie.Need-returns-2
 returns-2 c =
-    let a = c .before .before .before .before .before .before .before .before .before .before .before .before .before .before .before .before .args in
-    let room : 1 ≤ length (a .answer .now) = omega (arith, c .before .before .before .before .before .before .before .before .before .before .before .before .if1 .left) in
-    let t = c .before .before .before .before .before .before .count .given .0 .0 in
-    let e = squads-gives (a .sheet .now) (a .whole) (a .squad) (a .remainder .now) (a .answer .now) t (sym (c .before .before .before .before .before .before .before .before .before .before .squads .ensures .0) ∙ ap squadsAnswer (c .before .before .before .before .before .before .count .given .1)) room in
-    let g = reply-gives tt tt (a .answer .now) (countValues t) (given (countValues t)) refl room in
-    (c .before .before .reply .ensures .0 ∙ sym (code-is g) ∙ code-is e, (c .before .before .before .before .before .before .before .before .before .before .squads .ensures .1 ∙ lent-is e, c .before .before .reply .ensures .1 ∙ sym (values-are g) ∙ values-are e))
+    let args = c .before .before .before .before .before .before .before .before .before .before .before .before .before .before .before .args in
+    let if1 = c .before .before .before .before .before .before .before .before .before .before .before .if1 in
+    let squads = c .before .before .before .before .before .before .before .before .before .squads in
+    let at-count = c .before .before .before .before .before .count in
+    let count = at-count .given .0 .0 in
+    let room : 1 ≤ length (args .answer .now) = omega (arith, if1 .left) in
+    let e = squads-gives (args .sheet .now) (args .whole) (args .squad) (args .remainder .now) (args .answer .now) count (sym (squads .ensures .0) ∙ ap squadsAnswer (at-count .given .1)) room in
+    let g = reply-gives tt tt (args .answer .now) (countValues count) (given (countValues count)) refl room in
+    (c .before .before .reply-value .ensures .0 ∙ sym (code-is g) ∙ code-is e, (squads .ensures .1 ∙ lent-is e, c .before .before .reply-value .ensures .1 ∙ sym (values-are g) ∙ values-are e))
 
 same-length-3 : tie.Need-same-length-3
 same-length-3 c = search needs
 
 returns-3 : tie.Need-returns-3
 returns-3 c =
-    let a = c .before .before .before .before .before .before .before .before .before .before .before .before .args in
-    let d = sym (c .before .before .before .before .before .before .squads .ensures .0) ∙ ap squadsAnswer (c .before .before .number .given .1) in
-    let e = squads-refuses (a .sheet .now) (a .whole) (a .squad) (a .remainder .now) (a .answer .now) _ _ d in
-    (c .refusal-code .ensures ∙ code-is e, (c .before .before .before .before .before .before .squads .ensures .1 ∙ squads-kept (a .sheet .now) (a .whole) (a .squad) (a .remainder .now) _ _ d ∙ lent-is e, values-are e))
+    let args = c .before .before .before .before .before .before .before .before .before .before .before .before .args in
+    let squads = c .before .before .before .before .before .before .squads in
+    let d = sym (squads .ensures .0) ∙ ap squadsAnswer (c .before .before .number .given .1) in
+    let e = squads-refuses (args .sheet .now) (args .whole) (args .squad) (args .remainder .now) (args .answer .now) _ _ d in
+    (c .refusal-code .ensures ∙ code-is e, (squads .ensures .1 ∙ squads-kept (args .sheet .now) (args .whole) (args .squad) (args .remainder .now) _ _ d ∙ lent-is e, values-are e))
 
 pub limbatue-squads-spec : {M : Type 1} → statement M
 limbatue-squads-spec =
@@ -75,8 +78,7 @@ limbatue-squads-spec =
     returns
     squads-requires
     enum-known-count
-    slice-aggregate-reply
-    reply-requires
+    reply-value-requires
     enum-known-number
     refusal-code-requires
     same-length

@@ -22,18 +22,21 @@ enum-known-number c = search needs
 
 refusal-code-requires : tie.Need-refusal-code-requires
 refusal-code-requires c κs =
-    let a = c .before .before .before .before .before .before .before .args in
-    squads-fits (a .sheet .now) (λ i. omega (arith, c .before .before .before .before .before .before .shared-slice-known .given i)) _ _ (a .whole) (a .squad) _ (sym (c .before .before .before .before .squads .ensures .0) ∙ ap squadsAnswer (c .before .number .given .1))
+    let args = c .before .before .before .before .before .before .before .args in
+    let shared-slice-known = c .before .before .before .before .before .before .shared-slice-known in
+    let squads = c .before .before .before .before .squads in
+    squads-fits (args .sheet .now) (λ i. omega (arith, shared-slice-known .given i)) _ _ (args .whole) (args .squad) _ (sym (squads .ensures .0) ∙ ap squadsAnswer (c .before .number .given .1))
 
 returns : tie.Need-returns
 returns c =
-    let a = c .before .before .before .before .before .before .args in
-    short-given (a .sheet .now) (a .whole) (a .squad) _ _ (sym (c .before .before .before .squads .ensures .0) ∙ ap squadsAnswer (c .enum-told .given .1))
+    let args = c .before .before .before .before .before .before .args in
+    short-given (args .sheet .now) (args .whole) (args .squad) _ _ (sym (c .before .before .before .squads .ensures .0) ∙ ap squadsAnswer (c .enum-told .given .1))
 
 returns-2 : tie.Need-returns-2
 returns-2 c =
-    let a = c .before .before .before .before .before .before .before .before .args in
-    c .refusal-code .ensures ∙ short-refused (a .sheet .now) (a .whole) (a .squad) _ _ _ (sym (c .before .before .before .before .before .squads .ensures .0) ∙ ap squadsAnswer (c .before .before .number .given .1))
+    let args = c .before .before .before .before .before .before .before .before .args in
+    let squads = c .before .before .before .before .before .squads in
+    c .refusal-code .ensures ∙ short-refused (args .sheet .now) (args .whole) (args .squad) _ _ _ (sym (squads .ensures .0) ∙ ap squadsAnswer (c .before .before .number .given .1))
 
 pub short-squads-spec : {M : Type 1} → statement M
 short-squads-spec =

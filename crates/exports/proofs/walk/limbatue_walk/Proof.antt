@@ -19,8 +19,8 @@ short-walk-requires c κs = search needs
 
 returns : tie.Need-returns
 returns c =
-    let a = c .before .before .before .before .before .args in
-    let e = walk-short (a .sheet .now) (a .first) (a .second) (a .limit) (a .desk) (a .session .now) (a .answer .now) (inl (c .before .if1 .taken)) in
+    let args = c .before .before .before .before .before .args in
+    let e = walk-short (args .sheet .now) (args .first) (args .second) (args .limit) (args .desk) (args .session .now) (args .answer .now) (inl (c .before .if1 .taken)) in
     (c .short-walk .ensures ∙ code-is e, (lent-is e, values-are e))
 
 short-walk-requires-2 : tie.Need-short-walk-requires-2
@@ -28,8 +28,8 @@ short-walk-requires-2 c κs = search needs
 
 returns-2 : tie.Need-returns-2
 returns-2 c =
-    let a = c .before .before .before .before .before .before .args in
-    let e = walk-short (a .sheet .now) (a .first) (a .second) (a .limit) (a .desk) (a .session .now) (a .answer .now) (inr (c .before .if2 .taken)) in
+    let args = c .before .before .before .before .before .before .args in
+    let e = walk-short (args .sheet .now) (args .first) (args .second) (args .limit) (args .desk) (args .session .now) (args .answer .now) (inr (c .before .if2 .taken)) in
     (c .short-walk2 .ensures ∙ code-is e, (lent-is e, values-are e))
 
 lent-session-requires : tie.Need-lent-session-requires
@@ -61,8 +61,10 @@ enum-known-found-2 c = search needs
 
 refusal-code-requires : tie.Need-refusal-code-requires
 refusal-code-requires c κs =
-    let a = c .before .before .before .before .before .before .before .before .before .before .before .before .args in
-    walk-fits (a .sheet .now) (λ i. omega (arith, c .before .before .before .before .before .before .before .before .before .before .before .shared-slice-known .given i)) _ _ (a .first) (a .second) (a .limit) (a .desk) _ (ap (λ (w : Walked). w .answer) (sym (c .before .before .before .before .walk .ensures)) ∙ ap answerOf (c .before .found2 .given .1))
+    let args = c .before .before .before .before .before .before .before .before .before .before .before .before .args in
+    let shared-slice-known = c .before .before .before .before .before .before .before .before .before .before .before .shared-slice-known in
+    let walk = c .before .before .before .before .walk in
+    walk-fits (args .sheet .now) (λ i. omega (arith, shared-slice-known .given i)) _ _ (args .first) (args .second) (args .limit) (args .desk) _ (ap (λ (w : Walked). w .answer) (sym (walk .ensures)) ∙ ap answerOf (c .before .found2 .given .1))
 
 same-length : tie.Need-same-length
 same-length c = search needs
@@ -72,9 +74,15 @@ same-length-2 c = search needs
 
 returns-3 : tie.Need-returns-3
 returns-3 c =
-    let a = c .before .before .before .before .before .before .before .before .before .before .before .before .before .before .before .before .before .before .args in
-    let e = walk-gives (a .sheet .now) (a .first) (a .second) (a .limit) (a .desk) (a .session .now) (a .answer .now) (walkedOf (c .before .before .before .before .before .before .before .before .before .before .walk .result)) (c .before .before .before .before .before .before .before .before .before .before .walk .ensures ∙ ap (λ (l : List ℕ). walkOf (a .sheet .now) (a .first) (a .second) (a .limit) (a .desk) (record { left = l })) (c .before .before .before .before .before .before .before .before .before .before .before .lent-session .ensures)) together (ap answerOf (c .before .before .before .before .before .before .before .enum-told .given .1)) (c .before .before .before .before .before .before .before .before .before .before .before .before .before .before .if1 .left) (c .before .before .before .before .before .before .before .before .before .before .before .before .before .if2 .left) in
-    (c .before .before .before .before .reply-walk .ensures .0 ∙ code-is e, (c .before .before .before .before .reply-walk .ensures .1 .0 ∙ lent-is e, c .before .before .before .before .reply-walk .ensures .1 .1 ∙ values-are e))
+    let args = c .before .before .before .before .before .before .before .before .before .before .before .before .before .before .before .before .before .before .args in
+    let if1 = c .before .before .before .before .before .before .before .before .before .before .before .before .before .before .if1 in
+    let if2 = c .before .before .before .before .before .before .before .before .before .before .before .before .before .if2 in
+    let lent-session = c .before .before .before .before .before .before .before .before .before .before .before .lent-session in
+    let walk = c .before .before .before .before .before .before .before .before .before .before .walk in
+    let at-enum-told = c .before .before .before .before .before .before .before .enum-told in
+    let reply-walk = c .before .before .before .before .reply-walk in
+    let e = walk-gives (args .sheet .now) (args .first) (args .second) (args .limit) (args .desk) (args .session .now) (args .answer .now) (walkedOf (walk .result)) (walk .ensures ∙ ap (λ (l : List ℕ). walkOf (args .sheet .now) (args .first) (args .second) (args .limit) (args .desk) (record { left = l })) (lent-session .ensures)) together (ap answerOf (at-enum-told .given .1)) (if1 .left) (if2 .left) in
+    (reply-walk .ensures .0 ∙ code-is e, (reply-walk .ensures .1 .0 ∙ lent-is e, reply-walk .ensures .1 .1 ∙ values-are e))
 
 same-length-3 : tie.Need-same-length-3
 same-length-3 c = search needs
@@ -84,9 +92,15 @@ same-length-4 c = search needs
 
 returns-4 : tie.Need-returns-4
 returns-4 c =
-    let a = c .before .before .before .before .before .before .before .before .before .before .before .before .before .before .before .before .before .before .before .args in
-    let e = walk-gives (a .sheet .now) (a .first) (a .second) (a .limit) (a .desk) (a .session .now) (a .answer .now) (walkedOf (c .before .before .before .before .before .before .before .before .before .before .before .walk .result)) (c .before .before .before .before .before .before .before .before .before .before .before .walk .ensures ∙ ap (λ (l : List ℕ). walkOf (a .sheet .now) (a .first) (a .second) (a .limit) (a .desk) (record { left = l })) (c .before .before .before .before .before .before .before .before .before .before .before .before .lent-session .ensures)) (apart _) (ap answerOf (c .before .before .before .before .before .before .before .before .found .given .1)) (c .before .before .before .before .before .before .before .before .before .before .before .before .before .before .before .if1 .left) (c .before .before .before .before .before .before .before .before .before .before .before .before .before .before .if2 .left) in
-    (c .before .before .before .before .reply-walk2 .ensures .0 ∙ code-is e, (c .before .before .before .before .reply-walk2 .ensures .1 .0 ∙ lent-is e, c .before .before .before .before .reply-walk2 .ensures .1 .1 ∙ values-are e))
+    let args = c .before .before .before .before .before .before .before .before .before .before .before .before .before .before .before .before .before .before .before .args in
+    let if1 = c .before .before .before .before .before .before .before .before .before .before .before .before .before .before .before .if1 in
+    let if2 = c .before .before .before .before .before .before .before .before .before .before .before .before .before .before .if2 in
+    let lent-session = c .before .before .before .before .before .before .before .before .before .before .before .before .lent-session in
+    let walk = c .before .before .before .before .before .before .before .before .before .before .before .walk in
+    let found = c .before .before .before .before .before .before .before .before .found in
+    let reply-walk2 = c .before .before .before .before .reply-walk2 in
+    let e = walk-gives (args .sheet .now) (args .first) (args .second) (args .limit) (args .desk) (args .session .now) (args .answer .now) (walkedOf (walk .result)) (walk .ensures ∙ ap (λ (l : List ℕ). walkOf (args .sheet .now) (args .first) (args .second) (args .limit) (args .desk) (record { left = l })) (lent-session .ensures)) (apart _) (ap answerOf (found .given .1)) (if1 .left) (if2 .left) in
+    (reply-walk2 .ensures .0 ∙ code-is e, (reply-walk2 .ensures .1 .0 ∙ lent-is e, reply-walk2 .ensures .1 .1 ∙ values-are e))
 
 same-length-5 : tie.Need-same-length-5
 same-length-5 c = search needs
@@ -96,17 +110,25 @@ same-length-6 c = search needs
 
 returns-5 : tie.Need-returns-5
 returns-5 c =
-    let a = c .before .before .before .before .before .before .before .before .before .before .before .before .before .before .before .before .before .before .args in
-    let e = walk-gives (a .sheet .now) (a .first) (a .second) (a .limit) (a .desk) (a .session .now) (a .answer .now) (walkedOf (c .before .before .before .before .before .before .before .before .before .before .walk .result)) (c .before .before .before .before .before .before .before .before .before .before .walk .ensures ∙ ap (λ (l : List ℕ). walkOf (a .sheet .now) (a .first) (a .second) (a .limit) (a .desk) (record { left = l })) (c .before .before .before .before .before .before .before .before .before .before .before .lent-session .ensures)) spent (ap answerOf (c .before .before .before .before .before .before .before .enum-told2 .given .1)) (c .before .before .before .before .before .before .before .before .before .before .before .before .before .before .if1 .left) (c .before .before .before .before .before .before .before .before .before .before .before .before .before .if2 .left) in
-    (c .before .before .before .before .reply-walk3 .ensures .0 ∙ code-is e, (c .before .before .before .before .reply-walk3 .ensures .1 .0 ∙ lent-is e, c .before .before .before .before .reply-walk3 .ensures .1 .1 ∙ values-are e))
+    let args = c .before .before .before .before .before .before .before .before .before .before .before .before .before .before .before .before .before .before .args in
+    let if1 = c .before .before .before .before .before .before .before .before .before .before .before .before .before .before .if1 in
+    let if2 = c .before .before .before .before .before .before .before .before .before .before .before .before .before .if2 in
+    let lent-session = c .before .before .before .before .before .before .before .before .before .before .before .lent-session in
+    let walk = c .before .before .before .before .before .before .before .before .before .before .walk in
+    let enum-told2 = c .before .before .before .before .before .before .before .enum-told2 in
+    let reply-walk3 = c .before .before .before .before .reply-walk3 in
+    let e = walk-gives (args .sheet .now) (args .first) (args .second) (args .limit) (args .desk) (args .session .now) (args .answer .now) (walkedOf (walk .result)) (walk .ensures ∙ ap (λ (l : List ℕ). walkOf (args .sheet .now) (args .first) (args .second) (args .limit) (args .desk) (record { left = l })) (lent-session .ensures)) spent (ap answerOf (enum-told2 .given .1)) (if1 .left) (if2 .left) in
+    (reply-walk3 .ensures .0 ∙ code-is e, (reply-walk3 .ensures .1 .0 ∙ lent-is e, reply-walk3 .ensures .1 .1 ∙ values-are e))
 
 same-length-7 : tie.Need-same-length-7
 same-length-7 c = search needs
 
 returns-6 : tie.Need-returns-6
 returns-6 c =
-    let a = c .before .before .before .before .before .before .before .before .before .before .before .before .before .args in
-    let e = walk-refuses (a .sheet .now) (a .first) (a .second) (a .limit) (a .desk) (a .session .now) (a .answer .now) (walkedOf (c .before .before .before .before .before .walk .result)) (c .before .before .before .before .before .walk .ensures ∙ ap (λ (l : List ℕ). walkOf (a .sheet .now) (a .first) (a .second) (a .limit) (a .desk) (record { left = l })) (c .before .before .before .before .before .before .lent-session .ensures)) _ _ (ap answerOf (c .before .before .found2 .given .1)) in
+    let args = c .before .before .before .before .before .before .before .before .before .before .before .before .before .args in
+    let lent-session = c .before .before .before .before .before .before .lent-session in
+    let walk = c .before .before .before .before .before .walk in
+    let e = walk-refuses (args .sheet .now) (args .first) (args .second) (args .limit) (args .desk) (args .session .now) (args .answer .now) (walkedOf (walk .result)) (walk .ensures ∙ ap (λ (l : List ℕ). walkOf (args .sheet .now) (args .first) (args .second) (args .limit) (args .desk) (record { left = l })) (lent-session .ensures)) _ _ (ap answerOf (c .before .before .found2 .given .1)) in
     (c .refusal-code .ensures ∙ code-is e, (lent-is e, values-are e))
 
 pub limbatue-walk-spec : {M : Type 1} → statement M

@@ -1,8 +1,5 @@
--- The settlement was made with this first field.
+-- The settlement is the sheet's.
 use borrow.Author.Needs.{needs}
-use mathlib.Core.Path.{_∙_, ap}
-use Prim.Native.Nat.{ℕ}
-use Rattle.model.specs.Answer.{compareOf}
 use Rattle.filer.proofs.compare.compare.Statement.{statement}
 use Rattle.filer.proofs.compare.compare.Tie as tie
 
@@ -13,7 +10,7 @@ compare-settled-requires : tie.Need-compare-settled-requires
 compare-settled-requires c κs = search needs
 
 returns : tie.Need-returns
-returns c = c .compare-settled .ensures ∙ ap (λ (n : ℕ). compareOf (c .before .before .before .args .s .now) n (c .before .before .before .args .second)) (c .before .settle-once .ensures .1)
+returns c = c .compare-settled .ensures
 
 pub compare-spec : {M : Type 1} → statement M
 compare-spec = tie.close (tie.spec settle-once-requires compare-settled-requires returns)

@@ -1,76 +1,77 @@
 -- The settlement tells what each return answers.
 use borrow.Author.Needs.{needs}
 use native.Mathlib.Omega.{arith}
-use mathlib.Core.Path.{_≡_}
+use mathlib.Core.Path.{_≡_, sym, _∙_}
+use Prim.Native.Nat.{_<_}
 use Rattle.theory.specs.Widths.{Bytes}
 use Rattle.sheet.specs.declared.reader.Card.{Card}
 use Rattle.validation.specs.declared.checks.Checked.the-variants.{Passed}
-use Rattle.sheet.proofs.Laws.{fields-most}
-use Rattle.filer.proofs.Settlements.{was-accepted, compare-refuses, compare-no-first, compare-no-second, compare-same-called, compare-rounds-fit, compare-different-called}
+use Rattle.validation.proofs.FieldNumbers.{fields-passed}
+use Rattle.filer.proofs.Settlements.{was-accepted, was-settled, compare-refuses, compare-same-called, compare-rounds-fit, compare-different-called}
 use Rattle.filer.proofs.compare.compare_settled.Statement.{statement}
 use Rattle.filer.proofs.compare.compare_settled.Tie as tie
 
-abbrev start : tie.After-known-told2 → tie.Start
+-- The state in which the checks have passed: the card that was read, and what the checks tell.
+abbrev start : tie.After-card → tie.Start
 start c = c .before .before .before .before
 
-abbrev card : tie.After-known-told2 → Card
-card c = c .before .checked2 .given .0 .0
+abbrev card : tie.After-card → Card
+card c = c .card .given .0 .0
 
-passed : (c : tie.After-known-told2) → start c .args .settlement .checked ≡ Passed (card c)
-passed c = c .before .checked2 .given .1
+passed : (c : tie.After-card) → (start c .args .settlement .checked ≡ Passed (card c)) × (start c .args .first < card c .fields) × (start c .args .second < card c .fields)
+passed c = fields-passed _ _ _ (card c) (sym (c .before .before .check-fields .ensures) ∙ c .card .given .1)
 
-bytes : (c : tie.After-known-told2) → Bytes (start c .args .s .now)
+bytes : (c : tie.After-card) → Bytes (start c .args .sheet .now)
 bytes c = λ k. omega (arith, c .before .before .before .shared-slice-known .given k)
 
-enum-known-checked : tie.Need-enum-known-checked
-enum-known-checked c = search needs
+check-fields-requires : tie.Need-check-fields-requires
+check-fields-requires c κs = search needs
 
-enum-known-checked-2 : tie.Need-enum-known-checked-2
-enum-known-checked-2 c = search needs
+enum-known-number : tie.Need-enum-known-number
+enum-known-number c = search needs
+
+enum-known-card : tie.Need-enum-known-card
+enum-known-card c = search needs
+
+parted-requires : tie.Need-parted-requires
+parted-requires c κs =
+    let read = c .before .before .before in
+    let told = passed read in
+    (was-accepted (start read .pre) _ (told .0), (was-settled (start read .pre) _ (told .0), (told .1, told .2)))
 
 returns : tie.Need-returns
-returns c = compare-no-first (start (c .before) .pre) _ (passed (c .before)) _ (c .if1 .taken)
-
-returns-2 : tie.Need-returns-2
-returns-2 c = compare-no-second (start (c .before .before) .pre) _ (passed (c .before .before)) _ (c .before .if1 .left) (c .if2 .taken)
-
-mul-stage : tie.Need-mul-stage
-mul-stage c = let k = c .before .before .before .before .before in omega (arith, fields-most (was-accepted (start k .pre) _ (passed k) .reads), c .before .before .before .if2 .left)
-
-array-read-stage : tie.Need-array-read-stage
-array-read-stage c = let k = c .before .before .before .before .before in omega (arith, fields-most (was-accepted (start k .pre) _ (passed k) .reads), c .before .before .before .if2 .left)
-
-returns-3 : tie.Need-returns-3
-returns-3 c = let k = c .before .before .before .before .before .before in compare-same-called (start k .pre) _ (passed k) _ (c .before .before .before .before .before .if1 .left) (c .before .before .before .before .if2 .left) (c .if3 .taken)
+returns c =
+    let read = c .before .before .before .before .before in
+    let told = passed read in
+    compare-same-called (start read .pre) _ (told .0) _ _ (told .1) (told .2) _ (c .before .parted .ensures) (c .if1 .taken)
 
 rounds-at-requires : tie.Need-rounds-at-requires
 rounds-at-requires c κs =
-    let k = c .before .before .before .before .before .before in
-    let h = c .before .before .before .before .before .if1 .left in
-    let l = c .before .before .before .before .if2 .left in
-    (was-accepted (start k .pre) _ (passed k), ((h, l), compare-rounds-fit (start k .pre) _ (passed k) _ h l (c .if3 .left) (bytes k)))
+    let read = c .before .before .before .before .before in
+    let told = passed read in
+    (was-accepted (start read .pre) _ (told .0), ((told .1, told .2), compare-rounds-fit (start read .pre) _ (told .0) _ _ (told .1) (told .2) _ (c .before .parted .ensures) (c .if1 .left) (bytes read)))
 
-returns-4 : tie.Need-returns-4
-returns-4 c = compare-refuses (c .before .before .before .before .pre) _ _ (c .before .checked .given .1) _ _
+returns-2 : tie.Need-returns-2
+returns-2 c =
+    let at-start = c .before .before .before .before .before in
+    let refused = c .before in
+    compare-refuses (at-start .pre) _ _ _ _ (sym (refused .before .before .check-fields .ensures) ∙ refused .number .given .1)
 
-returns-5 : tie.Need-returns-5
-returns-5 c =
-    let k = c .before .before .before .before .before .before .before in
-    let h = c .before .before .before .before .before .before .if1 .left in
-    let l = c .before .before .before .before .before .if2 .left in
-    compare-different-called (start k .pre) _ (passed k) _ h l (c .before .if3 .left) _ (c .rounds-at .ensures)
+returns-3 : tie.Need-returns-3
+returns-3 c =
+    let read = c .before .before .before .before .before .before in
+    let told = passed read in
+    compare-different-called (start read .pre) _ (told .0) _ _ (told .1) (told .2) _ (c .before .before .parted .ensures) (c .before .if1 .left) _ (c .rounds-at .ensures)
 
 pub compare-settled-spec : {M : Type 1} → statement M
 compare-settled-spec =
     tie.close
     (tie.spec
-    enum-known-checked
-    enum-known-checked-2
+    check-fields-requires
+    enum-known-number
+    enum-known-card
+    parted-requires
     returns
-    returns-2
-    mul-stage
-    array-read-stage
-    returns-3
     rounds-at-requires
-    returns-4
-    returns-5)
+    returns-2
+    returns-3)

@@ -6,13 +6,19 @@ use Rattle.filer.proofs.compare.rounds_for.Statement.{statement}
 use Rattle.filer.proofs.compare.rounds_for.Tie as tie
 
 add-result : tie.Need-add-result
-add-result c = let a = c .before .args in omega (arith, rounds-none (a .norm) (a .gain) (a .stage) (c .if1 .taken))
+add-result c =
+    let args = c .before .args in
+    omega (arith, rounds-none (args .norm) (args .gain) (args .stage) (c .if1 .taken))
 
 returns : tie.Need-returns
-returns c = let a = c .before .args in rounds-none (a .norm) (a .gain) (a .stage) (c .if1 .taken)
+returns c =
+    let args = c .before .args in
+    rounds-none (args .norm) (args .gain) (args .stage) (c .if1 .taken)
 
 add-result-2 : tie.Need-add-result-2
-add-result-2 c = let a = c .before .args in omega (arith, rounds-some (a .norm) (a .gain) (a .stage) (c .if1 .left))
+add-result-2 c =
+    let args = c .before .args in
+    omega (arith, rounds-some (args .norm) (args .gain) (args .stage) (c .if1 .left))
 
 sub-result : tie.Need-sub-result
 sub-result c = search needs
@@ -21,13 +27,19 @@ add-result-3 : tie.Need-add-result-3
 add-result-3 c = search needs
 
 mul-result : tie.Need-mul-result
-mul-result c = let a = c .before .args in omega (arith, rounds-some (a .norm) (a .gain) (a .stage) (c .if1 .left))
+mul-result c =
+    let args = c .before .args in
+    omega (arith, rounds-some (args .norm) (args .gain) (args .stage) (c .if1 .left))
 
 add-result-4 : tie.Need-add-result-4
-add-result-4 c = let a = c .before .args in omega (arith, rounds-some (a .norm) (a .gain) (a .stage) (c .if1 .left))
+add-result-4 c =
+    let args = c .before .args in
+    omega (arith, rounds-some (args .norm) (args .gain) (args .stage) (c .if1 .left))
 
 returns-2 : tie.Need-returns-2
-returns-2 c = let a = c .before .args in rounds-some (a .norm) (a .gain) (a .stage) (c .if1 .left)
+returns-2 c =
+    let args = c .before .args in
+    rounds-some (args .norm) (args .gain) (args .stage) (c .if1 .left)
 
 pub rounds-for-spec : {M : Type 1} → statement M
 rounds-for-spec =

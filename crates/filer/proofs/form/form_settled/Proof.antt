@@ -23,15 +23,20 @@ card c = c .before .checked2 .given .0 .0
 passed : (c : tie.After-known-told2) → start c .args .settlement .checked ≡ Passed (card c)
 passed c = c .before .checked2 .given .1
 
-read : (c : tie.After-known-told2) → Reads (start c .args .s .now) (card c)
+read : (c : tie.After-known-told2) → Reads (start c .args .sheet .now) (card c)
 read c = was-accepted (start c .pre) (card c) (passed c) .reads
 
-bytes : (c : tie.After-known-told2) → Bytes (start c .args .s .now)
-bytes c = λ k. omega (arith, c .before .before .before .before .shared-slice-known .given k)
+bytes : (c : tie.After-known-told2) → Bytes (start c .args .sheet .now)
+bytes c =
+    let shared-slice-known = c .before .before .before .before .shared-slice-known in
+    λ k. omega (arith, shared-slice-known .given k)
 
 -- The form has a count for each kind of the card.
-long : (c : tie.After-form-by) → card (c .before .before .before .before .before) .kinds ≤ length (c .form-by .result)
-long c = let e : length (c .form-by .result) ≡ 32 = search needs in omega (arith, kinds-most (read (c .before .before .before .before .before)))
+long : (c : tie.After-form-by) → let after-known-told2 = c .before .before .before .before .before in card after-known-told2 .kinds ≤ length (c .form-by .result)
+long c =
+    let after-known-told2 = c .before .before .before .before .before in
+    let e : length (c .form-by .result) ≡ 32 = search needs in
+    omega (arith, kinds-most (read after-known-told2))
 
 enum-known-checked : tie.Need-enum-known-checked
 enum-known-checked c = search needs
@@ -46,27 +51,37 @@ returns-2 : tie.Need-returns-2
 returns-2 c = form-short (start (c .before .before) .pre) _ (passed (c .before .before)) _ _ (c .before .if1 .left) (c .if2 .taken)
 
 form-by-requires : tie.Need-form-by-requires
-form-by-requires c κs = let k = c .before .before .before .before in (read k, (c .before .before .before .if1 .left, forms-fit (start k .pre) _ (passed k) (bytes k)))
+form-by-requires c κs =
+    let after-known-told2 = c .before .before .before .before in
+    (read after-known-told2, (c .before .before .before .if1 .left, forms-fit (start after-known-told2 .pre) _ (passed after-known-told2) (bytes after-known-told2)))
 
 array-share-prefix-form : tie.Need-array-share-prefix-form
 array-share-prefix-form c = long c
 
-slice-aggregate-write-counts : tie.Need-slice-aggregate-write-counts
-slice-aggregate-write-counts c = sym (length-take-le _ _ (long (c .before)))
+slice-aggregate-write-u64 : tie.Need-slice-aggregate-write-u64
+slice-aggregate-write-u64 c = sym (length-take-le _ _ (long (c .before)))
 
-write-counts-requires : tie.Need-write-counts-requires
-write-counts-requires c κs = omega (arith, length-take-le (card (c .before .before .before .before .before .before .before) .kinds) (c .before .before .form-by .result) (long (c .before .before)), c .before .before .before .before .before .if2 .left)
+write-u64-requires : tie.Need-write-u64-requires
+write-u64-requires c κs =
+    let after-known-told2 = c .before .before .before .before .before .before .before in
+    let if2 = c .before .before .before .before .before .if2 in
+    omega (arith, length-take-le (card after-known-told2 .kinds) (c .before .before .form-by .result) (long (c .before .before)), if2 .left)
 
 returns-3 : tie.Need-returns-3
-returns-3 c = form-refuses (c .before .before .before .before .before .pre) _ _ (c .before .checked .given .1) _ _
+returns-3 c =
+    let at-start = c .before .before .before .before .before in
+    form-refuses (at-start .pre) _ _ (c .before .checked .given .1) _ _
 
 same-length : tie.Need-same-length
 same-length c = search needs
 
 returns-4 : tie.Need-returns-4
 returns-4 c =
-    let k = c .before .before .before .before .before .before .before .before .before .before in
-    form-writes (start k .pre) _ (passed k) _ _ (c .before .before .before .before .before .before .before .before .before .if1 .left) _ _ (c .before .before .before .before .before .before .before .before .if2 .left) (long (c .before .before .before .before .before)) (c .before .before .before .before .before .form-by .ensures) (c .before .before .write-counts .ensures)
+    let after-known-told2 = c .before .before .before .before .before .before .before .before .before .before in
+    let if1 = c .before .before .before .before .before .before .before .before .before .if1 in
+    let if2 = c .before .before .before .before .before .before .before .before .if2 in
+    let after-form-by = c .before .before .before .before .before in
+    form-writes (start after-known-told2 .pre) _ (passed after-known-told2) _ _ (if1 .left) _ _ (if2 .left) (long after-form-by) (after-form-by .form-by .ensures) (c .before .before .write-u64 .ensures)
 
 pub form-settled-spec : {M : Type 1} → statement M
 form-settled-spec =
@@ -78,8 +93,8 @@ form-settled-spec =
     returns-2
     form-by-requires
     array-share-prefix-form
-    slice-aggregate-write-counts
-    write-counts-requires
+    slice-aggregate-write-u64
+    write-u64-requires
     returns-3
     same-length
     returns-4)

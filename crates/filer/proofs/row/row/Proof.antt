@@ -11,14 +11,16 @@ use Rattle.filer.proofs.Rows.{Whole, row-inside, whole, part-is, row-no
 use Rattle.filer.proofs.row.row.Statement.{statement}
 use Rattle.filer.proofs.row.row.Tie as tie
 
-found-clear : (c : tie.After-enum-told) → rowCheckOf (c .before .before .before .before .args .n) (c .before .before .before .before .args .kind) (c .before .before .before .before .args .table .now) ≡ clear
+found-clear : (c : tie.After-enum-told) → let start = c .before .before .before .before in rowCheckOf (start .args .kinds) (start .args .kind) (start .args .table .now) ≡ clear
 found-clear c = sym (c .before .before .row-check .ensures) ∙ ap findingOf (c .enum-told .given .1)
 
-told : (c : tie.After-enum-told) → Whole (c .before .before .before .before .args .n) (c .before .before .before .before .args .kind) (length (c .before .before .before .before .args .table .now))
+told : (c : tie.After-enum-told) → let start = c .before .before .before .before in Whole (start .args .kinds) (start .args .kind) (length (start .args .table .now))
 told c = whole _ _ _ (found-clear c)
 
-inside : (c : tie.After-enum-told) → c .before .before .before .before .args .kind * c .before .before .before .before .args .n + c .before .before .before .before .args .n ≤ length (c .before .before .before .before .args .table .now)
-inside c = let a = c .before .before .before .before .args in row-inside (a .n) (a .kind) (a .table .now) (told c)
+inside : (c : tie.After-enum-told) → let start = c .before .before .before .before in start .args .kind * start .args .kinds + start .args .kinds ≤ length (start .args .table .now)
+inside c =
+    let args = c .before .before .before .before .args in
+    row-inside (args .kinds) (args .kind) (args .table .now) (told c)
 
 row-check-requires : tie.Need-row-check-requires
 row-check-requires c κs = search needs

@@ -10,7 +10,7 @@ use Rattle.filer.proofs.row.row_check.Statement.{statement}
 use Rattle.filer.proofs.row.row_check.Tie as tie
 
 -- n is in range.
-kinds-pass : (c : tie.Else1) → outside 1 mostKinds (c .before .before .before .args .n) ≡ false
+kinds-pass : (c : tie.Else1) → outside 1 mostKinds (c .before .before .before .args .kinds) ≡ false
 kinds-pass c = sym (c .before .outside .ensures) ∙ c .if1 .left
 
 outside-requires : tie.Need-outside-requires
@@ -20,10 +20,14 @@ returns : tie.Need-returns
 returns c = sym (kinds-stop _ _ _ (sym (c .before .outside .ensures) ∙ c .if1 .taken))
 
 returns-2 : tie.Need-returns-2
-returns-2 c = let a = c .before .before .before .before .args in sym (kind-stops (a .n) (a .kind) (a .table .now) (kinds-pass (c .before)) (omega (arith, c .if2 .taken)))
+returns-2 c =
+    let args = c .before .before .before .before .args in
+    sym (kind-stops (args .kinds) (args .kind) (args .table .now) (kinds-pass (c .before)) (omega (arith, c .if2 .taken)))
 
 mul-if3 : tie.Need-mul-if3
-mul-if3 c = omega (arith, square-most (c .before .before .before .before .args .n) (in-range _ (kinds-pass (c .before)) .1))
+mul-if3 c =
+    let start = c .before .before .before .before in
+    omega (arith, square-most (start .args .kinds) (in-range _ (kinds-pass (c .before)) .1))
 
 returns-3 : tie.Need-returns-3
 returns-3 c = sym (size-stops _ _ _ (kinds-pass (c .before .before)) (c .before .if2 .left) (c .if3 .taken))

@@ -1,6 +1,7 @@
 -- The settlement tells what each return answers, and what is written.
 use borrow.Author.Needs.{needs}
 use native.Mathlib.Omega.{arith}
+use lib.ListN.{length}
 use mathlib.Core.Path.{_≡_}
 use Rattle.sheet.specs.Reader.{Reads}
 use Rattle.sheet.specs.declared.reader.Card.{Card}
@@ -12,17 +13,23 @@ use Rattle.filer.proofs.Settlements.{was-accepted, settle-refuses, sett
 use Rattle.filer.proofs.settle.settle_sheet.Statement.{statement}
 use Rattle.filer.proofs.settle.settle_sheet.Tie as tie
 
+abbrev start : tie.After-known-told2 → tie.Start
+start c = c .before .before .before .before .before .before
+
 abbrev card : tie.After-known-told2 → Card
 card c = c .before .checked2 .given .0 .0
 
-settled : (c : tie.After-known-told2) → IsSettlement (c .before .before .before .before .before .before .args .s .now) (c .before .before .before .settle-once .result)
-settled c = c .before .before .before .settle-once .ensures .0
+settled : (c : tie.After-known-told2) → IsSettlement (start c .args .sheet .now) (c .before .before .before .settle-once .result)
+settled c = c .before .before .before .settle-once .ensures
 
 passed : (c : tie.After-known-told2) → c .before .before .before .settle-once .result .checked ≡ Passed (card c)
 passed c = c .before .checked2 .given .1
 
-read : (c : tie.After-known-told2) → Reads (c .before .before .before .before .before .before .args .s .now) (card c)
+read : (c : tie.After-known-told2) → Reads (start c .args .sheet .now) (card c)
 read c = was-accepted (settled c) (card c) (passed c) .reads
+
+rows-all : (c : tie.After-known-told2) → length (c .before .before .before .settle-once .result .settled .base .rows) ≡ 1024
+rows-all c = search needs
 
 settle-once-requires : tie.Need-settle-once-requires
 settle-once-requires c κs = search needs
@@ -43,16 +50,22 @@ slice-aggregate-write-table : tie.Need-slice-aggregate-write-table
 slice-aggregate-write-table c = search needs
 
 write-table-requires : tie.Need-write-table-requires
-write-table-requires c κs = ((search needs, kinds-most (read (c .before .before .before .before .before .before))), c .before .before .before .before .before .if1 .left)
+write-table-requires c κs =
+    let known = c .before .before .before .before .before .before in
+    let room = c .before .before .before .before .before .if1 .left in
+    ((rows-all known, kinds-most (read known)), room)
 
 returns-2 : tie.Need-returns-2
-returns-2 c = settle-refuses (c .before .before .before .settle-once .ensures .0) _ _ (c .before .checked .given .1) _
+returns-2 c = settle-refuses (c .before .before .before .settle-once .ensures) _ _ (c .before .checked .given .1) _
 
 same-length : tie.Need-same-length
 same-length c = search needs
 
 returns-3 : tie.Need-returns-3
-returns-3 c = let k = c .before .before .before .before .before .before .before .before .before in settle-writes (settled k) _ (passed k) _ _ (c .before .before .before .before .before .before .before .before .if1 .left) (c .before .before .write-table .ensures)
+returns-3 c =
+    let known = c .before .before .before .before .before .before .before .before .before in
+    let room = c .before .before .before .before .before .before .before .before .if1 .left in
+    settle-writes (settled known) _ (passed known) _ _ room (c .before .before .write-table .ensures)
 
 pub settle-sheet-spec : {M : Type 1} → statement M
 settle-sheet-spec =

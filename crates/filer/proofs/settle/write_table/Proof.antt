@@ -16,20 +16,24 @@ abbrev μ-loop : tie.MeasureT-loop
 μ-loop rows n table₀ size i₀ table i = n * n - i
 
 -- The store of this turn is of an entry.
-inside : (c : tie.In-loop Inv-loop μ-loop) → c .before .loop .i < c .before .before .args .n * c .before .before .args .n
+inside : (c : tie.In-loop Inv-loop μ-loop) → c .before .loop .i < c .before .before .args .kinds * c .before .before .args .kinds
 inside c = omega (arith, c .before .loop .inv .0, c .loop-test .taken)
 
-row-is : (c : tie.In-loop Inv-loop μ-loop) → c .before .loop .i / c .before .before .args .n < c .before .before .args .n
-row-is c = let a = c .before .before .args in row-under (a .n) (a .rows .now) (c .before .loop .i) (inside c)
+row-is : (c : tie.In-loop Inv-loop μ-loop) → c .before .loop .i / c .before .before .args .kinds < c .before .before .args .kinds
+row-is c =
+    let args = c .before .before .args in
+    row-under (args .kinds) (args .rows .now) (c .before .loop .i) (inside c)
 
-count-is : (c : tie.In-loop Inv-loop μ-loop) → c .before .loop .i % c .before .before .args .n < c .before .before .args .n
-count-is c = let a = c .before .before .args in count-under (a .n) (a .rows .now) (c .before .loop .i) (inside c)
+count-is : (c : tie.In-loop Inv-loop μ-loop) → c .before .loop .i % c .before .before .args .kinds < c .before .before .args .kinds
+count-is c =
+    let args = c .before .before .args in
+    count-under (args .kinds) (args .rows .now) (c .before .loop .i) (inside c)
 
 mul-size : tie.Need-mul-size Inv-loop μ-loop
-mul-size c = omega (arith, square-most (c .args .n) (c .pre .0 .1))
+mul-size c = omega (arith, square-most (c .args .kinds) (c .pre .0 .1))
 
 loop-holds : tie.Need-loop-holds Inv-loop μ-loop
-loop-holds c = (refl, begun-none _ _ (omega (arith, table-long (c .args .n) (c .args .rows .now), c .pre .1)))
+loop-holds c = (refl, begun-none _ _ (omega (arith, table-long (c .args .kinds) (c .args .rows .now), c .pre .1)))
 
 div-table : tie.Need-div-table Inv-loop μ-loop
 div-table c = omega (arith, row-is c)
@@ -50,28 +54,30 @@ shared-slice-read-table : tie.Need-shared-slice-read-table Inv-loop μ-loop
 shared-slice-read-table c = omega (arith, row-is (c .before), count-is (c .before), c .before .before .before .pre .0 .1, c .before .before .before .pre .0 .0)
 
 mul-table-3 : tie.Need-mul-table-3 Inv-loop μ-loop
-mul-table-3 c = omega (arith, inside (c .before), square-most (c .before .before .before .args .n) (c .before .before .before .pre .0 .1))
+mul-table-3 c = omega (arith, inside (c .before), square-most (c .before .before .before .args .kinds) (c .before .before .before .pre .0 .1))
 
 slice-write-table : tie.Need-slice-write-table Inv-loop μ-loop
 slice-write-table c = omega (arith, inside (c .before), begun-length (c .before .before .loop .inv .1), c .before .before .before .pre .1)
 
 add-i : tie.Need-add-i Inv-loop μ-loop
-add-i c = omega (arith, inside (c .before), square-most (c .before .before .before .args .n) (c .before .before .before .pre .0 .1))
+add-i c = omega (arith, inside (c .before), square-most (c .before .before .before .args .kinds) (c .before .before .before .pre .0 .1))
 
 loop-less : tie.Need-loop-less Inv-loop μ-loop
 loop-less c = omega (arith, inside (c .before))
 
 loop-again : tie.Need-loop-again Inv-loop μ-loop
 loop-again c =
-    let a = c .before .before .before .args in
+    let args = c .before .before .before .args in
     let h = inside (c .before) in
-    (c .before .before .loop .inv .0, begun-more (c .before .before .loop .inv .1) _ (omega (arith, table-long (a .n) (a .rows .now))) (table-entry (a .n) (a .rows .now) (c .before .before .loop .i) h (c .before .before .before .pre .0 .1)))
+    (c .before .before .loop .inv .0, begun-more (c .before .before .loop .inv .1) _ (omega (arith, table-long (args .kinds) (args .rows .now))) (table-entry (args .kinds) (args .rows .now) (c .before .before .loop .i) h (c .before .before .before .pre .0 .1)))
 
 same-length : tie.Need-same-length Inv-loop μ-loop
 same-length c = begun-length (c .before .loop .inv .1)
 
 returns : tie.Need-returns Inv-loop μ-loop
-returns c = let a = c .before .before .args in begun-all (c .before .loop .inv .1) (omega (arith, table-long (a .n) (a .rows .now), c .before .loop .inv .0, c .loop-test .left))
+returns c =
+    let args = c .before .before .args in
+    begun-all (c .before .loop .inv .1) (omega (arith, table-long (args .kinds) (args .rows .now), c .before .loop .inv .0, c .loop-test .left))
 
 pub write-table-spec : {M : Type 1} → statement M
 write-table-spec =

@@ -1,6 +1,5 @@
 -- What the checks come to, and what the settle loop gives where they pass.
 use borrow.Author.Needs.{needs}
-use mathlib.Core.Path.{refl}
 use Rattle.acceptance.proofs.Acceptances.{acceptance-accepts}
 use Rattle.filer.proofs.Settlements.{settlement-refused, settlement-passed}
 use Rattle.filer.proofs.settlement.settle_once.Statement.{statement}
@@ -19,13 +18,19 @@ enum-known-checked-2 : tie.Need-enum-known-checked-2
 enum-known-checked-2 c = search needs
 
 settle-requires : tie.Need-settle-requires
-settle-requires c κs = acceptance-accepts _ _ (c .before .before .before .before .accept .ensures) _ (c .before .checked2 .given .1)
+settle-requires c κs =
+    let accept = c .before .before .before .before .accept in
+    acceptance-accepts _ _ (accept .ensures) _ (c .before .checked2 .given .1)
 
 returns : tie.Need-returns
-returns c = (settlement-refused _ _ (c .before .before .before .before .before .accept .ensures) _ _ _ _ (c .before .before .checked .given .1), refl)
+returns c =
+    let accept = c .before .before .before .before .before .accept in
+    settlement-refused _ _ (accept .ensures) _ _ _ (c .before .before .checked .given .1)
 
 returns-2 : tie.Need-returns-2
-returns-2 c = (settlement-passed _ _ (c .before .before .before .before .before .accept .ensures) _ _ _ (c .before .before .checked2 .given .1) (c .settle .ensures), refl)
+returns-2 c =
+    let accept = c .before .before .before .before .before .accept in
+    settlement-passed _ _ (accept .ensures) _ _ (c .before .before .checked2 .given .1) (c .settle .ensures)
 
 pub settle-once-spec : {M : Type 1} → statement M
 settle-once-spec =

@@ -15,13 +15,13 @@ may-use-requires-2 c κs = search needs
 returns : tie.Need-returns
 returns c =
     let b = c .before .before .before in
-    rw (by-first (b .args .s .now) (b .args .number) (omega (arith, lines-are (b .pre .0), c .before .if1 .taken))) (c .may-use .ensures)
+    rw (by-first (b .args .sheet .now) (b .args .number) (omega (arith, lines-are (b .pre .0), c .before .if1 .taken))) (c .may-use .ensures)
 
 returns-2 : tie.Need-returns-2
 returns-2 c =
     let b = c .before .before .before in
     let e = lines-are (b .pre .0) in
-    rw (by-second (b .args .s .now) (b .args .number) (omega (arith, e, c .before .if1 .left)), ← e) (c .may-use2 .ensures)
+    rw (by-second (b .args .sheet .now) (b .args .number) (omega (arith, e, c .before .if1 .left)), ← e) (c .may-use2 .ensures)
 
 pub may-challenge-spec : {M : Type 1} → statement M
 may-challenge-spec = tie.close (tie.spec may-use-requires may-use-requires-2 returns returns-2)

@@ -15,13 +15,13 @@ next-reply-requires-2 c κs = search needs
 returns : tie.Need-returns
 returns c =
     let b = c .before .before .before in
-    rw (by-first (b .args .s .now) (b .args .number) (omega (arith, lines-are (b .pre .0 .0), c .before .if1 .taken))) (c .next-reply .ensures)
+    rw (by-first (b .args .sheet .now) (b .args .number) (omega (arith, lines-are (b .pre .0 .0), c .before .if1 .taken))) (c .next-reply .ensures)
 
 returns-2 : tie.Need-returns-2
 returns-2 c =
     let b = c .before .before .before in
     let e = lines-are (b .pre .0 .0) in
-    rw (by-second (b .args .s .now) (b .args .number) (omega (arith, e, c .before .if1 .left)), ← e) (c .next-reply2 .ensures)
+    rw (by-second (b .args .sheet .now) (b .args .number) (omega (arith, e, c .before .if1 .left)), ← e) (c .next-reply2 .ensures)
 
 pub next-answer-spec : {M : Type 1} → statement M
 next-answer-spec = tie.close (tie.spec next-reply-requires next-reply-requires-2 returns returns-2)

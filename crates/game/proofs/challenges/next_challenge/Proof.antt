@@ -9,10 +9,10 @@ use Rattle.game.proofs.challenges.next_challenge.Statement.{statement}
 use Rattle.game.proofs.challenges.next_challenge.Tie as tie
 
 abbrev Inv-loop : tie.InvT-loop
-Inv-loop card s from to a b number₀ number = Searching (λ j. mayChallenge (at a) (at b) (challengeOf s j)) from to number
+Inv-loop s card from to first second number₀ number = Searching (λ j. mayChallenge (at first) (at second) (challengeOf s j)) from to number
 
 abbrev μ-loop : tie.MeasureT-loop
-μ-loop card s from to a b number₀ number = to - number
+μ-loop s card from to first second number₀ number = to - number
 
 loop-holds : tie.Need-loop-holds Inv-loop μ-loop
 loop-holds c = searching-starts _ _ _ (c .before .pre .1 .0)

@@ -1,6 +1,7 @@
 -- `put_head`: its parts, one after the other, are the line.
 use native.Mathlib.Omega.{arith}
 use Rattle.model.specs.Page.{bytes}
+use Rattle.listing.specs.Lengths.{mostHead}
 use Rattle.listing.specs.Line.{headText}
 use Rattle.text.proofs.Append.{then, reads-as}
 use Rattle.listing.proofs.Lines.{head-is}
@@ -27,7 +28,8 @@ returns : tie.Need-returns
 unfolding bytes
 returns c =
     let start = c .before .before .before .before .before .before .before .before .before .before .before in
-    reads-as 55 (headText (start .args .kinds) (start .args .stage)) (then (c .before .before .before .before .before .before .put-two-labelled .ensures) (c .before .before .put-byte .ensures))
+    let put-two-labelled = c .before .before .before .before .before .before .put-two-labelled in
+    reads-as mostHead (headText (start .args .kinds) (start .args .stage)) (then (put-two-labelled .ensures) (c .before .before .put-byte .ensures))
     (omega arith) (head-is (start .args .kinds) (start .args .stage))
 
 pub put-head-spec : {M : Type 1} → statement M

@@ -1,8 +1,8 @@
 -- `put_kind`: its parts, one after the other, are the line.
-use Prim.Native.Nat.{_+_, _*_}
 use native.Mathlib.Omega.{arith}
 use lib.ListN.{length}
 use Rattle.model.specs.Page.{bytes}
+use Rattle.listing.specs.Lengths.{mostKindLine}
 use Rattle.listing.specs.Line.{kindText}
 use Rattle.text.proofs.Append.{then, reads-as}
 use Rattle.listing.proofs.Lines.{kind-is}
@@ -35,7 +35,10 @@ returns : tie.Need-returns
 unfolding bytes
 returns c =
     let start = c .before .before .before .before .before .before .before .before .before .before .before .before .before .before .before .before .before .before .before .before in
-    reads-as (58 + 21 * length (start .args .row .now)) (kindText (start .args .kind) (start .args .norm) (start .args .row .now)) (then (c .before .before .before .before .before .before .before .before .before .before .before .before .before .before .put-two-labelled .ensures) (then (c .before .before .before .before .before .before .before .before .before .before .put-byte .ensures) (then (c .before .before .before .before .before .before .put-prime-or-row .ensures) (c .before .before .put-byte2 .ensures))))
+    let put-two-labelled = c .before .before .before .before .before .before .before .before .before .before .before .before .before .before .put-two-labelled in
+    let put-byte = c .before .before .before .before .before .before .before .before .before .before .put-byte in
+    let put-prime-or-row = c .before .before .before .before .before .before .put-prime-or-row in
+    reads-as (mostKindLine (length (start .args .row .now))) (kindText (start .args .kind) (start .args .norm) (start .args .row .now)) (then (put-two-labelled .ensures) (then (put-byte .ensures) (then (put-prime-or-row .ensures) (c .before .before .put-byte2 .ensures))))
     (omega arith) (kind-is (start .args .kind) (start .args .norm) (start .args .row .now))
 
 pub put-kind-spec : {M : Type 1} → statement M

@@ -7,7 +7,7 @@ use Rattle.moves.proofs.fire.less_one.Statement.{statement}
 use Rattle.moves.proofs.fire.less_one.Tie as tie
 
 returns : tie.Need-returns
-returns c = let a = c .before .args in less-none (a .field .now) (a .k) (List·getD-eq-default (a .field .now) 0 {n = a .k} (omega arith))
+returns c = let a = c .before .args in less-none (a .field .now) (a .kind) (List·getD-eq-default (a .field .now) 0 {n = a .kind} (omega arith))
 
 mul-tokens : tie.Need-mul-tokens
 mul-tokens c = search needs
@@ -28,10 +28,10 @@ same-length : tie.Need-same-length
 same-length c = search needs
 
 returns-2 : tie.Need-returns-2
-returns-2 c = let a = c .before .before .before .args in less-set (a .field .now) (a .k) (omega arith)
+returns-2 c = let a = c .before .before .before .args in less-set (a .field .now) (a .kind) (omega arith)
 
 returns-3 : tie.Need-returns-3
-returns-3 c = let a = c .before .before .before .args in less-none (a .field .now) (a .k) (omega arith)
+returns-3 c = let a = c .before .before .before .args in less-none (a .field .now) (a .kind) (omega arith)
 
 pub less-one-spec : {M : Type 1} → statement M
 less-one-spec =

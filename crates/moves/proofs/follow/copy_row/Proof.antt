@@ -33,14 +33,14 @@ mul-line c = omega arith
 slice-read-line : tie.Need-slice-read-line Inv-loop μ-loop
 slice-read-line c = omega arith
 
-add-t : tie.Need-add-t Inv-loop μ-loop
-add-t c = omega arith
+add-table : tie.Need-add-table Inv-loop μ-loop
+add-table c = omega arith
 
-mul-t : tie.Need-mul-t Inv-loop μ-loop
-mul-t c = omega arith
+mul-table : tie.Need-mul-table Inv-loop μ-loop
+mul-table c = omega arith
 
-slice-write-t : tie.Need-slice-write-t Inv-loop μ-loop
-slice-write-t c = omega arith
+slice-write-table : tie.Need-slice-write-table Inv-loop μ-loop
+slice-write-table c = omega arith
 
 add-code : tie.Need-add-code Inv-loop μ-loop
 add-code c = omega arith
@@ -53,7 +53,7 @@ loop-again c =
     let l = c .before .before .loop in
     let p = c .before .before .before .args .position in
     let e : p * mostCodes + mostCodes + l .code ≡ (p + 1) * mostCodes + l .code = omega arith in
-    setting-more (l .inv) (c .before .loop-test .taken) (omega arith) _ (l .inv .later _ (omega arith) ∙ ap (at (c .before .before .before .args .t .now)) e)
+    setting-more (l .inv) (c .before .loop-test .taken) (omega arith) _ (l .inv .later _ (omega arith) ∙ ap (at (c .before .before .before .args .table .now)) e)
 
 same-length : tie.Need-same-length Inv-loop μ-loop
 same-length c = c .before .loop .inv .long
@@ -73,9 +73,9 @@ copy-row-spec =
     add-line
     mul-line
     slice-read-line
-    add-t
-    mul-t
-    slice-write-t
+    add-table
+    mul-table
+    slice-write-table
     add-code
     loop-less
     loop-again

@@ -19,14 +19,14 @@ mul-start c = omega arith
 loop-holds : tie.Need-loop-holds Inv-loop μ-loop
 loop-holds c = setting-none
 
-add-t : tie.Need-add-t Inv-loop μ-loop
-add-t c = omega arith
+add-table : tie.Need-add-table Inv-loop μ-loop
+add-table c = omega arith
 
-mul-t : tie.Need-mul-t Inv-loop μ-loop
-mul-t c = omega arith
+mul-table : tie.Need-mul-table Inv-loop μ-loop
+mul-table c = omega arith
 
-slice-write-t : tie.Need-slice-write-t Inv-loop μ-loop
-slice-write-t c = omega arith
+slice-write-table : tie.Need-slice-write-table Inv-loop μ-loop
+slice-write-table c = omega arith
 
 add-code : tie.Need-add-code Inv-loop μ-loop
 add-code c = omega arith
@@ -51,9 +51,9 @@ fill-row-spec =
     μ-loop
     mul-start
     loop-holds
-    add-t
-    mul-t
-    slice-write-t
+    add-table
+    mul-table
+    slice-write-table
     add-code
     loop-less
     loop-again

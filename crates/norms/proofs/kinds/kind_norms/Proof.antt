@@ -23,36 +23,41 @@ loop-holds c = (swept-start (c .before .pre), search needs)
 
 sweep-requires : tie.Need-sweep-requires Inv-loop μ-loop
 sweep-requires c κs =
-    let R = c .before .before .before .before .pre in
-    (R, rw (c .before .before .loop .inv .0) (swept-most R (c .before .before .loop .turn)))
+    let pre = c .before .before .before .before .pre in
+    (pre, rw (c .before .before .loop .inv .0) (swept-most pre (c .before .before .loop .turn)))
 
 same-values-requires : tie.Need-same-values-requires Inv-loop μ-loop
-same-values-requires c κs = kinds-most (c .before .before .before .before .before .before .before .pre)
+same-values-requires c κs =
+    let start = c .before .before .before .before .before .before .before in
+    kinds-most (start .pre)
 
 returns : tie.Need-returns Inv-loop μ-loop
 returns c =
-    let w = c .before .before .before .before in
-    let l = w .before .before .before .loop in
-    swept-settled (w .before .before .before .before .before .pre) (l .turn) (l .values) (w .sweep .result) (l .inv .1) (l .inv .0) (w .sweep .ensures)
+    let start = c .before .before .before .before .before .before .before .before .before in
+    let loop = c .before .before .before .before .before .before .before .loop in
+    let sweep = c .before .before .before .before .sweep in
+    swept-settled (start .pre) (loop .turn) (loop .values) (sweep .result) (loop .inv .1) (loop .inv .0) (sweep .ensures)
     (c .before .same-values .ensures .0 (c .if1 .taken))
 
 add-turn : tie.Need-add-turn Inv-loop μ-loop
-add-turn c = omega (arith, kinds-most (c .before .before .before .before .before .before .before .before .before .pre))
+add-turn c =
+    let start = c .before .before .before .before .before .before .before .before .before in
+    omega (arith, kinds-most (start .pre))
 
 loop-less : tie.Need-loop-less Inv-loop μ-loop
 loop-less c = search needs
 
 loop-again : tie.Need-loop-again Inv-loop μ-loop
 loop-again c =
-    let w = c .before .before .before .before in
-    let b = w .before .before .before .before .before in
-    let l = w .before .before .before .loop in
-    (w .sweep .ensures ∙ ap (λ (xs : List ℕ). sweepOf (b .args .s .now) (at xs)) (l .inv .0) ∙ swept-next (b .pre) (l .turn), search needs)
+    let start = c .before .before .before .before .before .before .before .before .before in
+    let loop = c .before .before .before .before .before .before .before .loop in
+    let sweep = c .before .before .before .before .sweep in
+    (sweep .ensures ∙ ap (λ (xs : List ℕ). sweepOf (start .args .sheet .now) (at xs)) (loop .inv .0) ∙ swept-next (start .pre) (loop .turn), search needs)
 
 returns-2 : tie.Need-returns-2 Inv-loop μ-loop
 returns-2 c =
-    let b = c .before .before .before in
-    c .before .loop .inv .0 ∙ swept-end (b .pre) (c .before .loop .turn) (omega arith)
+    let start = c .before .before .before in
+    c .before .loop .inv .0 ∙ swept-end (start .pre) (c .before .loop .turn) (omega arith)
 
 pub kind-norms-spec : {M : Type 1} → statement M
 kind-norms-spec =

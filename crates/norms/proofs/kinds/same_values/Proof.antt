@@ -32,8 +32,8 @@ element-copy-out-other c = search needs
 
 returns : tie.Need-returns Inv-loop μ-loop
 returns c =
-    let l = c .before .before .before .before .loop in
-    (λ e. let z : _≡_ {A = ℕ} 0 1 = cc in absurd (omega arith), λ same. absurd (c .if1 .taken (same (l .k) (c .before .before .before .loop-test .taken))))
+    let loop = c .before .before .before .before .loop in
+    (λ e. let z : _≡_ {A = ℕ} 0 1 = cc in absurd (omega arith), λ same. absurd (c .if1 .taken (same (loop .k) (c .before .before .before .loop-test .taken))))
 
 add-k : tie.Need-add-k Inv-loop μ-loop
 add-k c = search needs
@@ -42,7 +42,9 @@ loop-less : tie.Need-loop-less Inv-loop μ-loop
 loop-less c = search needs
 
 loop-again : tie.Need-loop-again Inv-loop μ-loop
-loop-again c = (search needs, below-more _ _ (c .before .before .before .before .loop .inv .1) (c .if1 .left))
+loop-again c =
+    let loop = c .before .before .before .before .loop in
+    (search needs, below-more _ _ (loop .inv .1) (c .if1 .left))
 
 returns-2 : tie.Need-returns-2 Inv-loop μ-loop
 returns-2 c = (λ e k h. c .before .loop .inv .1 k (omega arith), λ same. refl)

@@ -22,8 +22,8 @@ abbrev μ-loop : tie.MeasureT-loop
 
 loop-holds : tie.Need-loop-holds Inv-loop μ-loop
 loop-holds c =
-    let a = c .before .args in
-    (search needs, found-start (a .card .kinds) (at (a .values .now)) (lineOf (a .s .now)) (a .card .lines))
+    let args = c .before .args in
+    (search needs, found-start (args .card .kinds) (at (args .values .now)) (lineOf (args .sheet .now)) (args .card .lines))
 
 sub-j : tie.Need-sub-j Inv-loop μ-loop
 sub-j c = search needs
@@ -36,15 +36,15 @@ line-counts-requires c κs = search needs
 
 read-value-requires : tie.Need-read-value-requires Inv-loop μ-loop
 read-value-requires c κs =
-    let b = c .before .before .before .before .before in
-    (part-short (b .pre .0) (c .before .before .before .loop .j - 1) _ (c .line-counts .ensures), b .pre .1)
+    let start = c .before .before .before .before .before in
+    (part-short (start .pre .0) (c .before .before .before .loop .j - 1) _ (c .line-counts .ensures), start .pre .1)
 
 -- The line's kind is one of the card's.
 own-kind : (c : tie.After-read-value Inv-loop μ-loop) → c .before .before .line-kind .result < mostKinds
 own-kind c =
-    let b = c .before .before .before .before .before .before in
-    let l = c .before .before .before .before .loop in
-    omega (arith, c .before .before .line-kind .ensures, kind-most (b .pre .0) (l .j - 1) (omega arith))
+    let start = c .before .before .before .before .before .before in
+    let loop = c .before .before .before .before .loop in
+    omega (arith, c .before .before .line-kind .ensures, kind-most (start .pre .0) (loop .j - 1) (omega arith))
 
 mul-held : tie.Need-mul-held Inv-loop μ-loop
 mul-held c = omega (arith, own-kind c)
@@ -66,22 +66,22 @@ loop-less c = search needs
 
 loop-again : tie.Need-loop-again Inv-loop μ-loop
 loop-again c =
-    let v = c .before in
-    let b = v .before .before .before .before .before .before in
-    let a = b .args in
-    let l = v .before .before .before .before .loop in
-    let R = b .pre .0 in
-    let value = v .read-value .ensures
-    ∙ ap (λ x. min x (suc normLimit)) (part-left R (l .j - 1) _ (v .before .line-counts .ensures) (λ n f. readValue n (at (a .values .now)) f)) in (
+    let start = c .before .before .before .before .before .before .before in
+    let loop = c .before .before .before .before .before .loop in
+    let after-read-value = c .before in
+    let a = start .args in
+    let R = start .pre .0 in
+    let value = after-read-value .read-value .ensures
+    ∙ ap (λ x. min x (suc normLimit)) (part-left R (loop .j - 1) _ (after-read-value .before .line-counts .ensures) (λ n f. readValue n (at (a .values .now)) f)) in (
       search needs,
-      found-more (a .card .kinds) (at (a .values .now)) (lineOf (a .s .now)) (a .card .lines) (kinds-most R) (l .j) (v .before .before .before .loop-test .taken) (l .inv .0)
-          (kind-under R (l .j - 1) (omega arith)) (l .next) _ _ _ (v .before .before .line-kind .ensures) (l .inv .1) value (c .lesser .ensures),
+      found-more (a .card .kinds) (at (a .values .now)) (lineOf (a .sheet .now)) (a .card .lines) (kinds-most R) (loop .j) (after-read-value .before .before .before .loop-test .taken) (loop .inv .0)
+          (kind-under R (loop .j - 1) (omega arith)) (loop .next) _ _ _ (after-read-value .before .before .line-kind .ensures) (loop .inv .1) value (c .lesser .ensures),
     )
 
 returns : tie.Need-returns Inv-loop μ-loop
 returns c =
-    let b = c .before .before .before in
-    found-end (b .pre .0) (at (b .args .values .now)) (c .before .loop .j) _ (omega arith) (c .before .loop .inv .1)
+    let start = c .before .before .before in
+    found-end (start .pre .0) (at (start .args .values .now)) (c .before .loop .j) _ (omega arith) (c .before .loop .inv .1)
 
 pub sweep-spec : {M : Type 1} → statement M
 sweep-spec =

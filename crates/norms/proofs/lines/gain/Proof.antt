@@ -18,8 +18,8 @@ abbrev μ-loop : tie.MeasureT-loop
 
 loop-holds : tie.Need-loop-holds Inv-loop μ-loop
 loop-holds c =
-    let a = c .before .args in
-    (search needs, gain-start (a .s .now) (a .card .lines))
+    let args = c .before .args in
+    (search needs, gain-start (args .sheet .now) (args .card .lines))
 
 sub-j : tie.Need-sub-j Inv-loop μ-loop
 sub-j c = search needs
@@ -35,17 +35,17 @@ loop-less c = search needs
 
 loop-again : tie.Need-loop-again Inv-loop μ-loop
 loop-again c =
-    let a = c .before .before .before .before .before .args in
-    let l = c .before .before .before .loop in (
+    let args = c .before .before .before .before .before .args in
+    let loop = c .before .before .before .loop in (
       search needs,
-      gain-more (a .s .now) (a .card .lines) (l .j) (l .most) (c .before .line-gain .result) (c .greater .result) (c .before .before .loop-test .taken) (l .inv .0) (l .inv .1)
+      gain-more (args .sheet .now) (args .card .lines) (loop .j) (loop .most) (c .before .line-gain .result) (c .greater .result) (c .before .before .loop-test .taken) (loop .inv .0) (loop .inv .1)
           (c .before .line-gain .ensures) (c .greater .ensures),
     )
 
 returns : tie.Need-returns Inv-loop μ-loop
 returns c =
-    let b = c .before .before .before in
-    gain-end (b .pre .reads) (c .before .loop .j) (c .before .loop .most) (omega arith) (c .before .loop .inv .1)
+    let start = c .before .before .before in
+    gain-end (start .pre .reads) (c .before .loop .j) (c .before .loop .most) (omega arith) (c .before .loop .inv .1)
 
 pub gain-spec : {M : Type 1} → statement M
 gain-spec =

@@ -10,14 +10,14 @@ line-counts-requires c κs = search needs
 
 weight-requires : tie.Need-weight-requires
 weight-requires c κs =
-    let b = c .before .before in
-    let A = b .pre .0 in
-    (part-short (A .reads) (b .args .j) _ (c .line-counts .ensures), part-fits A (b .args .j) _ (c .line-counts .ensures) (λ k. c .before .shared-slice-known .given k .fits))
+    let start = c .before .before in
+    let A = start .pre .0 in
+    (part-short (A .reads) (start .args .line) _ (c .line-counts .ensures), part-fits A (start .args .line) _ (c .line-counts .ensures) (λ k. c .before .shared-slice-known .given k .fits))
 
 returns : tie.Need-returns
 returns c =
-    let b = c .before .before .before in
-    c .weight .ensures ∙ part-norm (b .pre .0) (b .args .j) _ (c .before .line-counts .ensures)
+    let start = c .before .before .before in
+    c .weight .ensures ∙ part-norm (start .pre .0) (start .args .line) _ (c .before .line-counts .ensures)
 
 pub left-norm-spec : {M : Type 1} → statement M
 left-norm-spec = tie.close (tie.spec line-counts-requires weight-requires returns)

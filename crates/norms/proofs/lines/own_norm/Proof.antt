@@ -12,18 +12,18 @@ line-kind-requires : tie.Need-line-kind-requires
 line-kind-requires c κs = search needs
 
 mul-norm : tie.Need-mul-norm
-mul-norm c = omega (arith, kind-most (c .before .before .pre .0 .reads) (c .before .before .args .j) (c .before .before .pre .1), c .line-kind .ensures)
+mul-norm c = omega (arith, kind-most (c .before .before .pre .0 .reads) (c .before .before .args .line) (c .before .before .pre .1), c .line-kind .ensures)
 
 element-copy-out-norm : tie.Need-element-copy-out-norm
-element-copy-out-norm c = omega (arith, kind-most (c .before .before .pre .0 .reads) (c .before .before .args .j) (c .before .before .pre .1), c .line-kind .ensures)
+element-copy-out-norm c = omega (arith, kind-most (c .before .before .pre .0 .reads) (c .before .before .args .line) (c .before .before .pre .1), c .line-kind .ensures)
 
 wide32-requires : tie.Need-wide32-requires
 wide32-requires c κs = search needs
 
 returns : tie.Need-returns
 returns c =
-    let b = c .before .before .before .before in
-    c .wide32 .ensures ∙ norm-at (b .pre .0) (c .before .before .line-kind .result) ∙ ap (kindNorm (cardOf (b .args .s .now))) (c .before .before .line-kind .ensures)
+    let start = c .before .before .before .before in
+    c .wide32 .ensures ∙ norm-at (start .pre .0) (c .before .before .line-kind .result) ∙ ap (kindNorm (cardOf (start .args .sheet .now))) (c .before .before .line-kind .ensures)
 
 pub own-norm-spec : {M : Type 1} → statement M
 own-norm-spec =

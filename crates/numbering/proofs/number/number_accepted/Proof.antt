@@ -13,58 +13,70 @@ use Rattle.numbering.proofs.number.number_accepted.Statement.{statement
 use Rattle.numbering.proofs.number.number_accepted.Tie as tie
 
 -- The counts that were read are the field's, and their sum is its tokens.
-counts-are : (c : tie.After-field) → at (c .field .result) ≡ fieldOf (c .before .before .before .args .s .now) (c .before .before .before .args .field)
+counts-are : (c : tie.After-field) → at (c .field .result) ≡ fieldOf (c .before .before .before .args .sheet .now) (c .before .before .before .args .field)
 counts-are c = ap at (c .field .ensures) ∙ field-counts-at (c .before .before .before .pre .0) (c .before .before .before .args .field)
 
-size-is : (c : tie.After-field-tokens) → let a = c .before .before .before .before .args in c .field-tokens .result ≡ tokens (kindCount (a .s .now)) (fieldOf (a .s .now) (a .field))
-size-is c = let s = c .before .before .before .before in rw (← kinds-are (s .pre .0), ← counts-are (c .before)) (c .field-tokens .ensures)
+size-is : (c : tie.After-field-tokens) → let args = c .before .before .before .before .args in c .field-tokens .result ≡ tokens (kindCount (args .sheet .now)) (fieldOf (args .sheet .now) (args .field))
+size-is c =
+    let start = c .before .before .before .before in
+    rw (← kinds-are (start .pre .0), ← counts-are (c .before)) (c .field-tokens .ensures)
 
 returns : tie.Need-returns
-returns c = let s = c .before .before in sym (number-no-field (s .args .s .now) (s .pre .1) (s .args .field) (omega (arith, fields-are (s .pre .0), c .if1 .taken)))
+returns c =
+    let start = c .before .before in
+    sym (number-no-field (start .args .sheet .now) (start .pre .1) (start .args .field) (omega (arith, fields-are (start .pre .0), c .if1 .taken)))
 
 field-requires : tie.Need-field-requires
 field-requires c κs = search needs
 
 field-tokens-requires : tie.Need-field-tokens-requires
 field-tokens-requires c κs =
-    let s = c .before .before .before in
-    let few = kinds-most (s .pre .0) in (
+    let start = c .before .before .before in
+    let few = kinds-most (start .pre .0) in (
       few,
-      counts-fit (s .args .card .kinds) (λ _. 1) (at (c .field .result)) few (λ k. omega arith)
-          (λ k. omega (arith, ap (λ (f : Field). f k) (counts-are c), field-under (s .args .s .now) (s .args .field) (λ i. omega (arith, c .before .before .shared-slice-known .given i)) k)),
+      counts-fit (start .args .card .kinds) (λ _. 1) (at (c .field .result)) few (λ k. omega arith)
+          (λ k. omega (arith, ap (λ (f : Field). f k) (counts-are c), field-under (start .args .sheet .now) (start .args .field) (λ i. omega (arith, c .before .before .shared-slice-known .given i)) k)),
     )
 
 returns-2 : tie.Need-returns-2
 returns-2 c =
-    let s = c .before .before .before .before .before in
-    sym (number-over (s .args .s .now) (s .pre .1) (s .args .field) (rw (fields-are (s .pre .0)) at (c .before .before .before .if1 .left)) (omega (arith, rw (size-is (c .before)) at (c .if2 .taken))))
+    let start = c .before .before .before .before .before in
+    sym (number-over (start .args .sheet .now) (start .pre .1) (start .args .field) (rw (fields-are (start .pre .0)) at (c .before .before .before .if1 .left)) (omega (arith, rw (size-is (c .before)) at (c .if2 .taken))))
 
 listed-kinds-requires : tie.Need-listed-kinds-requires
-listed-kinds-requires c κs = kinds-most (c .before .before .before .before .before .pre .0)
+listed-kinds-requires c κs =
+    let start = c .before .before .before .before .before in
+    kinds-most (start .pre .0)
 
 array-share-prefix-kinds : tie.Need-array-share-prefix-kinds
-array-share-prefix-kinds c = let e : length (c .listed-kinds .result) ≡ 32 = search needs in omega (arith, kinds-most (c .before .before .before .before .before .before .pre .0))
+array-share-prefix-kinds c =
+    let start = c .before .before .before .before .before .before in
+    let e : length (c .listed-kinds .result) ≡ 32 = search needs in
+    omega (arith, kinds-most (start .pre .0))
 
 slice-aggregate-number-of : tie.Need-slice-aggregate-number-of
-slice-aggregate-number-of c = first-long (c .before .listed-kinds .result) (c .before .before .before .before .before .before .before .args .card .kinds) (kinds-most (c .before .before .before .before .before .before .before .pre .0)) (search needs)
+slice-aggregate-number-of c =
+    let start = c .before .before .before .before .before .before .before in
+    first-long (c .before .listed-kinds .result) (start .args .card .kinds) (kinds-most (start .pre .0)) (search needs)
 
 number-of-requires : tie.Need-number-of-requires
 number-of-requires c κs =
-    let s = c .before .before .before .before .before .before .before .before in
+    let start = c .before .before .before .before .before .before .before .before in
     let sized = c .before .before .before .before in (
-      rw (c .before .before .listed-kinds .ensures) (in-order (s .args .card .kinds) (kinds-most (s .pre .0))),
+      rw (c .before .before .listed-kinds .ensures) (in-order (start .args .card .kinds) (kinds-most (start .pre .0))),
       (
         c .before .before .before .if2 .left,
-        listed-by (s .args .s .now) (s .args .field) (kinds-are (s .pre .0)) (c .before .before .listed-kinds .ensures) (counts-are (sized .before)) (size-is sized),
+        listed-by (start .args .sheet .now) (start .args .field) (kinds-are (start .pre .0)) (c .before .before .listed-kinds .ensures) (counts-are (sized .before)) (size-is sized),
       ),
     )
 
 returns-3 : tie.Need-returns-3
 returns-3 c =
-    let s = c .before .before .before .before .before .before .before .before .before in
+    let start = c .before .before .before .before .before .before .before .before .before in
     let sized = c .before .before .before .before .before in
-    sym (number-by (s .args .s .now) (s .args .field) (kinds-are (s .pre .0)) (c .before .before .before .listed-kinds .ensures) (counts-are (sized .before)) (size-is sized)
-    (s .pre .1) (rw (fields-are (s .pre .0)) at (sized .before .before .if1 .left)) (c .before .before .before .before .if2 .left) (c .number-of .ensures))
+    let few = c .before .before .before .before .if2 .left in
+    sym (number-by (start .args .sheet .now) (start .args .field) (kinds-are (start .pre .0)) (c .before .before .before .listed-kinds .ensures) (counts-are (sized .before)) (size-is sized)
+    (start .pre .1) (rw (fields-are (start .pre .0)) at (sized .before .before .if1 .left)) few (c .number-of .ensures))
 
 pub number-accepted-spec : {M : Type 1} → statement M
 number-accepted-spec =

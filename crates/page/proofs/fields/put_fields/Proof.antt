@@ -5,19 +5,20 @@ use native.Mathlib.Omega.{arith}
 use Rattle.model.specs.Finite.{concat, listFrom}
 use Rattle.text.specs.Appended.{Appended}
 use Rattle.listing.specs.Line.{fieldAt, fieldsText}
+use Rattle.page.specs.Lengths.{mostField}
 use Rattle.text.proofs.Append.{reads-as}
 use Rattle.text.proofs.Sequence.{no-text, next-text}
 use Rattle.page.proofs.fields.put_fields.Statement.{statement}
 use Rattle.page.proofs.fields.put_fields.Tie as tie
 
 abbrev Inv-loop : tie.InvT-loop
-Inv-loop out₀ start s settlement card fields next₀ i₀ out next i = (i ≤ fields) × Appended (701 * i) out₀ next₀ (concat (listFrom (fieldAt s) 0 i)) out next
+Inv-loop out₀ start s settlement card fields next₀ i₀ out next i = (i ≤ fields) × Appended (mostField * i) out₀ next₀ (concat (listFrom (fieldAt s) 0 i)) out next
 
 abbrev μ-loop : tie.MeasureT-loop
 μ-loop out₀ start s settlement card fields next₀ i₀ out next i = fields - i
 
 loop-holds : tie.Need-loop-holds Inv-loop μ-loop
-loop-holds c = let start = c .before .before in (omega arith, no-text (fieldAt (start .args .s .now)) 701 0 (start .args .out .now) (start .args .at))
+loop-holds c = let start = c .before .before in (omega arith, no-text (fieldAt (start .args .sheet .now)) mostField 0 (start .args .out .now) (start .args .at))
 
 put-settled-field-requires : tie.Need-put-settled-field-requires Inv-loop μ-loop
 put-settled-field-requires c κs =
@@ -33,8 +34,9 @@ loop-less c = omega arith
 
 loop-again : tie.Need-loop-again Inv-loop μ-loop
 loop-again c =
-    let loop = c .before .before .before .before .before in
-    (omega arith, next-text (fieldAt (c .before .before .before .before .before .before .before .before .args .s .now)) 0 (loop .loop .i) (loop .loop .inv .1) (c .before .before .put-settled-field .ensures) (omega arith))
+    let start = c .before .before .before .before .before .before .before .before in
+    let loop = c .before .before .before .before .before .loop in
+    (omega arith, next-text (fieldAt (start .args .sheet .now)) 0 (loop .i) (loop .inv .1) (c .before .before .put-settled-field .ensures) (omega arith))
 
 same-length : tie.Need-same-length Inv-loop μ-loop
 same-length c = c .before .loop .inv .1 .size
@@ -44,8 +46,8 @@ unfolding fieldsText
 returns c =
     let start = c .before .before .before .before in
     let all : c .before .loop .i ≡ start .args .card .fields = omega arith in
-    reads-as (701 * start .args .card .fields) (fieldsText (start .args .s .now) (start .args .card .fields)) (c .before .loop .inv .1) (omega arith)
-    (ap (λ (i : ℕ). concat (listFrom (fieldAt (start .args .s .now)) 0 i)) all)
+    reads-as (mostField * start .args .card .fields) (fieldsText (start .args .sheet .now) (start .args .card .fields)) (c .before .loop .inv .1) (omega arith)
+    (ap (λ (i : ℕ). concat (listFrom (fieldAt (start .args .sheet .now)) 0 i)) all)
 
 pub put-fields-spec : {M : Type 1} → statement M
 put-fields-spec =

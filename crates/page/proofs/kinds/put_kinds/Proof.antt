@@ -1,4 +1,4 @@
--- `put_kinds`: after k turns the lines of the first k kinds are appended.
+-- `put_kinds`: after so many turns the lines of as many kinds are appended.
 use mathlib.Core.Path.{_≡_, _∙_, ap}
 use Prim.Native.Nat.{ℕ, _-_, _*_, _≤_}
 use native.Mathlib.Omega.{arith}
@@ -7,6 +7,7 @@ use Rattle.model.specs.Finite.{concat, listFrom}
 use Rattle.model.specs.Field.{at}
 use Rattle.text.specs.Appended.{Appended}
 use Rattle.listing.specs.Line.{kindText, kindAt, kindsText}
+use Rattle.page.specs.Lengths.{mostKind}
 use Rattle.text.proofs.Append.{reads-as}
 use Rattle.text.proofs.Sequence.{no-text, next-text}
 use Rattle.page.proofs.Pages.{row-length}
@@ -14,13 +15,13 @@ use Rattle.page.proofs.kinds.put_kinds.Statement.{statement}
 use Rattle.page.proofs.kinds.put_kinds.Tie as tie
 
 abbrev Inv-loop : tie.InvT-loop
-Inv-loop out₀ start n table norms next₀ k₀ out next k = (k ≤ n) × Appended (730 * k) out₀ next₀ (concat (listFrom (kindAt n norms table) 0 k)) out next
+Inv-loop out₀ start kinds table norms next₀ kind₀ out next kind = (kind ≤ kinds) × Appended (mostKind * kind) out₀ next₀ (concat (listFrom (kindAt kinds norms table) 0 kind)) out next
 
 abbrev μ-loop : tie.MeasureT-loop
-μ-loop out₀ start n table norms next₀ k₀ out next k = n - k
+μ-loop out₀ start kinds table norms next₀ kind₀ out next kind = kinds - kind
 
 loop-holds : tie.Need-loop-holds Inv-loop μ-loop
-loop-holds c = let start = c .before .before in (omega arith, no-text (kindAt (start .args .n) (start .args .t4) (start .args .table .now)) 730 0 (start .args .out .now) (start .args .at))
+loop-holds c = let start = c .before .before in (omega arith, no-text (kindAt (start .args .kinds) (start .args .t4) (start .args .table .now)) mostKind 0 (start .args .out .now) (start .args .at))
 
 row-requires : tie.Need-row-requires Inv-loop μ-loop
 row-requires c κs = tt
@@ -35,11 +36,11 @@ put-kind-requires : tie.Need-put-kind-requires Inv-loop μ-loop
 put-kind-requires c κs =
     let start = c .before .before .before .before .before .before in
     let so-far = c .before .before .before .loop .inv .1 in
-    let long = ap length (c .before .row .ensures) ∙ row-length (start .args .n) _ (start .args .table .now) (record { some = start .pre .0 .0; few = start .pre .0 .1; kind = omega arith; room = start .pre .1 .0 }) in
-    (omega arith, omega (arith, so-far .ends, so-far .size, so-far .within, start .pre .1 .1))
+    let long = ap length (c .before .row .ensures) ∙ row-length (start .args .kinds) _ (start .args .table .now) (record { some = start .pre .0 .0; few = start .pre .0 .1; kind = omega arith; room = start .pre .1 .0 }) in
+    ((omega arith, omega arith), omega (arith, so-far .ends, so-far .size, so-far .within, start .pre .1 .1))
 
-add-k : tie.Need-add-k Inv-loop μ-loop
-add-k c = omega arith
+add-kind : tie.Need-add-kind Inv-loop μ-loop
+add-kind c = omega arith
 
 loop-less : tie.Need-loop-less Inv-loop μ-loop
 loop-less c = omega arith
@@ -48,13 +49,13 @@ loop-again : tie.Need-loop-again Inv-loop μ-loop
 loop-again c =
     let start = c .before .before .before .before .before .before .before .before .before in
     let loop = c .before .before .before .before .before .before in
-    let k = loop .loop .k in
-    let line = kindAt (start .args .n) (start .args .t4) (start .args .table .now) in
+    let kind = loop .loop .kind in
+    let line = kindAt (start .args .kinds) (start .args .t4) (start .args .table .now) in
     let part = c .before .before .before .before .row .ensures in
-    let long = ap length part ∙ row-length (start .args .n) _ (start .args .table .now) (record { some = start .pre .0 .0; few = start .pre .0 .1; kind = omega arith; room = start .pre .1 .0 }) in (
+    let long = ap length part ∙ row-length (start .args .kinds) _ (start .args .table .now) (record { some = start .pre .0 .0; few = start .pre .0 .1; kind = omega arith; room = start .pre .1 .0 }) in (
       omega arith,
-      next-text line 0 k (loop .loop .inv .1)
-          (reads-as 730 (line k) (c .before .before .put-kind .ensures) (omega arith) (ap (kindText k (at (start .args .t4) k)) part)) (omega arith),
+      next-text line 0 kind (loop .loop .inv .1)
+          (reads-as mostKind (line kind) (c .before .before .put-kind .ensures) (omega arith) (ap (kindText kind (at (start .args .t4) kind)) part)) (omega arith),
     )
 
 same-length : tie.Need-same-length Inv-loop μ-loop
@@ -64,9 +65,9 @@ returns : tie.Need-returns Inv-loop μ-loop
 unfolding kindsText
 returns c =
     let start = c .before .before .before .before in
-    let all : c .before .loop .k ≡ start .args .n = omega arith in
-    reads-as (730 * start .args .n) (kindsText (start .args .n) (start .args .t4) (start .args .table .now)) (c .before .loop .inv .1) (omega arith)
-    (ap (λ (i : ℕ). concat (listFrom (kindAt (start .args .n) (start .args .t4) (start .args .table .now)) 0 i)) all)
+    let all : c .before .loop .kind ≡ start .args .kinds = omega arith in
+    reads-as (mostKind * start .args .kinds) (kindsText (start .args .kinds) (start .args .t4) (start .args .table .now)) (c .before .loop .inv .1) (omega arith)
+    (ap (λ (i : ℕ). concat (listFrom (kindAt (start .args .kinds) (start .args .t4) (start .args .table .now)) 0 i)) all)
 
 pub put-kinds-spec : {M : Type 1} → statement M
 put-kinds-spec =
@@ -79,7 +80,7 @@ put-kinds-spec =
     mul-put-kind
     array-read-put-kind
     put-kind-requires
-    add-k
+    add-kind
     loop-less
     loop-again
     same-length

@@ -8,10 +8,10 @@ use Rattle.page.proofs.sheet_page.input_part.Statement.{statement}
 use Rattle.page.proofs.sheet_page.input_part.Tie as tie
 
 returns : tie.Need-returns
-returns c = sym (take-all mostInput (c .before .args .s .now) (omega arith))
+returns c = sym (take-all mostInput (c .before .args .sheet .now) (omega arith))
 
 slice-aggregate-result : tie.Need-slice-aggregate-result
-slice-aggregate-result c = sym (length-take-le _ (c .before .before .args .s .now) (omega arith))
+slice-aggregate-result c = sym (length-take-le _ (c .before .before .args .sheet .now) (omega arith))
 
 returns-2 : tie.Need-returns-2
 returns-2 c = search needs

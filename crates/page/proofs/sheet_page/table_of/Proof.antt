@@ -1,6 +1,6 @@
 -- `table_of`: the front of the array that the rows were written to.
-use mathlib.Core.Path.{_≡_, _∙_, ap}
-use Prim.Native.Nat.{_*_, _≤_}
+use mathlib.Core.Path.{_∙_, ap}
+use Prim.Native.Nat.{_*_}
 use native.Mathlib.Omega.{arith}
 use lib.ListN.{take, replicate}
 use Rattle.filer.proofs.Rows.{square-most}
@@ -18,12 +18,12 @@ slice-aggregate-write-table-2 : tie.Need-slice-aggregate-write-table-2
 slice-aggregate-write-table-2 c = search needs
 
 write-table-requires : tie.Need-write-table-requires
-write-table-requires c κs = ((search needs, c .before .before .before .pre), omega (arith, square-most (c .before .before .before .args .n) (c .before .before .before .pre)))
+write-table-requires c κs = ((search needs, c .before .before .before .pre), omega (arith, square-most (c .before .before .before .args .kinds) (c .before .before .before .pre)))
 
 returns : tie.Need-returns
 returns c =
     let start = c .before .before .before .before .before in
-    let n = start .args .n in
+    let n = start .args .kinds in
     ap (take (n * n)) (c .before .write-table .ensures) ∙ front (n * n) (tableIn n (start .args .base .rows)) (replicate 1024 0) (table-long n (start .args .base .rows))
 
 pub table-of-spec : {M : Type 1} → statement M

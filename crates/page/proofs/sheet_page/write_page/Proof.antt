@@ -22,7 +22,7 @@ put-page-requires c κs = search needs
 returns : tie.Need-returns
 returns c =
     let start = c .before .before .before .before .before .before .before .before in
-    answers-short (start .args .s .now) (start .args .out .now) (c .before .before .before .input-part .ensures) (c .before .before .put-page .ensures) (omega arith)
+    answers-short (start .args .sheet .now) (start .args .out .now) (c .before .before .before .input-part .ensures) (c .before .before .put-page .ensures) (omega arith)
 
 array-share-prefix-page : tie.Need-array-share-prefix-page
 array-share-prefix-page c = search needs
@@ -43,7 +43,9 @@ same-length c = search needs
 returns-2 : tie.Need-returns-2
 returns-2 c =
     let start = c .before .before .before .before .before .before .before .before .before .before .before .before .before in
-    answers-written (start .args .s .now) (start .args .out .now) (c .before .before .before .before .before .before .before .before .input-part .ensures) (c .before .before .before .before .before .before .before .put-page .ensures) (omega arith) (c .before .before .put-bytes .ensures)
+    let input-part = c .before .before .before .before .before .before .before .before .input-part in
+    let put-page = c .before .before .before .before .before .before .before .put-page in
+    answers-written (start .args .sheet .now) (start .args .out .now) (input-part .ensures) (put-page .ensures) (omega arith) (c .before .before .put-bytes .ensures)
 
 pub write-page-spec : {M : Type 1} → statement M
 write-page-spec =

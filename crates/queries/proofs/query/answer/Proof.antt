@@ -14,9 +14,10 @@ use Rattle.queries.proofs.query.answer.Statement.{statement}
 use Rattle.queries.proofs.query.answer.Tie as tie
 
 -- The numbers that were said fit their array.
-few : (c : tie.After-known-told) → c .before .count .given .0 .0 ≤ length (c .before .before .before .before .numbers-in .last .1 .0)
+few : (c : tie.After-known-told) → let numbers-in = c .before .before .before .before .numbers-in in c .before .count .given .0 .0 ≤ length (numbers-in .last .1 .0)
 few c =
-    let within : c .before .count .given .0 .0 ≤ 5 = rw (c .before .count .given .1) at (c .before .before .before .before .numbers-in .ensures .1) in
+    let numbers-in = c .before .before .before .before .numbers-in in
+    let within : c .before .count .given .0 .0 ≤ 5 = rw (c .before .count .given .1) at (numbers-in .ensures .1) in
     omega (arith, within)
 
 word-end-requires : tie.Need-word-end-requires
@@ -27,8 +28,9 @@ no-call-requires c κs = search needs
 
 returns : tie.Need-returns
 returns c =
-    told-as _ (tells-nothing (c .before .before .before .before .before .args .out .now) (c .no-call .result) (c .no-call .ensures))
-    (query-none (c .before .before .before .before .before .args .s .now) (c .before .before .before .before .before .args .words .now) (c .before .before .word-end .result) (c .before .before .word-end .ensures) (c .before .if1 .taken))
+    let start = c .before .before .before .before .before in
+    told-as _ (tells-nothing (start .args .out .now) (c .no-call .result) (c .no-call .ensures))
+    (query-none (start .args .sheet .now) (start .args .words .now) (c .before .before .word-end .result) (c .before .before .word-end .ensures) (c .before .if1 .taken))
 
 slice-aggregate-verb-of : tie.Need-slice-aggregate-verb-of
 slice-aggregate-verb-of c = sym (length-take-le _ _ (omega (arith, c .before .if1 .left)))
@@ -67,9 +69,13 @@ returns-2 : tie.Need-returns-2
 unfolding saidTold
 returns-2 c =
     let start = c .before .before .before .before .before .before .before .before .before .before .before .before .before in
-    let said = ap (λ (r : Count). countOf r (c .before .before .before .before .numbers-in .last .1 .0)) (sym (c .before .enum-told .given .1)) ∙ c .before .before .before .before .numbers-in .ensures .0 in
+    let word-end = c .before .before .before .before .before .before .before .before .before .before .word-end in
+    let if1 = c .before .before .before .before .before .before .before .before .before .if1 in
+    let verb-of = c .before .before .before .before .before .before .before .verb-of in
+    let numbers-in = c .before .before .before .before .numbers-in in
+    let said = ap (λ (r : Count). countOf r (numbers-in .last .1 .0)) (sym (c .before .enum-told .given .1)) ∙ numbers-in .ensures .0 in
     told-as _ (tells-nothing (start .args .out .now) (c .no-call2 .result) (c .no-call2 .ensures))
-    (query-verb (start .args .s .now) (start .args .words .now) (c .before .before .before .before .before .before .before .before .before .before .word-end .result) (c .before .before .before .before .before .before .before .before .before .before .word-end .ensures) (omega (arith, c .before .before .before .before .before .before .before .before .before .if1 .left)) (c .before .before .before .before .before .before .before .verb-of .result) nothing (c .before .before .before .before .before .before .before .verb-of .ensures) said)
+    (query-verb (start .args .sheet .now) (start .args .words .now) (word-end .result) (word-end .ensures) (omega (arith, if1 .left)) (verb-of .result) nothing (verb-of .ensures) said)
 
 array-share-prefix-values : tie.Need-array-share-prefix-values
 array-share-prefix-values c = few c
@@ -84,9 +90,14 @@ returns-3 : tie.Need-returns-3
 unfolding saidTold
 returns-3 c =
     let start = c .before .before .before .before .before .before .before .before .before .before .before .before .before .before .before .before in
-    let said = ap (λ (r : Count). countOf r (c .before .before .before .before .before .before .before .numbers-in .last .1 .0)) (sym (c .before .before .before .before .count .given .1)) ∙ c .before .before .before .before .before .before .before .numbers-in .ensures .0 in
+    let word-end = c .before .before .before .before .before .before .before .before .before .before .before .before .before .word-end in
+    let if1 = c .before .before .before .before .before .before .before .before .before .before .before .before .if1 in
+    let verb-of = c .before .before .before .before .before .before .before .before .before .before .verb-of in
+    let numbers-in = c .before .before .before .before .before .before .before .numbers-in in
+    let count = c .before .before .before .before .count in
+    let said = ap (λ (r : Count). countOf r (numbers-in .last .1 .0)) (sym (count .given .1)) ∙ numbers-in .ensures .0 in
     told-as _ (c .call .ensures)
-    (query-verb (start .args .s .now) (start .args .words .now) (c .before .before .before .before .before .before .before .before .before .before .before .before .before .word-end .result) (c .before .before .before .before .before .before .before .before .before .before .before .before .before .word-end .ensures) (omega (arith, c .before .before .before .before .before .before .before .before .before .before .before .before .if1 .left)) (c .before .before .before .before .before .before .before .before .before .before .verb-of .result) _ (c .before .before .before .before .before .before .before .before .before .before .verb-of .ensures) said)
+    (query-verb (start .args .sheet .now) (start .args .words .now) (word-end .result) (word-end .ensures) (omega (arith, if1 .left)) (verb-of .result) _ (verb-of .ensures) said)
 
 pub answer-spec : {M : Type 1} → statement M
 answer-spec =

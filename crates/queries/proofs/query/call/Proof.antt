@@ -65,60 +65,86 @@ same-length c = search needs
 
 returns : tie.Need-returns
 unfolding verbTold
-returns c = told-as _ (c .before .before .settle .ensures) (ap (λ v. verbTold (c .before .before .before .before .before .before .before .before .before .args .s .now) v (c .before .before .before .before .before .before .before .before .before .args .numbers .now)) (sym (c .before .before .before .before .enum-told .given .1)))
+returns c =
+    let start = c .before .before .before .before .before .before .before .before .before in
+    let at-enum-told = c .before .before .before .before .enum-told in
+    told-as _ (c .before .before .settle .ensures) (ap (λ v. verbTold (start .args .sheet .now) v (start .args .numbers .now)) (sym (at-enum-told .given .1)))
 
 same-length-2 : tie.Need-same-length-2
 same-length-2 c = search needs
 
 returns-2 : tie.Need-returns-2
 unfolding verbTold
-returns-2 c = told-as _ (c .before .before .settled-row .ensures) (ap (λ v. verbTold (c .before .before .before .before .before .before .before .before .before .args .s .now) v (c .before .before .before .before .before .before .before .before .before .args .numbers .now)) (sym (c .before .before .before .before .enum-told2 .given .1)))
+returns-2 c =
+    let start = c .before .before .before .before .before .before .before .before .before in
+    let enum-told2 = c .before .before .before .before .enum-told2 in
+    told-as _ (c .before .before .settled-row .ensures) (ap (λ v. verbTold (start .args .sheet .now) v (start .args .numbers .now)) (sym (enum-told2 .given .1)))
 
 same-length-3 : tie.Need-same-length-3
 same-length-3 c = search needs
 
 returns-3 : tie.Need-returns-3
 unfolding verbTold
-returns-3 c = told-as _ (c .before .before .compare-fields .ensures) (ap (λ v. verbTold (c .before .before .before .before .before .before .before .before .before .args .s .now) v (c .before .before .before .before .before .before .before .before .before .args .numbers .now)) (sym (c .before .before .before .before .enum-told3 .given .1)))
+returns-3 c =
+    let start = c .before .before .before .before .before .before .before .before .before in
+    let enum-told3 = c .before .before .before .before .enum-told3 in
+    told-as _ (c .before .before .compare-fields .ensures) (ap (λ v. verbTold (start .args .sheet .now) v (start .args .numbers .now)) (sym (enum-told3 .given .1)))
 
 same-length-4 : tie.Need-same-length-4
 same-length-4 c = search needs
 
 returns-4 : tie.Need-returns-4
 unfolding verbTold
-returns-4 c = told-as _ (c .before .before .field-form .ensures) (ap (λ v. verbTold (c .before .before .before .before .before .before .before .before .before .args .s .now) v (c .before .before .before .before .before .before .before .before .before .args .numbers .now)) (sym (c .before .before .before .before .enum-told4 .given .1)))
+returns-4 c =
+    let start = c .before .before .before .before .before .before .before .before .before in
+    let enum-told4 = c .before .before .before .before .enum-told4 in
+    told-as _ (c .before .before .field-form .ensures) (ap (λ v. verbTold (start .args .sheet .now) v (start .args .numbers .now)) (sym (enum-told4 .given .1)))
 
 same-length-5 : tie.Need-same-length-5
 same-length-5 c = search needs
 
 returns-5 : tie.Need-returns-5
 unfolding verbTold
-returns-5 c = told-as _ (c .before .before .walk-fields .ensures) (ap (λ v. verbTold (c .before .before .before .before .before .before .before .before .before .args .s .now) v (c .before .before .before .before .before .before .before .before .before .args .numbers .now)) (sym (c .before .before .before .before .enum-told5 .given .1)))
+returns-5 c =
+    let start = c .before .before .before .before .before .before .before .before .before in
+    let enum-told5 = c .before .before .before .before .enum-told5 in
+    told-as _ (c .before .before .walk-fields .ensures) (ap (λ v. verbTold (start .args .sheet .now) v (start .args .numbers .now)) (sym (enum-told5 .given .1)))
 
 same-length-6 : tie.Need-same-length-6
 same-length-6 c = search needs
 
 returns-6 : tie.Need-returns-6
 unfolding verbTold
-returns-6 c = told-as _ (c .before .before .field-number .ensures) (ap (λ v. verbTold (c .before .before .before .before .before .before .before .before .before .args .s .now) v (c .before .before .before .before .before .before .before .before .before .args .numbers .now)) (sym (c .before .before .before .before .enum-told6 .given .1)))
+returns-6 c =
+    let start = c .before .before .before .before .before .before .before .before .before in
+    let enum-told6 = c .before .before .before .before .enum-told6 in
+    told-as _ (c .before .before .field-number .ensures) (ap (λ v. verbTold (start .args .sheet .now) v (start .args .numbers .now)) (sym (enum-told6 .given .1)))
 
 same-length-7 : tie.Need-same-length-7
 same-length-7 c = search needs
 
 returns-7 : tie.Need-returns-7
 unfolding verbTold
-returns-7 c = told-as _ (c .before .before .numbered-field .ensures) (ap (λ v. verbTold (c .before .before .before .before .before .before .before .before .before .args .s .now) v (c .before .before .before .before .before .before .before .before .before .args .numbers .now)) (sym (c .before .before .before .before .enum-told7 .given .1)))
+returns-7 c =
+    let start = c .before .before .before .before .before .before .before .before .before in
+    let enum-told7 = c .before .before .before .before .enum-told7 in
+    told-as _ (c .before .before .numbered-field .ensures) (ap (λ v. verbTold (start .args .sheet .now) v (start .args .numbers .now)) (sym (enum-told7 .given .1)))
 
 same-length-8 : tie.Need-same-length-8
 same-length-8 c = search needs
 
 returns-8 : tie.Need-returns-8
 unfolding verbTold
-returns-8 c = told-as _ (c .before .before .count-squads .ensures) (ap (λ v. verbTold (c .before .before .before .before .before .before .before .before .before .args .s .now) v (c .before .before .before .before .before .before .before .before .before .args .numbers .now)) (sym (c .before .before .before .before .enum-told8 .given .1)))
+returns-8 c =
+    let start = c .before .before .before .before .before .before .before .before .before in
+    let enum-told8 = c .before .before .before .before .enum-told8 in
+    told-as _ (c .before .before .count-squads .ensures) (ap (λ v. verbTold (start .args .sheet .now) v (start .args .numbers .now)) (sym (enum-told8 .given .1)))
 
 returns-9 : tie.Need-returns-9
 unfolding verbTold
-returns-9 c = told-as _ (tells-nothing (c .before .before .before .before .before .before .args .out .now) (c .no-call .result) (c .no-call .ensures)) (ap (λ v. verbTold (c .before .before .before .before .before .before .args .s .now) v (c .before .before .before .before .before .before .args .numbers .now)) (sym (c .before .enum-told9 .given .1)))
+returns-9 c =
+    let start = c .before .before .before .before .before .before in
+    told-as _ (tells-nothing (start .args .out .now) (c .no-call .result) (c .no-call .ensures)) (ap (λ v. verbTold (start .args .sheet .now) v (start .args .numbers .now)) (sym (c .before .enum-told9 .given .1)))
 
 pub call-spec : {M : Type 1} → statement M
 call-spec =

@@ -9,37 +9,53 @@ use Rattle.queries.proofs.table.verb_of.Statement.{statement}
 use Rattle.queries.proofs.table.verb_of.Tie as tie
 
 -- A word that is none of the first verbs is looked for among the others.
-not-settle : (c : tie.Else1) → verbIn (drop 1 verbs) (c .before .before .before .before .args .word .now) ≡ verbOf (c .before .before .before .before .args .word .now)
+not-settle : (c : tie.Else1) → let start = c .before .before .before .before in verbIn (drop 1 verbs) (start .args .word .now) ≡ verbOf (start .args .word .now)
 unfolding verbs verbOf bytes
-not-settle c = verb-later _ _ (c .before .before .before .before .args .word .now) (sym (c .before .same-word .ensures) ∙ c .if1 .left)
+not-settle c =
+    let start = c .before .before .before .before in
+    verb-later _ _ (start .args .word .now) (sym (c .before .same-word .ensures) ∙ c .if1 .left)
 
-not-row : (c : tie.Else2) → verbIn (drop 2 verbs) (c .before .before .before .before .before .before .before .args .word .now) ≡ verbOf (c .before .before .before .before .before .before .before .args .word .now)
+not-row : (c : tie.Else2) → let start = c .before .before .before .before .before .before .before in verbIn (drop 2 verbs) (start .args .word .now) ≡ verbOf (start .args .word .now)
 unfolding verbs verbOf bytes
-not-row c = verb-later _ _ (c .before .before .before .before .before .before .before .args .word .now) (sym (c .before .same-word2 .ensures) ∙ c .if2 .left) ∙ not-settle (c .before .before .before)
+not-row c =
+    let start = c .before .before .before .before .before .before .before in
+    verb-later _ _ (start .args .word .now) (sym (c .before .same-word2 .ensures) ∙ c .if2 .left) ∙ not-settle (c .before .before .before)
 
-not-compare : (c : tie.Else3) → verbIn (drop 3 verbs) (c .before .before .before .before .before .before .before .before .before .before .args .word .now) ≡ verbOf (c .before .before .before .before .before .before .before .before .before .before .args .word .now)
+not-compare : (c : tie.Else3) → let start = c .before .before .before .before .before .before .before .before .before .before in verbIn (drop 3 verbs) (start .args .word .now) ≡ verbOf (start .args .word .now)
 unfolding verbs verbOf bytes
-not-compare c = verb-later _ _ (c .before .before .before .before .before .before .before .before .before .before .args .word .now) (sym (c .before .same-word3 .ensures) ∙ c .if3 .left) ∙ not-row (c .before .before .before)
+not-compare c =
+    let start = c .before .before .before .before .before .before .before .before .before .before in
+    verb-later _ _ (start .args .word .now) (sym (c .before .same-word3 .ensures) ∙ c .if3 .left) ∙ not-row (c .before .before .before)
 
-not-form : (c : tie.Else4) → verbIn (drop 4 verbs) (c .before .before .before .before .before .before .before .before .before .before .before .before .before .args .word .now) ≡ verbOf (c .before .before .before .before .before .before .before .before .before .before .before .before .before .args .word .now)
+not-form : (c : tie.Else4) → let start = c .before .before .before .before .before .before .before .before .before .before .before .before .before in verbIn (drop 4 verbs) (start .args .word .now) ≡ verbOf (start .args .word .now)
 unfolding verbs verbOf bytes
-not-form c = verb-later _ _ (c .before .before .before .before .before .before .before .before .before .before .before .before .before .args .word .now) (sym (c .before .same-word4 .ensures) ∙ c .if4 .left) ∙ not-compare (c .before .before .before)
+not-form c =
+    let start = c .before .before .before .before .before .before .before .before .before .before .before .before .before in
+    verb-later _ _ (start .args .word .now) (sym (c .before .same-word4 .ensures) ∙ c .if4 .left) ∙ not-compare (c .before .before .before)
 
-not-walk : (c : tie.Else5) → verbIn (drop 5 verbs) (c .before .before .before .before .before .before .before .before .before .before .before .before .before .before .before .before .args .word .now) ≡ verbOf (c .before .before .before .before .before .before .before .before .before .before .before .before .before .before .before .before .args .word .now)
+not-walk : (c : tie.Else5) → let start = c .before .before .before .before .before .before .before .before .before .before .before .before .before .before .before .before in verbIn (drop 5 verbs) (start .args .word .now) ≡ verbOf (start .args .word .now)
 unfolding verbs verbOf bytes
-not-walk c = verb-later _ _ (c .before .before .before .before .before .before .before .before .before .before .before .before .before .before .before .before .args .word .now) (sym (c .before .same-word5 .ensures) ∙ c .if5 .left) ∙ not-form (c .before .before .before)
+not-walk c =
+    let start = c .before .before .before .before .before .before .before .before .before .before .before .before .before .before .before .before in
+    verb-later _ _ (start .args .word .now) (sym (c .before .same-word5 .ensures) ∙ c .if5 .left) ∙ not-form (c .before .before .before)
 
-not-number : (c : tie.Else6) → verbIn (drop 6 verbs) (c .before .before .before .before .before .before .before .before .before .before .before .before .before .before .before .before .before .before .before .args .word .now) ≡ verbOf (c .before .before .before .before .before .before .before .before .before .before .before .before .before .before .before .before .before .before .before .args .word .now)
+not-number : (c : tie.Else6) → let start = c .before .before .before .before .before .before .before .before .before .before .before .before .before .before .before .before .before .before .before in verbIn (drop 6 verbs) (start .args .word .now) ≡ verbOf (start .args .word .now)
 unfolding verbs verbOf bytes
-not-number c = verb-later _ _ (c .before .before .before .before .before .before .before .before .before .before .before .before .before .before .before .before .before .before .before .args .word .now) (sym (c .before .same-word6 .ensures) ∙ c .if6 .left) ∙ not-walk (c .before .before .before)
+not-number c =
+    let start = c .before .before .before .before .before .before .before .before .before .before .before .before .before .before .before .before .before .before .before in
+    verb-later _ _ (start .args .word .now) (sym (c .before .same-word6 .ensures) ∙ c .if6 .left) ∙ not-walk (c .before .before .before)
 
-not-field : (c : tie.Else7) → verbIn (drop 7 verbs) (c .before .before .before .before .before .before .before .before .before .before .before .before .before .before .before .before .before .before .before .before .before .before .args .word .now) ≡ verbOf (c .before .before .before .before .before .before .before .before .before .before .before .before .before .before .before .before .before .before .before .before .before .before .args .word .now)
+not-field : (c : tie.Else7) → let start = c .before .before .before .before .before .before .before .before .before .before .before .before .before .before .before .before .before .before .before .before .before .before in verbIn (drop 7 verbs) (start .args .word .now) ≡ verbOf (start .args .word .now)
 unfolding verbs verbOf bytes
-not-field c = verb-later _ _ (c .before .before .before .before .before .before .before .before .before .before .before .before .before .before .before .before .before .before .before .before .before .before .args .word .now) (sym (c .before .same-word7 .ensures) ∙ c .if7 .left) ∙ not-number (c .before .before .before)
+not-field c =
+    let start = c .before .before .before .before .before .before .before .before .before .before .before .before .before .before .before .before .before .before .before .before .before .before in
+    verb-later _ _ (start .args .word .now) (sym (c .before .same-word7 .ensures) ∙ c .if7 .left) ∙ not-number (c .before .before .before)
 
-not-squads : (c : tie.Else8) → verbIn (drop 8 verbs) (c .before .before .before .before .before .before .before .before .before .before .before .before .before .before .before .before .before .before .before .before .before .before .before .before .before .args .word .now) ≡ verbOf (c .before .before .before .before .before .before .before .before .before .before .before .before .before .before .before .before .before .before .before .before .before .before .before .before .before .args .word .now)
+not-squads : (c : tie.Else8) → let start = c .before .before .before .before .before .before .before .before .before .before .before .before .before .before .before .before .before .before .before .before .before .before .before .before .before in verbIn (drop 8 verbs) (start .args .word .now) ≡ verbOf (start .args .word .now)
 unfolding verbs verbOf bytes
-not-squads c = verb-later _ _ (c .before .before .before .before .before .before .before .before .before .before .before .before .before .before .before .before .before .before .before .before .before .before .before .before .before .args .word .now) (sym (c .before .same-word8 .ensures) ∙ c .if8 .left) ∙ not-field (c .before .before .before)
+not-squads c =
+    let start = c .before .before .before .before .before .before .before .before .before .before .before .before .before .before .before .before .before .before .before .before .before .before .before .before .before in
+    verb-later _ _ (start .args .word .now) (sym (c .before .same-word8 .ensures) ∙ c .if8 .left) ∙ not-field (c .before .before .before)
 
 slice-aggregate-same-word : tie.Need-slice-aggregate-same-word
 slice-aggregate-same-word c = search needs
@@ -49,7 +65,9 @@ same-word-requires c κs = search needs
 
 returns : tie.Need-returns
 unfolding verbs verbOf bytes
-returns c = verb-first _ _ (c .before .before .before .before .args .word .now) (sym (c .before .same-word .ensures) ∙ c .if1 .taken)
+returns c =
+    let start = c .before .before .before .before in
+    verb-first _ _ (start .args .word .now) (sym (c .before .same-word .ensures) ∙ c .if1 .taken)
 
 slice-aggregate-same-word-2 : tie.Need-slice-aggregate-same-word-2
 slice-aggregate-same-word-2 c = search needs
@@ -59,7 +77,9 @@ same-word-requires-2 c κs = search needs
 
 returns-2 : tie.Need-returns-2
 unfolding verbs verbOf bytes
-returns-2 c = verb-first _ _ (c .before .before .before .before .before .before .before .args .word .now) (sym (c .before .same-word2 .ensures) ∙ c .if2 .taken) ∙ not-settle (c .before .before .before)
+returns-2 c =
+    let start = c .before .before .before .before .before .before .before in
+    verb-first _ _ (start .args .word .now) (sym (c .before .same-word2 .ensures) ∙ c .if2 .taken) ∙ not-settle (c .before .before .before)
 
 slice-aggregate-same-word-3 : tie.Need-slice-aggregate-same-word-3
 slice-aggregate-same-word-3 c = search needs
@@ -69,7 +89,9 @@ same-word-requires-3 c κs = search needs
 
 returns-3 : tie.Need-returns-3
 unfolding verbs verbOf bytes
-returns-3 c = verb-first _ _ (c .before .before .before .before .before .before .before .before .before .before .args .word .now) (sym (c .before .same-word3 .ensures) ∙ c .if3 .taken) ∙ not-row (c .before .before .before)
+returns-3 c =
+    let start = c .before .before .before .before .before .before .before .before .before .before in
+    verb-first _ _ (start .args .word .now) (sym (c .before .same-word3 .ensures) ∙ c .if3 .taken) ∙ not-row (c .before .before .before)
 
 slice-aggregate-same-word-4 : tie.Need-slice-aggregate-same-word-4
 slice-aggregate-same-word-4 c = search needs
@@ -79,7 +101,9 @@ same-word-requires-4 c κs = search needs
 
 returns-4 : tie.Need-returns-4
 unfolding verbs verbOf bytes
-returns-4 c = verb-first _ _ (c .before .before .before .before .before .before .before .before .before .before .before .before .before .args .word .now) (sym (c .before .same-word4 .ensures) ∙ c .if4 .taken) ∙ not-compare (c .before .before .before)
+returns-4 c =
+    let start = c .before .before .before .before .before .before .before .before .before .before .before .before .before in
+    verb-first _ _ (start .args .word .now) (sym (c .before .same-word4 .ensures) ∙ c .if4 .taken) ∙ not-compare (c .before .before .before)
 
 slice-aggregate-same-word-5 : tie.Need-slice-aggregate-same-word-5
 slice-aggregate-same-word-5 c = search needs
@@ -89,7 +113,9 @@ same-word-requires-5 c κs = search needs
 
 returns-5 : tie.Need-returns-5
 unfolding verbs verbOf bytes
-returns-5 c = verb-first _ _ (c .before .before .before .before .before .before .before .before .before .before .before .before .before .before .before .before .args .word .now) (sym (c .before .same-word5 .ensures) ∙ c .if5 .taken) ∙ not-form (c .before .before .before)
+returns-5 c =
+    let start = c .before .before .before .before .before .before .before .before .before .before .before .before .before .before .before .before in
+    verb-first _ _ (start .args .word .now) (sym (c .before .same-word5 .ensures) ∙ c .if5 .taken) ∙ not-form (c .before .before .before)
 
 slice-aggregate-same-word-6 : tie.Need-slice-aggregate-same-word-6
 slice-aggregate-same-word-6 c = search needs
@@ -99,7 +125,9 @@ same-word-requires-6 c κs = search needs
 
 returns-6 : tie.Need-returns-6
 unfolding verbs verbOf bytes
-returns-6 c = verb-first _ _ (c .before .before .before .before .before .before .before .before .before .before .before .before .before .before .before .before .before .before .before .args .word .now) (sym (c .before .same-word6 .ensures) ∙ c .if6 .taken) ∙ not-walk (c .before .before .before)
+returns-6 c =
+    let start = c .before .before .before .before .before .before .before .before .before .before .before .before .before .before .before .before .before .before .before in
+    verb-first _ _ (start .args .word .now) (sym (c .before .same-word6 .ensures) ∙ c .if6 .taken) ∙ not-walk (c .before .before .before)
 
 slice-aggregate-same-word-7 : tie.Need-slice-aggregate-same-word-7
 slice-aggregate-same-word-7 c = search needs
@@ -109,7 +137,9 @@ same-word-requires-7 c κs = search needs
 
 returns-7 : tie.Need-returns-7
 unfolding verbs verbOf bytes
-returns-7 c = verb-first _ _ (c .before .before .before .before .before .before .before .before .before .before .before .before .before .before .before .before .before .before .before .before .before .before .args .word .now) (sym (c .before .same-word7 .ensures) ∙ c .if7 .taken) ∙ not-number (c .before .before .before)
+returns-7 c =
+    let start = c .before .before .before .before .before .before .before .before .before .before .before .before .before .before .before .before .before .before .before .before .before .before in
+    verb-first _ _ (start .args .word .now) (sym (c .before .same-word7 .ensures) ∙ c .if7 .taken) ∙ not-number (c .before .before .before)
 
 slice-aggregate-same-word-8 : tie.Need-slice-aggregate-same-word-8
 slice-aggregate-same-word-8 c = search needs
@@ -119,11 +149,15 @@ same-word-requires-8 c κs = search needs
 
 returns-8 : tie.Need-returns-8
 unfolding verbs verbOf bytes
-returns-8 c = verb-first _ _ (c .before .before .before .before .before .before .before .before .before .before .before .before .before .before .before .before .before .before .before .before .before .before .before .before .before .args .word .now) (sym (c .before .same-word8 .ensures) ∙ c .if8 .taken) ∙ not-field (c .before .before .before)
+returns-8 c =
+    let start = c .before .before .before .before .before .before .before .before .before .before .before .before .before .before .before .before .before .before .before .before .before .before .before .before .before in
+    verb-first _ _ (start .args .word .now) (sym (c .before .same-word8 .ensures) ∙ c .if8 .taken) ∙ not-field (c .before .before .before)
 
 returns-9 : tie.Need-returns-9
 unfolding verbs verbOf
-returns-9 c = verb-none (c .before .before .before .before .before .before .before .before .before .before .before .before .before .before .before .before .before .before .before .before .before .before .before .before .before .args .word .now) ∙ not-squads c
+returns-9 c =
+    let start = c .before .before .before .before .before .before .before .before .before .before .before .before .before .before .before .before .before .before .before .before .before .before .before .before .before in
+    verb-none (start .args .word .now) ∙ not-squads c
 
 pub verb-of-spec : {M : Type 1} → statement M
 verb-of-spec =

@@ -25,10 +25,12 @@ long s = length-from _ 0 _
 
 -- What is taken away is no more than there is.
 fits : (c : tie.After-shared-slice-known2 Inv-loop μ-loop)
-    → let a = c .before .before .before .before .args in
-    let k = c .before .before .before .loop .kind in
-    a .times * at (a .squad .now) k ≤ at (a .whole .now) k
-fits c = let s = c .before .before .before .before in left-fits _ _ _ _ (s .pre .1 .1) _ (c .before .before .loop-test .taken)
+    → let args = c .before .before .before .before .args in
+    let loop-kind = c .before .before .before .loop .kind in
+    args .times * at (args .squad .now) loop-kind ≤ at (args .whole .now) loop-kind
+fits c =
+    let start = c .before .before .before .before in
+    left-fits _ _ _ _ (start .pre .1 .1) _ (c .before .before .loop-test .taken)
 
 loop-holds : tie.Need-loop-holds Inv-loop μ-loop
 loop-holds c = begun-none _ _ (omega (arith, long c, c .pre .1 .0))
@@ -43,7 +45,9 @@ mul-buffer-2 : tie.Need-mul-buffer-2 Inv-loop μ-loop
 mul-buffer-2 c = search needs
 
 shared-slice-read-buffer-2 : tie.Need-shared-slice-read-buffer-2 Inv-loop μ-loop
-shared-slice-read-buffer-2 c = omega (arith, c .before .before .before .before .pre .0, c .before .before .loop-test .taken)
+shared-slice-read-buffer-2 c =
+    let start = c .before .before .before .before in
+    omega (arith, start .pre .0, c .before .before .loop-test .taken)
 
 mul-buffer-3 : tie.Need-mul-buffer-3 Inv-loop μ-loop
 mul-buffer-3 c = record { fits = omega (arith, fits c, c .before .shared-slice-known .given (c .before .before .before .loop .kind), c .shared-slice-known2 .given (c .before .before .before .loop .kind)) }
@@ -56,8 +60,9 @@ mul-buffer-4 c = search needs
 
 slice-write-buffer : tie.Need-slice-write-buffer Inv-loop μ-loop
 slice-write-buffer c =
-    let B = c .before .before .before .loop .inv in
-    omega (arith, B .room, begun-length B, long (c .before .before .before .before), c .before .before .loop-test .taken)
+    let start = c .before .before .before .before in
+    let invariant = c .before .before .before .loop .inv in
+    omega (arith, invariant .room, begun-length invariant, long start, c .before .before .loop-test .taken)
 
 add-kind : tie.Need-add-kind Inv-loop μ-loop
 add-kind c = omega arith
@@ -67,9 +72,9 @@ loop-less c = omega arith
 
 loop-again : tie.Need-loop-again Inv-loop μ-loop
 loop-again c =
-    let s = c .before .before .before .before in
-    let h = c .before .before .loop-test .taken in
-    begun-more (c .before .before .before .loop .inv) _ (omega (arith, long s)) (left-at _ _ _ _ (s .pre .1 .1) _ h)
+    let start = c .before .before .before .before in
+    let loop-test = c .before .before .loop-test .taken in
+    begun-more (c .before .before .before .loop .inv) _ (omega (arith, long start)) (left-at _ _ _ _ (start .pre .1 .1) _ loop-test)
 
 same-length : tie.Need-same-length Inv-loop μ-loop
 same-length c = begun-length (c .before .loop .inv)

@@ -28,7 +28,9 @@ mul-times-up-to-2 : tie.Need-mul-times-up-to-2 Inv-loop μ-loop
 mul-times-up-to-2 c = search needs
 
 shared-slice-read-times-up-to-2 : tie.Need-shared-slice-read-times-up-to-2 Inv-loop μ-loop
-shared-slice-read-times-up-to-2 c = omega (arith, c .before .before .before .before .before .before .pre .0, c .before .before .loop-test .taken)
+shared-slice-read-times-up-to-2 c =
+    let start = c .before .before .before .before .before .before in
+    omega (arith, start .pre .0, c .before .before .loop-test .taken)
 
 times-up-to-requires : tie.Need-times-up-to-requires Inv-loop μ-loop
 times-up-to-requires c κs = search needs
@@ -41,15 +43,15 @@ loop-less c = search needs
 
 loop-again : tie.Need-loop-again Inv-loop μ-loop
 loop-again c =
-    let l = c .before .before .before .before .loop in
-    (c .times-up-to .ensures ∙ more 18446744073709551615 _ _ (l .kind) (l .times) (l .inv .0), omega (arith, c .before .before .before .loop-test .taken))
+    let loop = c .before .before .before .before .loop in
+    (c .times-up-to .ensures ∙ more 18446744073709551615 _ _ (loop .kind) (loop .times) (loop .inv .0), omega (arith, c .before .before .before .loop-test .taken))
 
 returns : tie.Need-returns Inv-loop μ-loop
 returns c =
-    let s = c .before .before .before .before in
-    let z : c .before .loop .kind ≡ length (s .args .whole .now) = omega (arith, c .loop-test .left, c .before .loop .inv .1) in
-    end 18446744073709551615 _ _ (length (s .args .whole .now)) _ (λ k. omega (arith, c .before .before .before .shared-slice-known .given k))
-    (rw (s .pre .0) (s .pre .1)) (rw (← z) (c .before .loop .inv .0))
+    let start = c .before .before .before .before in
+    let z : c .before .loop .kind ≡ length (start .args .whole .now) = omega (arith, c .loop-test .left, c .before .loop .inv .1) in
+    end 18446744073709551615 _ _ (length (start .args .whole .now)) _ (λ k. omega (arith, c .before .before .before .shared-slice-known .given k))
+    (rw (start .pre .0) (start .pre .1)) (rw (← z) (c .before .loop .inv .0))
 
 pub times-in-spec : {M : Type 1} → statement M
 times-in-spec =

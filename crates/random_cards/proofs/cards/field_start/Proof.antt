@@ -9,16 +9,16 @@ line-start-requires : tie.Need-line-start-requires
 line-start-requires c κs = search needs
 
 mul-result : tie.Need-mul-result
-mul-result c = omega (arith, product-most (c .before .before .args .c .kinds) (c .before .before .args .i) 4 4 (omega arith) (omega arith))
+mul-result c = omega (arith, product-most (c .before .before .args .shape .kinds) (c .before .before .args .field) 4 4 (omega arith) (omega arith))
 
 mul-result-2 : tie.Need-mul-result-2
-mul-result-2 c = omega (arith, product-most (c .before .before .args .c .kinds) (c .before .before .args .i) 4 4 (omega arith) (omega arith))
+mul-result-2 c = omega (arith, product-most (c .before .before .args .shape .kinds) (c .before .before .args .field) 4 4 (omega arith) (omega arith))
 
 add-result : tie.Need-add-result
-add-result c = omega (arith, product-most (c .before .before .args .c .kinds) (c .before .before .args .i) 4 4 (omega arith) (omega arith))
+add-result c = omega (arith, product-most (c .before .before .args .shape .kinds) (c .before .before .args .field) 4 4 (omega arith) (omega arith))
 
 returns : tie.Need-returns
-returns c = omega (arith, product-most (c .before .before .args .c .kinds) (c .before .before .args .i) 4 4 (omega arith) (omega arith))
+returns c = omega (arith, product-most (c .before .before .args .shape .kinds) (c .before .before .args .field) 4 4 (omega arith) (omega arith))
 
 pub field-start-spec : {M : Type 1} → statement M
 field-start-spec =

@@ -10,13 +10,13 @@ add-result : tie.Need-add-result
 add-result c = search needs
 
 mul-result : tie.Need-mul-result
-mul-result c = omega (arith, product-most (c .before .args .j) (2 + c .before .args .c .kinds) 8 6 (omega arith) (omega arith))
+mul-result c = omega (arith, product-most (c .before .args .line) (2 + c .before .args .shape .kinds) 8 6 (omega arith) (omega arith))
 
 add-result-2 : tie.Need-add-result-2
-add-result-2 c = omega (arith, product-most (c .before .args .j) (2 + c .before .args .c .kinds) 8 6 (omega arith) (omega arith))
+add-result-2 c = omega (arith, product-most (c .before .args .line) (2 + c .before .args .shape .kinds) 8 6 (omega arith) (omega arith))
 
 returns : tie.Need-returns
-returns c = omega (arith, product-most (c .before .args .j) (2 + c .before .args .c .kinds) 8 6 (omega arith) (omega arith))
+returns c = omega (arith, product-most (c .before .args .line) (2 + c .before .args .shape .kinds) 8 6 (omega arith) (omega arith))
 
 pub line-start-spec : {M : Type 1} → statement M
 line-start-spec = tie.close (tie.spec add-result mul-result add-result-2 returns)

@@ -8,7 +8,7 @@ rem-result : tie.Need-rem-result
 rem-result c = search needs
 
 returns : tie.Need-returns
-returns c = mod-lt (c .args .x) (c .pre)
+returns c = mod-lt (c .args .number) (c .pre)
 
 pub reduce-spec : {M : Type 1} → statement M
 reduce-spec = tie.close (tie.spec rem-result returns)

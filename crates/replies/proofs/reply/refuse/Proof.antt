@@ -11,7 +11,9 @@ same-length : tie.Need-same-length
 same-length c = search needs
 
 returns : tie.Need-returns
-returns c = tells-refusal (c .before .before .before .before .before .args .number) (c .before .before .before .before .before .args .place) (c .before .before .put-refused .ensures)
+returns c =
+    let start = c .before .before .before .before .before in
+    tells-refusal (start .args .number) (start .args .place) (c .before .before .put-refused .ensures)
 
 pub refuse-spec : {M : Type 1} → statement M
 refuse-spec = tie.close (tie.spec put-refused-requires same-length returns)

@@ -1,4 +1,4 @@
--- The forms of the lines below j are written.
+-- The forms of the lines before the one at hand are written.
 use borrow.Author.Needs.{needs}
 use borrow.Author.Tests.{not-false}
 use Prim.Native.Nat.{_-_}
@@ -11,42 +11,49 @@ use Rattle.rows.proofs.line_forms.all_forms.Statement.{statement}
 use Rattle.rows.proofs.line_forms.all_forms.Tie as tie
 
 abbrev Inv-loop : tie.InvT-loop
-Inv-loop s card lowers rows forms₀ lines j₀ forms j = Formed s rows lowers forms₀ forms j
+Inv-loop sheet card lines rows forms₀ count line₀ forms line = Formed sheet rows lines forms₀ forms line
 
 abbrev μ-loop : tie.MeasureT-loop
-μ-loop s card lowers rows forms₀ lines j₀ forms j = lines - j
+μ-loop sheet card lines rows forms₀ count line₀ forms line = count - line
 
 loop-holds : tie.Need-loop-holds Inv-loop μ-loop
-loop-holds c = let b = c .before .before .before .before in record { kept = refl; small = b .pre .1 .1 .1 .1 .0; lowering = b .pre .1 .1 .1 .1 .1; done = λ i l. absurd (omega arith) }
+loop-holds c =
+    let start = c .before .before .before .before in
+    record { kept = refl; small = start .pre .1 .1 .1 .1 .0; lowering = start .pre .1 .1 .1 .1 .1; done = λ i l. absurd (omega arith) }
 
-shared-slice-read-if1 : tie.Need-shared-slice-read-if1 Inv-loop μ-loop
-shared-slice-read-if1 c = search needs
+lowers-requires : tie.Need-lowers-requires Inv-loop μ-loop
+lowers-requires c κs =
+    let start = c .before .before .before .before .before .before in
+    omega (arith, start .pre .1 .0, c .loop-test .taken)
 
 line-form-requires : tie.Need-line-form-requires Inv-loop μ-loop
 line-form-requires c κs =
-    let b = c .before .before .before .before .before .before .before .before .before in
-    let h = c .before .before .before .before .loop .inv in
-    (b .pre .0, ((b .pre .1 .1 .0 .0, h .kept ∙ b .pre .1 .1 .0 .1), (b .pre .1 .1 .1 .0, (c .before .before .before .loop-test .taken, h .small))))
+    let start = c .before .before .before .before .before .before .before .before .before in
+    let at-loop = c .before .before .before .before in
+    (start .pre .0, ((start .pre .1 .1 .0 .0, at-loop .loop .inv .kept ∙ start .pre .1 .1 .0 .1), (start .pre .1 .1 .1 .0, (c .before .before .before .loop-test .taken, at-loop .loop .inv .small))))
 
-add-j : tie.Need-add-j Inv-loop μ-loop
-add-j c = omega arith
+add-line : tie.Need-add-line Inv-loop μ-loop
+add-line c = omega arith
 
 loop-less : tie.Need-loop-less Inv-loop μ-loop
 loop-less c = search needs
 
 loop-again : tie.Need-loop-again Inv-loop μ-loop
 loop-again c =
+    let start = c .before .before .before .before .before .before .before .before in
     let h = c .before .before .before .loop .inv in
     ⊎-elim
     (λ w. rw (w .5) (formed-more h (w .2 .ensures .0) (w .2 .kept .1 .1 .1 .0) (w .2 .ensures .1)))
-    (λ w. rw (w .1) (formed-skip h (omega (arith, c .before .before .loop-test .taken, lines-are (c .before .before .before .before .before .before .before .before .pre .0))) (not-false _ (w .0 .left))))
+    (λ w. rw (w .1) (formed-skip h (omega (arith, c .before .before .loop-test .taken, lines-are (start .pre .0))) (c .before .lowers .ensures .0 (not-false _ (w .0 .left)))))
     (c .if1 .came)
 
 same-length : tie.Need-same-length Inv-loop μ-loop
 same-length c = c .before .loop .inv .kept
 
 returns : tie.Need-returns Inv-loop μ-loop
-returns c = all-formed (c .before .before .before .before .before .before .pre .0) (c .loop-test .left) (c .before .loop .inv)
+returns c =
+    let start = c .before .before .before .before .before .before in
+    all-formed (start .pre .0) (c .loop-test .left) (c .before .loop .inv)
 
 pub all-forms-spec : {M : Type 1} → statement M
 all-forms-spec =
@@ -55,9 +62,9 @@ all-forms-spec =
     Inv-loop
     μ-loop
     loop-holds
-    shared-slice-read-if1
+    lowers-requires
     line-form-requires
-    add-j
+    add-line
     loop-less
     loop-again
     same-length

@@ -1,105 +1,145 @@
--- No line below m tells the row.
-use borrow.Author.Count.{below-more}
+-- The lines before the one at hand are tried: none tells the row.
 use borrow.Author.Needs.{needs}
-use Prim.Native.Nat.{ℕ, _-_, _≤_, _<_}
+use Prim.Native.Nat.{_-_, _+_, _*_, _≤_}
 use mathlib.Core.Logic.{⊎-elim}
-use mathlib.Core.Path.{_≡_, _∙_, sym}
+use mathlib.Core.Path.{_≡_, _∙_}
 use native.Mathlib.Omega.{arith}
 use lib.ListN.{length}
-use Rattle.sheet.proofs.Laws.{kinds-most}
+use Rattle.tables.specs.Lines.{linesIn}
 use Rattle.tables.proofs.Tables.{told-not}
-use Rattle.rows.proofs.StageRows.{TellsNone, tables-whole, has-line, not-suited, not-found, not-passed, passed, none-tells}
+use Rattle.rows.proofs.RowSearch.{Searched, searched-none, searched-skip, searched-unfound, searched-failed, searched-passed, searched-row, searched-all, searched-atom}
 use Rattle.rows.proofs.row.told_row.Statement.{statement}
 use Rattle.rows.proofs.row.told_row.Tie as tie
 
 abbrev Inv-loop : tie.InvT-loop
-Inv-loop s kinds codes lowers t previous classes marks rows forms k norms l m₀ m = (m ≤ length kinds) × ((x : ℕ) → x < m → TellsNone s t norms kinds codes forms lowers classes rows k l x)
+Inv-loop lines classes marks rows₀ forms kind count own other₀ rows other = Searched lines classes forms kind own rows₀ rows other
 
 abbrev μ-loop : tie.MeasureT-loop
-μ-loop s kinds codes lowers t previous classes marks rows forms k norms l m₀ m = length kinds - m
+μ-loop lines classes marks rows₀ forms kind count own other₀ rows other = linesIn lines - other
+
+-- The candidate's counts are 32.
+counts-long : (c : tie.After-told Inv-loop μ-loop) → length (c .told .result .counts) ≡ 32
+counts-long c = search (needs, c .told .ok)
 
 lowering-line-requires : tie.Need-lowering-line-requires Inv-loop μ-loop
 lowering-line-requires c κs =
-    let b = c .before .before .before .before .before .before .before .before .before in
-    let G = b .pre .0 in
-    let h = b .pre .1 .0 .0 in
-    let K = b .pre .1 .1 .0 in
-    (G .lines .lowers-long ∙ sym (G .lines .kinds-long), has-line G h K)
+    let start = c .before .before .before .before .before in
+    start .pre .1 .1 .1
 
 loop-holds : tie.Need-loop-holds Inv-loop μ-loop
-loop-holds c = (omega arith, λ x h. absurd (omega arith))
+loop-holds c = searched-none
 
 suits-requires : tie.Need-suits-requires Inv-loop μ-loop
 suits-requires c κs =
-    let b = c .before .before .before .before .before .before .before .before .before .before .before .before .before in
-    let G = b .pre .0 in
-    let h = b .pre .1 .0 .0 in
-    let T = tables-whole (G .lines) {forms = b .args .forms .now} (G .accepts) (b .pre .1 .0 .2) (b .pre .1 .0 .3) in
-    ((T .tables .coded, T .marked, b .pre .1 .0 .1), (G .classes-long, (T .tables .kinds-under, (omega (arith, h, kinds-most (G .accepts .reads)), c .before .before .before .lowering-line .ensures .0, c .before .loop-test .taken))))
+    let start = c .before .before .before .before .before .before .before .before .before in
+    ((start .pre .0 .whole, start .pre .1 .0 .1, c .before .before .loop .inv .long ∙ start .pre .0 .rows-long), (c .before .before .before .lowering-line .ensures .0 .0, c .before .loop-test .taken))
 
 told-requires : tie.Need-told-requires Inv-loop μ-loop
 told-requires c κs =
-    let b = c .before .before .before .before .before .before .before .before .before .before .before .before .before .before .before in
-    let G = b .pre .0 in
-    let T = tables-whole (G .lines) {forms = b .args .forms .now} (G .accepts) (b .pre .1 .0 .2) (b .pre .1 .0 .3) in
-    let i = c .before .before .before .loop-test .taken in
-    ((T .tables .formed, b .pre .1 .0 .3), (c .before .before .before .before .before .lowering-line .ensures .0, i, T .tables .kinds-under _ i))
+    let start = c .before .before .before .before .before .before .before .before .before .before .before in
+    let at-lowering-line = c .before .before .before .before .before in
+    ((start .pre .0 .whole, start .pre .0 .forms-long, start .pre .0 .small), (at-lowering-line .lowering-line .ensures .0 .0, c .before .before .before .loop-test .taken))
 
-slice-aggregate-passes : tie.Need-slice-aggregate-passes Inv-loop μ-loop
-slice-aggregate-passes c = search needs
+slice-aggregate-set-row : tie.Need-slice-aggregate-set-row Inv-loop μ-loop
+slice-aggregate-set-row c = search needs
+
+set-row-requires : tie.Need-set-row-requires Inv-loop μ-loop
+set-row-requires c κs =
+    let start = c .before .before .before .before .before .before .before .before .before .before .before .before .before .before .before .before in
+    let at-loop = c .before .before .before .before .before .before .before .before .before in
+    let at-told = c .before .before .before .before in
+    let long = counts-long (at-told) in
+    (omega (arith, at-loop .loop .inv .long, start .pre .0 .rows-long, start .pre .1 .0 .0), long)
 
 passes-requires : tie.Need-passes-requires Inv-loop μ-loop
 passes-requires c κs =
-    let b = c .before .before .before .before .before .before .before .before .before .before .before .before .before .before .before .before .before .before .before in
-    let G = b .pre .0 in
-    let h = b .pre .1 .0 .0 in
-    let long : length (c .before .before .before .told .result .counts) ≡ 32 = search (needs, c .before .before .before .told .ok) in
-    (tables-whole (G .lines) (G .accepts) (b .pre .1 .0 .2) (b .pre .1 .0 .3), (omega (arith, h, kinds-most (G .accepts .reads)), long, b .pre .1 .1 .1 .long))
+    let start = c .before .before .before .before .before .before .before .before .before .before .before .before .before .before .before .before .before .before .before .before in
+    let at-loop = c .before .before .before .before .before .before .before .before .before .before .before .before .before in
+    let long = c .before .before .before .set-row .kept .0 ∙ at-loop .loop .inv .long ∙ start .pre .0 .rows-long in
+    (record { whole = start .pre .0 .whole; rows-long = long; forms-long = start .pre .0 .forms-long; small = start .pre .0 .small }, (start .pre .1 .0 .0, start .pre .1 .1 .0 .long))
+
+same-length : tie.Need-same-length Inv-loop μ-loop
+same-length c =
+    let at-loop = c .before .before .before .before .before .before .before .before .before .before .before .before .before .before .before in
+    let at-set-row = c .before .before .before .before .before in
+    at-set-row .set-row .kept .0 ∙ at-loop .loop .inv .long
 
 returns : tie.Need-returns Inv-loop μ-loop
 returns c =
-    let b = c .before .before .before .before .before .before .before .before .before .before .before .before .before .before .before .before .before .before .before .before .before in
-    let G = b .pre .0 in
-    let h = b .pre .1 .0 .0 in
-    let K = b .pre .1 .1 .0 in
-    let S = c .before .before .before .before .before .before .before .suits .ensures .0 (c .before .before .before .before .before .before .if1 .taken) in
-    passed G h K (c .before .before .before .before .before .before .before .before .before .before .before .lowering-line .ensures) (c .before .before .before .before .before .before .before .before .before .loop-test .taken) S (c .before .before .before .before .before .told .ensures) (c .before .before .before .before .if2 .taken) (c .before .passes .ensures _ (b .pre .1 .1 .1) .0 (c .if3 .taken))
+    let start = c .before .before .before .before .before .before .before .before .before .before .before .before .before .before .before .before .before .before .before .before .before .before in
+    let at-lowering-line = c .before .before .before .before .before .before .before .before .before .before .before .before .before .before .before .before in
+    let at-loop = c .before .before .before .before .before .before .before .before .before .before .before .before .before .before .before in
+    let at-loop-test = c .before .before .before .before .before .before .before .before .before .before .before .before .before .before in
+    let at-suits = c .before .before .before .before .before .before .before .before .before .before .before .before in
+    let at-if1 = c .before .before .before .before .before .before .before .before .before .before .before in
+    let at-told = c .before .before .before .before .before .before .before .before .before .before in
+    let at-if2 = c .before .before .before .before .before .before .before .before .before in
+    let at-set-row = c .before .before .before .before .before in
+    let long = counts-long (at-told) in
+    let room : start .args .kind * 32 + 32 ≤ length (at-loop .loop .rows) = omega (arith, at-loop .loop .inv .long, start .pre .0 .rows-long, start .pre .1 .0 .0) in
+    let suited = at-suits .suits .ensures .0 (at-if1 .if1 .taken) in
+    let passed = c .before .passes .ensures _ (start .pre .1 .1 .0) .0 (c .if3 .taken) in
+    let H = at-loop .loop .inv in
+    let lw = at-lowering-line .lowering-line .ensures in
+    let hm = at-loop-test .loop-test .taken in
+    (searched-passed H lw hm suited (at-told .told .ensures) (at-if2 .if2 .taken) long room (at-set-row .set-row .ensures), searched-row H lw hm suited (at-told .told .ensures) (at-if2 .if2 .taken) long room (at-set-row .set-row .ensures) passed)
 
-add-m : tie.Need-add-m Inv-loop μ-loop
-add-m c = search needs
+add-other : tie.Need-add-other Inv-loop μ-loop
+add-other c = search needs
 
 loop-less : tie.Need-loop-less Inv-loop μ-loop
 loop-less c = search needs
 
 loop-again : tie.Need-loop-again Inv-loop μ-loop
 loop-again c =
-    let b = c .before .before .before .before .before .before .before .before .before .before .before .before .before .before .before in
-    let G = b .pre .0 in
-    let h = b .pre .1 .0 .0 in
-    let K = b .pre .1 .1 .0 in
-    let lw = c .before .before .before .before .before .lowering-line .ensures in
-    let i = c .before .before .before .loop-test .taken in (
-      omega arith,
-      below-more _ _ (c .before .before .before .before .loop .inv .1) (⊎-elim
-          (λ w. not-passed G h K lw i (c .before .suits .ensures .0 (w .0 .taken)) (w .1 .ensures) (w .2 .taken) (told-not (w .5 .ensures _ (b .pre .1 .1 .1)) (w .6 .left)))
-          (⊎-elim (λ w. not-found G h K lw i (c .before .suits .ensures .0 (w .0 .taken)) (w .1 .ensures) (w .2 .left)) (λ w. not-suited G h K lw i (c .before .suits .ensures) (w .left)))
-          (c .if1 .came)),
-    )
+    let start = c .before .before .before .before .before .before .before .before .before .before .before in
+    let at-lowering-line = c .before .before .before .before .before in
+    let at-loop = c .before .before .before .before in
+    let room : start .args .kind * 32 + 32 ≤ length (at-loop .loop .rows) = omega (arith, at-loop .loop .inv .long, start .pre .0 .rows-long, start .pre .1 .0 .0) in
+    let H = at-loop .loop .inv in
+    let lw = at-lowering-line .lowering-line .ensures in
+    let hm = c .before .before .before .loop-test .taken in
+    let t = c .before .suits .ensures in
+    ⊎-elim
+    (λ w.
+    let long = counts-long (record { before = record { before = c .before; if1 = w .0 }; told = w .1 }) in
+    rw (w .12)
+    (searched-failed H lw hm (t .0 (w .0 .taken)) (w .1 .ensures) (w .2 .taken) long room (w .6 .ensures) (w .6 .kept .0) (told-not (w .10 .ensures _ (start .pre .1 .1 .0)) (w .11 .left))))
+    (⊎-elim (λ w. rw (w .3) (searched-unfound H lw hm (t .0 (w .0 .taken)) (w .1 .ensures) (w .2 .left))) (λ w. rw (w .1) (searched-skip H lw hm (told-not t (w .0 .left)))))
+    (c .if1 .came)
 
 one-token-requires : tie.Need-one-token-requires Inv-loop μ-loop
 one-token-requires c κs =
-    let b = c .before .before .before .before .before .before .before .before .before .before .before .before in
-    let G = b .pre .0 in
-    let h = b .pre .1 .0 .0 in
-    omega (arith, h, kinds-most (G .accepts .reads))
+    let start = c .before .before .before .before .before .before .before .before in
+    start .pre .1 .0 .0
+
+slice-aggregate-set-row-2 : tie.Need-slice-aggregate-set-row-2 Inv-loop μ-loop
+slice-aggregate-set-row-2 c = search needs
+
+set-row-requires-2 : tie.Need-set-row-requires-2 Inv-loop μ-loop
+set-row-requires-2 c κs =
+    let start = c .before .before .before .before .before .before .before .before .before .before .before in
+    let at-loop = c .before .before .before .before in
+    let long : length (c .before .before .one-token .result) ≡ 32 = search (needs, c .before .before .one-token .ok) in
+    (omega (arith, at-loop .loop .inv .long, start .pre .0 .rows-long, start .pre .1 .0 .0), long)
+
+same-length-2 : tie.Need-same-length-2 Inv-loop μ-loop
+same-length-2 c =
+    let at-loop = c .before .before .before .before .before .before .before in
+    c .before .before .set-row2 .kept .0 ∙ at-loop .loop .inv .long
 
 returns-2 : tie.Need-returns-2 Inv-loop μ-loop
 returns-2 c =
-    let b = c .before .before .before .before .before .before .before .before .before .before .before .before .before in
-    let G = b .pre .0 in
-    let h = b .pre .1 .0 .0 in
-    let K = b .pre .1 .1 .0 in
-    c .one-token .ensures ∙ none-tells G h K (c .before .before .before .lowering-line .ensures) (λ m i. c .before .before .loop .inv .1 m (omega (arith, c .before .loop-test .left)))
+    let start = c .before .before .before .before .before .before .before .before .before .before .before .before .before .before in
+    let at-lowering-line = c .before .before .before .before .before .before .before .before in
+    let at-loop = c .before .before .before .before .before .before .before in
+    let at-loop-test = c .before .before .before .before .before .before in
+    let at-one-token = c .before .before .before .before .before in
+    let long : length (at-one-token .one-token .result) ≡ 32 = search (needs, at-one-token .one-token .ok) in
+    let room : start .args .kind * 32 + 32 ≤ length (at-loop .loop .rows) = omega (arith, at-loop .loop .inv .long, start .pre .0 .rows-long, start .pre .1 .0 .0) in
+    let H = at-loop .loop .inv in
+    let lw = at-lowering-line .lowering-line .ensures in
+    (searched-all H lw (at-loop-test .loop-test .left) _ (at-one-token .one-token .ensures) long room (c .before .before .set-row2 .ensures), searched-atom H lw (at-loop-test .loop-test .left) _ (at-one-token .one-token .ensures) long room (c .before .before .set-row2 .ensures))
 
 pub told-row-spec : {M : Type 1} → statement M
 told-row-spec =
@@ -111,11 +151,16 @@ told-row-spec =
     loop-holds
     suits-requires
     told-requires
-    slice-aggregate-passes
+    slice-aggregate-set-row
+    set-row-requires
     passes-requires
+    same-length
     returns
-    add-m
+    add-other
     loop-less
     loop-again
     one-token-requires
+    slice-aggregate-set-row-2
+    set-row-requires-2
+    same-length-2
     returns-2)

@@ -15,10 +15,14 @@ add-result : tie.Need-add-result
 add-result c = search needs
 
 returns : tie.Need-returns
-returns c = (other-kind (c .before .before .before .before .args .s .now) (c .before .before .before .before .args .j) (c .before .before .before .before .args .k) (c .before .before .before .before .args .tokens) (c .before .before .line-left .result) (c .before .line-kind .result) (c .before .before .line-left .ensures .0) (c .before .line-kind .ensures) (c .if1 .taken), omega arith)
+returns c =
+    let start = c .before .before .before .before in
+    (other-kind (start .args .sheet .now) (start .args .line) (start .args .kind) (start .args .tokens) (c .before .before .line-left .result) (c .before .line-kind .result) (c .before .before .line-left .ensures .0) (c .before .line-kind .ensures) (c .if1 .taken), omega arith)
 
 returns-2 : tie.Need-returns-2
-returns-2 c = (none-there (c .before .before .before .before .before .args .s .now) (c .before .before .before .before .before .args .j) (c .before .before .before .before .before .args .k) (c .before .before .before .before .before .args .tokens) (c .before .before .before .line-left .result) (c .before .before .line-kind .result) (c .before .before .before .line-left .ensures .0) (c .before .before .line-kind .ensures) (c .if2 .taken), omega arith)
+returns-2 c =
+    let start = c .before .before .before .before .before in
+    (none-there (start .args .sheet .now) (start .args .line) (start .args .kind) (start .args .tokens) (c .before .before .before .line-left .result) (c .before .before .line-kind .result) (c .before .before .before .line-left .ensures .0) (c .before .before .line-kind .ensures) (c .if2 .taken), omega arith)
 
 sub-result : tie.Need-sub-result
 sub-result c = search needs
@@ -27,7 +31,9 @@ add-result-2 : tie.Need-add-result-2
 add-result-2 c = search needs
 
 returns-3 : tie.Need-returns-3
-returns-3 c = (one-goes (c .before .before .before .before .before .args .s .now) (c .before .before .before .before .before .args .j) (c .before .before .before .before .before .args .k) (c .before .before .before .before .before .args .tokens) (c .before .before .before .line-left .result) (c .before .before .line-kind .result) (c .before .before .before .line-left .ensures .0) (c .before .before .line-kind .ensures) (c .before .if1 .left) (omega arith), omega arith)
+returns-3 c =
+    let start = c .before .before .before .before .before in
+    (one-goes (start .args .sheet .now) (start .args .line) (start .args .kind) (start .args .tokens) (c .before .before .before .line-left .result) (c .before .before .line-kind .result) (c .before .before .before .line-left .ensures .0) (c .before .before .line-kind .ensures) (c .before .if1 .left) (omega arith), omega arith)
 
 pub count-after-spec : {M : Type 1} → statement M
 count-after-spec =

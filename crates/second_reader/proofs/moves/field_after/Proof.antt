@@ -29,7 +29,10 @@ element-copy-out-count-after : tie.Need-element-copy-out-count-after Inv-loop μ
 element-copy-out-count-after c = search needs
 
 count-after-requires : tie.Need-count-after-requires Inv-loop μ-loop
-count-after-requires c κs = (c .before .before .before .before .before .before .pre .0 .0, c .before .before .before .before .before .before .pre .0 .1, omega (arith, c .before .before .before .before .kinds .ensures), omega (arith, c .before .before .before .before .before .before .pre .1 .room (c .before .before .loop .k)))
+count-after-requires c κs =
+    let start = c .before .before .before .before .before .before in
+    let kinds = c .before .before .before .before .kinds in
+    (start .pre .0 .0, start .pre .0 .1, omega (arith, kinds .ensures), omega (arith, start .pre .1 .room (c .before .before .loop .kind)))
 
 mul-after : tie.Need-mul-after Inv-loop μ-loop
 mul-after c = search needs
@@ -37,21 +40,23 @@ mul-after c = search needs
 array-write-after : tie.Need-array-write-after Inv-loop μ-loop
 array-write-after c = search needs
 
-add-k : tie.Need-add-k Inv-loop μ-loop
-add-k c = search needs
+add-kind : tie.Need-add-kind Inv-loop μ-loop
+add-kind c = search needs
 
 loop-less : tie.Need-loop-less Inv-loop μ-loop
 loop-less c = search needs
 
 loop-again : tie.Need-loop-again Inv-loop μ-loop
-loop-again c = (omega arith, filled-more _ _ _ (c .before .before .before .loop .inv .1) (omega (arith, c .before .before .before .before .before .before .before .pre .1 .size)) (c .count-after .ensures .0) (c .count-after .ensures .1))
+loop-again c =
+    let start = c .before .before .before .before .before .before .before in
+    (omega arith, filled-more _ _ _ (c .before .before .before .loop .inv .1) (omega (arith, start .pre .1 .size)) (c .count-after .ensures .0) (c .count-after .ensures .1))
 
 returns : tie.Need-returns Inv-loop μ-loop
 returns c =
-    let st = c .before .before .before .before .before in
-    let z : c .before .loop .k ≡ c .before .before .before .kinds .result = omega arith in
+    let start = c .before .before .before .before .before in
+    let z : c .before .loop .kind ≡ c .before .before .before .kinds .result = omega arith in
     record {
-      field = filled-all _ _ _ (c .before .loop .inv .1) (λ q h. fire-past (st .args .s .now) 1 (st .args .j) q (st .args .a .now) (st .pre .1) (omega (arith, z, c .before .before .before .kinds .ensures)));
+      field = filled-all _ _ _ (c .before .loop .inv .1) (λ q h. fire-past (start .args .sheet .now) 1 (start .args .line) q (start .args .field .now) (start .pre .1) (omega (arith, z, c .before .before .before .kinds .ensures)));
       grown = c .before .loop .inv .1 .most;
       size = c .before .loop .inv .1 .same;
     }
@@ -69,7 +74,7 @@ field-after-spec =
     count-after-requires
     mul-after
     array-write-after
-    add-k
+    add-kind
     loop-less
     loop-again
     returns)

@@ -19,7 +19,9 @@ element-copy-out-result : tie.Need-element-copy-out-result
 element-copy-out-result c = search needs
 
 returns : tie.Need-returns
-returns c = ap (λ (k : ℕ). ltb 0 (at (c .before .before .before .before .args .a .now) k)) (c .before .before .line-kind .ensures)
+returns c =
+    let start = c .before .before .before .before in
+    ap (λ (k : ℕ). ltb 0 (at (start .args .field .now) k)) (c .before .before .line-kind .ensures)
 
 returns-2 : tie.Need-returns-2
 returns-2 c = no-token (c .before .before .before .pre .1) (omega arith) (c .before .line-kind .ensures)

@@ -23,7 +23,9 @@ loop-holds : tie.Need-loop-holds Inv-loop μ-loop
 loop-holds c = (omega arith, filled-none _ _ _ (λ q. omega (arith, zeros-at 32 q)))
 
 field-count-requires : tie.Need-field-count-requires Inv-loop μ-loop
-field-count-requires c κs = (c .before .before .before .before .pre .0, c .before .before .before .before .pre .1, omega (arith, c .before .before .kinds .ensures))
+field-count-requires c κs =
+    let start = c .before .before .before .before in
+    (start .pre .0, start .pre .1, omega (arith, c .before .before .kinds .ensures))
 
 mul-counts : tie.Need-mul-counts Inv-loop μ-loop
 mul-counts c = search needs
@@ -31,8 +33,8 @@ mul-counts c = search needs
 array-write-counts : tie.Need-array-write-counts Inv-loop μ-loop
 array-write-counts c = search needs
 
-add-k : tie.Need-add-k Inv-loop μ-loop
-add-k c = search needs
+add-kind : tie.Need-add-kind Inv-loop μ-loop
+add-kind c = search needs
 
 loop-less : tie.Need-loop-less Inv-loop μ-loop
 loop-less c = search needs
@@ -44,10 +46,10 @@ returns : tie.Need-returns Inv-loop μ-loop
 returns c =
     let a = c .before .before .before .before .args in
     let inv = c .before .loop .inv in
-    let z : c .before .loop .k ≡ c .before .before .kinds .result = omega arith in
-    let e : at (c .before .loop .counts) ≡ fieldOf (a .s .now) (a .i) =
-    filled-all _ _ _ (inv .1) (λ q h. field-past (a .s .now) (a .i) q (omega (arith, z, c .before .before .kinds .ensures)) ∙ sym (zeros-at 32 q)) in
-    (e, read-fits (a .s .now) (a .i) (c .before .loop .counts) e (inv .1 .most) (inv .1 .same))
+    let z : c .before .loop .kind ≡ c .before .before .kinds .result = omega arith in
+    let e : at (c .before .loop .counts) ≡ fieldOf (a .sheet .now) (a .number) =
+    filled-all _ _ _ (inv .1) (λ q h. field-past (a .sheet .now) (a .number) q (omega (arith, z, c .before .before .kinds .ensures)) ∙ sym (zeros-at 32 q)) in
+    (e, read-fits (a .sheet .now) (a .number) (c .before .loop .counts) e (inv .1 .most) (inv .1 .same))
 
 pub field-spec : {M : Type 1} → statement M
 field-spec =
@@ -60,7 +62,7 @@ field-spec =
     field-count-requires
     mul-counts
     array-write-counts
-    add-k
+    add-kind
     loop-less
     loop-again
     returns)

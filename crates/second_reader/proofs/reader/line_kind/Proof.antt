@@ -12,7 +12,7 @@ byte-at-requires : tie.Need-byte-at-requires
 byte-at-requires c κs = search needs
 
 returns : tie.Need-returns
-returns c = c .byte-at .ensures .0 ∙ kind-at (c .before .before .before .args .s .now) (c .before .before .before .args .j) (c .before .line-start .result) (c .before .line-start .ensures .0)
+returns c = c .byte-at .ensures .0 ∙ kind-at (c .before .before .before .args .sheet .now) (c .before .before .before .args .line) (c .before .line-start .result) (c .before .line-start .ensures .0)
 
 pub line-kind-spec : {M : Type 1} → statement M
 line-kind-spec = tie.close (tie.spec line-start-requires byte-at-requires returns)

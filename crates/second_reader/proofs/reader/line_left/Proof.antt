@@ -18,7 +18,7 @@ byte-at-requires : tie.Need-byte-at-requires
 byte-at-requires c κs = search needs
 
 returns : tie.Need-returns
-returns c = (c .byte-at .ensures .0 ∙ left-at (c .before .before .before .args .s .now) (c .before .before .before .args .j) (c .before .before .before .args .k) (c .before .line-start .result) (c .before .line-start .ensures .0) (c .before .before .before .pre .2), c .byte-at .ensures .1)
+returns c = (c .byte-at .ensures .0 ∙ left-at (c .before .before .before .args .sheet .now) (c .before .before .before .args .line) (c .before .before .before .args .kind) (c .before .line-start .result) (c .before .line-start .ensures .0) (c .before .before .before .pre .2), c .byte-at .ensures .1)
 
 pub line-left-spec : {M : Type 1} → statement M
 line-left-spec =

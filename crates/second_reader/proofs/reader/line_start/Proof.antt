@@ -15,13 +15,13 @@ add-result : tie.Need-add-result
 add-result c = search needs
 
 mul-result : tie.Need-mul-result
-mul-result c = omega (arith, product-most (c .before .before .args .j) (2 + c .kinds .result) 65535 34 (omega arith) (omega arith))
+mul-result c = omega (arith, product-most (c .before .before .args .line) (2 + c .kinds .result) 65535 34 (omega arith) (omega arith))
 
 add-result-2 : tie.Need-add-result-2
-add-result-2 c = omega (arith, product-most (c .before .before .args .j) (2 + c .kinds .result) 65535 34 (omega arith) (omega arith))
+add-result-2 c = omega (arith, product-most (c .before .before .args .line) (2 + c .kinds .result) 65535 34 (omega arith) (omega arith))
 
 returns : tie.Need-returns
-returns c = (ap (λ (n : ℕ). linesOffset + c .before .before .args .j * (2 + n)) (c .kinds .ensures .0), omega (arith, product-most (c .before .before .args .j) (2 + c .kinds .result) 65535 34 (omega arith) (omega arith)))
+returns c = (ap (λ (n : ℕ). linesOffset + c .before .before .args .line * (2 + n)) (c .kinds .ensures .0), omega (arith, product-most (c .before .before .args .line) (2 + c .kinds .result) 65535 34 (omega arith) (omega arith)))
 
 pub line-start-spec : {M : Type 1} → statement M
 line-start-spec = tie.close (tie.spec kinds-requires add-result mul-result add-result-2 returns)

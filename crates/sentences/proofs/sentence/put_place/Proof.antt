@@ -45,8 +45,8 @@ put-bytes-requires-2 c κs = search needs
 returns : tie.Need-returns
 unfolding named
 returns c =
-    let a = c .before .before .before .args in
-    reads-as 27 (named (a .places) (a .place)) (nothing (a .out .now) (a .at)) (omega arith) (sym (ap (λ (q : Place). named q (a .place)) (c .enum-told .given .1)))
+    let args = c .before .before .before .args in
+    reads-as 27 (named (args .places) (args .place)) (nothing (args .out .now) (args .at)) (omega arith) (sym (ap (λ (q : Place). named q (args .place)) (c .enum-told .given .1)))
 
 same-length : tie.Need-same-length
 same-length c = search needs
@@ -54,8 +54,10 @@ same-length c = search needs
 returns-2 : tie.Need-returns-2
 unfolding named bytes
 returns-2 c =
-    let a = c .before .before .before .before .before .before .before .before .before .before .before .before .before .args in
-    reads-as 27 (named (a .places) (a .place)) (then (c .before .before .before .before .before .before .before .put-labelled .ensures) (c .before .before .put-bytes .ensures)) (omega arith) (sym (ap (λ (q : Place). named q (a .place)) (c .before .before .before .before .before .before .before .before .before .before .enum-told2 .given .1)))
+    let args = c .before .before .before .before .before .before .before .before .before .before .before .before .before .args in
+    let enum-told2 = c .before .before .before .before .before .before .before .before .before .before .enum-told2 in
+    let put-labelled = c .before .before .before .before .before .before .before .put-labelled in
+    reads-as 27 (named (args .places) (args .place)) (then (put-labelled .ensures) (c .before .before .put-bytes .ensures)) (omega arith) (sym (ap (λ (q : Place). named q (args .place)) (enum-told2 .given .1)))
 
 same-length-2 : tie.Need-same-length-2
 same-length-2 c = search needs
@@ -63,8 +65,10 @@ same-length-2 c = search needs
 returns-3 : tie.Need-returns-3
 unfolding named bytes
 returns-3 c =
-    let a = c .before .before .before .before .before .before .before .before .before .before .before .before .before .args in
-    reads-as 27 (named (a .places) (a .place)) (then (c .before .before .before .before .before .before .before .put-labelled2 .ensures) (c .before .before .put-bytes2 .ensures)) (omega arith) (sym (ap (λ (q : Place). named q (a .place)) (c .before .before .before .before .before .before .before .before .before .before .enum-told3 .given .1)))
+    let args = c .before .before .before .before .before .before .before .before .before .before .before .before .before .args in
+    let enum-told3 = c .before .before .before .before .before .before .before .before .before .before .enum-told3 in
+    let put-labelled2 = c .before .before .before .before .before .before .before .put-labelled2 in
+    reads-as 27 (named (args .places) (args .place)) (then (put-labelled2 .ensures) (c .before .before .put-bytes2 .ensures)) (omega arith) (sym (ap (λ (q : Place). named q (args .place)) (enum-told3 .given .1)))
 
 pub put-place-spec : {M : Type 1} → statement M
 put-place-spec =

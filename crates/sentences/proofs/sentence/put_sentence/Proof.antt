@@ -23,14 +23,15 @@ put-place-requires c κs = search needs
 
 array-share-prefix-words : tie.Need-array-share-prefix-words
 array-share-prefix-words c =
-    let a = c .before .before .before .before .before .before .before .before .args in
-    count-within (said (a .number) (a .place)) (c .before .before .before .before .before .before .find-row .ensures)
+    let args = c .before .before .before .before .before .before .before .before .args in
+    let find-row = c .before .before .before .before .before .before .find-row in
+    count-within (said (args .number) (args .place)) (find-row .ensures)
 
 slice-aggregate-put-bytes : tie.Need-slice-aggregate-put-bytes
 slice-aggregate-put-bytes c =
-    let a = c .before .before .before .before .before .before .before .before .before .args in
+    let args = c .before .before .before .before .before .before .before .before .before .args in
     let row = c .before .before .before .before .before .before .before .find-row in
-    sym (length-take-le (row .result .count) (row .result .words) (count-within (said (a .number) (a .place)) (row .ensures)))
+    sym (length-take-le (row .result .count) (row .result .words) (count-within (said (args .number) (args .place)) (row .ensures)))
 
 put-bytes-requires : tie.Need-put-bytes-requires
 put-bytes-requires c κs =
@@ -45,10 +46,11 @@ same-length c = search needs
 returns : tie.Need-returns
 unfolding sentenceOf
 returns c =
-    let a = c .before .before .before .before .before .before .before .before .before .before .before .before .args in
+    let args = c .before .before .before .before .before .before .before .before .before .before .before .before .args in
     let row = c .before .before .before .before .before .before .before .before .before .before .find-row in
-    reads-as 80 (sentenceOf (a .number) (a .place)) (then (c .before .before .before .before .before .before .before .put-place .ensures) (c .before .before .put-bytes .ensures))
-    (omega (arith, ap length (words-taken (said (a .number) (a .place)) (row .ensures)), words-most (has (a .number) (a .place)))) (all-said (said (a .number) (a .place)) (row .ensures) (a .place))
+    let put-place = c .before .before .before .before .before .before .before .put-place in
+    reads-as 80 (sentenceOf (args .number) (args .place)) (then (put-place .ensures) (c .before .before .put-bytes .ensures))
+    (omega (arith, ap length (words-taken (said (args .number) (args .place)) (row .ensures)), words-most (has (args .number) (args .place)))) (all-said (said (args .number) (args .place)) (row .ensures) (args .place))
 
 pub put-sentence-spec : {M : Type 1} → statement M
 put-sentence-spec =

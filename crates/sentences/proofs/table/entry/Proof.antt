@@ -16,7 +16,7 @@ array-copy-out-result c = omega arith
 
 returns : tie.Need-returns
 unfolding sentences bytes newline
-returns c = row-at _ sentences (c .before .args .i) (c .before .pre)
+returns c = row-at _ sentences (c .before .args .index) (c .before .pre)
 
 pub entry-spec : {M : Type 1} → statement M
 entry-spec = tie.close (tie.spec mul-result array-copy-out-result returns)

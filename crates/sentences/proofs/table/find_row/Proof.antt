@@ -29,9 +29,9 @@ is-of-requires c κs = tt
 returns : tie.Need-returns Inv-loop μ-loop
 unfolding sentences
 returns c =
+    let args = c .before .before .before .before .before .args in
     let turn = c .before .before .before in
-    let a = turn .before .before .args in
-    c .before .before .entry .ensures ∙ ap rowOf (sym (picked (has (a .number) (a .place)) sentences (turn .before .loop .i) (omega arith) (tested (getD sentences (turn .before .loop .i) unsaid) (a .number) (a .place) (c .before .before .entry .ensures) (c .before .is-of .ensures) (c .if1 .taken))) ∙ turn .before .loop .inv .1)
+    c .before .before .entry .ensures ∙ ap rowOf (sym (picked (has (args .number) (args .place)) sentences (turn .before .loop .i) (omega arith) (tested (getD sentences (turn .before .loop .i) unsaid) (args .number) (args .place) (c .before .before .entry .ensures) (c .before .is-of .ensures) (c .if1 .taken))) ∙ turn .before .loop .inv .1)
 
 add-i : tie.Need-add-i Inv-loop μ-loop
 unfolding sentences
@@ -44,9 +44,9 @@ loop-less c = omega arith
 loop-again : tie.Need-loop-again Inv-loop μ-loop
 unfolding sentences
 loop-again c =
+    let args = c .before .before .before .before .before .args in
     let turn = c .before .before .before in
-    let a = turn .before .before .args in
-    (omega arith, sym (passed (has (a .number) (a .place)) sentences (turn .before .loop .i) (omega arith) (tested (getD sentences (turn .before .loop .i) unsaid) (a .number) (a .place) (c .before .before .entry .ensures) (c .before .is-of .ensures) (c .if1 .left))) ∙ turn .before .loop .inv .1)
+    (omega arith, sym (passed (has (args .number) (args .place)) sentences (turn .before .loop .i) (omega arith) (tested (getD sentences (turn .before .loop .i) unsaid) (args .number) (args .place) (c .before .before .entry .ensures) (c .before .is-of .ensures) (c .if1 .left))) ∙ turn .before .loop .inv .1)
 
 returns-2 : tie.Need-returns-2 Inv-loop μ-loop
 unfolding sentences pick

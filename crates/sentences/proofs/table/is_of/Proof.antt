@@ -22,15 +22,21 @@ enum-told-2 c = search needs
 
 returns-2 : tie.Need-returns-2
 unfolding among
-returns-2 c = by-places (c .before .before .before .if1 .left) (ap (λ (q : Place). among q (c .before .before .before .before .before .args .place)) (c .before .places .given .1))
+returns-2 c =
+    let start = c .before .before .before .before .before in
+    by-places (c .before .before .before .if1 .left) (ap (λ (q : Place). among q (start .args .place)) (c .before .places .given .1))
 
 returns-3 : tie.Need-returns-3
 unfolding among
-returns-3 c = by-places (c .before .before .if1 .left) (ap (λ (q : Place). among q (c .before .before .before .before .args .place)) (c .enum-told .given .1))
+returns-3 c =
+    let start = c .before .before .before .before in
+    by-places (c .before .before .if1 .left) (ap (λ (q : Place). among q (start .args .place)) (c .enum-told .given .1))
 
 returns-4 : tie.Need-returns-4
 unfolding among
-returns-4 c = by-places (c .before .before .if1 .left) (ap (λ (q : Place). among q (c .before .before .before .before .args .place)) (c .enum-told2 .given .1))
+returns-4 c =
+    let start = c .before .before .before .before in
+    by-places (c .before .before .if1 .left) (ap (λ (q : Place). among q (start .args .place)) (c .enum-told2 .given .1))
 
 pub is-of-spec : {M : Type 1} → statement M
 is-of-spec =

@@ -31,14 +31,20 @@ wide-requires : tie.Need-wide-requires Inv-loop μ-loop
 wide-requires c κs = search needs
 
 -- A count of the field that is not reached is as it was.
-unread : (c : tie.After-wide Inv-loop μ-loop) → at (c .before .before .before .before .loop .field) (c .before .before .before .before .loop .k) ≡ at (c .before .before .before .before .before .before .before .args .field .now) (c .before .before .before .before .loop .k)
+unread : (c : tie.After-wide Inv-loop μ-loop)
+    → let start = c .before .before .before .before .before .before .before in
+    let loop = c .before .before .before .before .loop in
+    at (loop .field) (loop .k) ≡ at (start .args .field .now) (loop .k)
 unread c =
-    let a = c .before .before .before .before .before .before .before .args in
-    let l = c .before .before .before .before .loop in
-    plus-unread (a .field .now) (a .counts .now) (l .field) (l .k) (omega arith) (l .inv .2)
+    let args = c .before .before .before .before .before .before .before .args in
+    let loop = c .before .before .before .before .loop in
+    plus-unread (args .field .now) (args .counts .now) (loop .field) (loop .k) (omega arith) (loop .inv .2)
 
 add-field : tie.Need-add-field Inv-loop μ-loop
-add-field c = omega (arith, unread c, c .before .before .before .before .before .before .before .pre .fits (c .before .before .before .before .loop .k))
+add-field c =
+    let start = c .before .before .before .before .before .before .before in
+    let loop = c .before .before .before .before .loop in
+    omega (arith, unread c, start .pre .fits (loop .k))
 
 mul-field-2 : tie.Need-mul-field-2 Inv-loop μ-loop
 mul-field-2 c = omega arith
@@ -54,11 +60,11 @@ loop-less c = search needs
 
 loop-again : tie.Need-loop-again Inv-loop μ-loop
 loop-again c =
-    let a = c .before .before .before .before .before .before .before .args in
-    let l = c .before .before .before .before .loop in (
+    let args = c .before .before .before .before .before .before .before .args in
+    let loop = c .before .before .before .before .loop in (
       search needs,
       simp length-set (omega arith),
-      plus-more (a .field .now) (a .counts .now) (l .field) (l .k) (omega arith) (l .inv .2) (c .wide .result) (c .wide .ensures .0),
+      plus-more (args .field .now) (args .counts .now) (loop .field) (loop .k) (omega arith) (loop .inv .2) (c .wide .result) (c .wide .ensures .0),
     )
 
 same-length : tie.Need-same-length Inv-loop μ-loop
@@ -66,9 +72,9 @@ same-length c = search needs
 
 returns : tie.Need-returns Inv-loop μ-loop
 returns c =
-    let a = c .before .before .before .before .args in
-    let e : c .before .loop .k ≡ length (a .counts .now) = omega arith in
-    (rw e at (c .before .loop .inv .2)) ∙ plus-all (a .field .now) (a .counts .now)
+    let args = c .before .before .before .before .args in
+    let e : c .before .loop .k ≡ length (args .counts .now) = omega arith in
+    (rw e at (c .before .loop .inv .2)) ∙ plus-all (args .field .now) (args .counts .now)
 
 pub add-counts-spec : {M : Type 1} → statement M
 add-counts-spec =

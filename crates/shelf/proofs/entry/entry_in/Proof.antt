@@ -17,7 +17,7 @@ element-copy-out-result : tie.Need-element-copy-out-result
 element-copy-out-result c = search needs
 
 returns : tie.Need-returns
-returns c = entries-are (c .before .args .table .now) (c .before .pre .1) (c .before .args .k) (c .before .args .t) (search needs) (search needs)
+returns c = entries-are (c .before .args .table .now) (c .before .pre .1) (c .before .args .kinds) (c .before .args .tokens) (search needs) (search needs)
 
 pub entry-in-spec : {M : Type 1} → statement M
 entry-in-spec = tie.close (tie.spec mul-result add-result mul-result-2 element-copy-out-result returns)

@@ -18,8 +18,8 @@ abbrev μ-loop : tie.MeasureT-loop
 
 loop-holds : tie.Need-loop-holds Inv-loop μ-loop
 loop-holds c =
-    let s = c .before in
-    numbered-start (s .args .kinds .now) (at (s .args .field .now)) (s .args .size) (s .pre .0) (s .pre .1 .0) (s .pre .1 .1 .0)
+    let start = c .before in
+    numbered-start (start .args .kinds .now) (at (start .args .field .now)) (start .args .size) (start .pre .0) (start .pre .1 .0) (start .pre .1 .1 .0)
 
 sub-kind : tie.Need-sub-kind Inv-loop μ-loop
 sub-kind c = search needs
@@ -31,10 +31,11 @@ shared-slice-read-kind : tie.Need-shared-slice-read-kind Inv-loop μ-loop
 shared-slice-read-kind c = omega (arith, c .before .before .loop .inv .kinds-left)
 
 -- The kind that is read is one of 32.
-under : (c : tie.After-shared-slice-known2 Inv-loop μ-loop) → getD (c .before .before .before .before .args .kinds .now) (c .before .before .loop .i - 1) 0 < 32
+under : (c : tie.After-shared-slice-known2 Inv-loop μ-loop) → let start = c .before .before .before .before in getD (start .args .kinds .now) (c .before .before .loop .i - 1) 0 < 32
 under c =
-    let l = c .before .before .loop in
-    c .before .before .before .before .pre .0 .under (l .i - 1) (omega (arith, l .inv .kinds-left))
+    let start = c .before .before .before .before in
+    let loop = c .before .before .loop in
+    start .pre .0 .under (loop .i - 1) (omega (arith, loop .inv .kinds-left))
 
 mul-wide : tie.Need-mul-wide Inv-loop μ-loop
 mul-wide c = omega (arith, under c)
@@ -47,27 +48,28 @@ wide-requires c κs = search needs
 
 -- What a turn does.
 turn : (c : tie.After-wide Inv-loop μ-loop) (fewer : ℕ)
-    → let l = c .before .before .before .before .loop in
-    let a = c .before .before .before .before .before .before .args in
-    (c .wide .result ≤ l .left) × (fewer + entry (l .i) (l .left - c .wide .result) ≡ entry (l .i) (l .left)
-    → Numbered (a .kinds .now) (at (a .field .now)) (a .size) (l .number + fewer) (l .left - c .wide .result) (l .i - 1))
+    → let args = c .before .before .before .before .before .before .args in
+    let loop = c .before .before .before .before .loop in
+    (c .wide .result ≤ loop .left) × (fewer + entry (loop .i) (loop .left - c .wide .result) ≡ entry (loop .i) (loop .left)
+    → Numbered (args .kinds .now) (at (args .field .now)) (args .size) (loop .number + fewer) (loop .left - c .wide .result) (loop .i - 1))
 turn c fewer =
-    let l = c .before .before .before .before .loop in
-    let s = c .before .before .before .before .before .before in
-    numbered-next (s .args .kinds .now) (at (s .args .field .now)) (s .args .size) (s .pre .0) (l .number) (l .left) (l .i) (c .wide .result) fewer (l .inv) (search needs) (c .wide .ensures)
+    let start = c .before .before .before .before .before .before in
+    let loop = c .before .before .before .before .loop in
+    numbered-next (start .args .kinds .now) (at (start .args .field .now)) (start .args .size) (start .pre .0) (loop .number) (loop .left) (loop .i) (c .wide .result) fewer (loop .inv) (search needs) (c .wide .ensures)
 
 with-fewer-requires : tie.Need-with-fewer-requires Inv-loop μ-loop
 with-fewer-requires c κs =
-    let l = c .before .before .before .before .loop in
-    ((search needs, omega (arith, l .inv .kinds-left, c .before .before .before .before .before .before .pre .0 .many), l .inv .few, turn c 0 .0), c .before .before .before .before .before .before .pre .1 .1 .1)
+    let start = c .before .before .before .before .before .before in
+    let loop = c .before .before .before .before .loop in
+    ((search needs, omega (arith, loop .inv .kinds-left, start .pre .0 .many), loop .inv .few, turn c 0 .0), start .pre .1 .1 .1)
 
 add-number : tie.Need-add-number Inv-loop μ-loop
 add-number c =
-    let s = c .before .before .before .before .before .before .before in
+    let start = c .before .before .before .before .before .before .before in
     omega (
       arith,
       turn (c .before) (c .with-fewer .result) .1 (c .with-fewer .ensures) .sum,
-      numbered-fits (s .args .kinds .now) (at (s .args .field .now)) (s .args .size) (s .pre .0) (s .pre .1 .0) (s .pre .1 .1 .0),
+      numbered-fits (start .args .kinds .now) (at (start .args .field .now)) (start .args .size) (start .pre .0) (start .pre .1 .0) (start .pre .1 .1 .0),
     )
 
 sub-left : tie.Need-sub-left Inv-loop μ-loop
@@ -84,10 +86,10 @@ loop-again c = turn (c .before) (c .with-fewer .result) .1 (c .with-fewer .ensur
 
 returns : tie.Need-returns Inv-loop μ-loop
 returns c =
-    let s = c .before .before .before in
-    let l = c .before .loop in
-    let z : l .i ≡ 0 = omega arith in
-    numbered-end (s .args .kinds .now) (at (s .args .field .now)) (s .args .size) (l .number) (l .left) (rw z at (l .inv))
+    let start = c .before .before .before in
+    let loop = c .before .loop in
+    let z : loop .i ≡ 0 = omega arith in
+    numbered-end (start .args .kinds .now) (at (start .args .field .now)) (start .args .size) (loop .number) (loop .left) (rw z at (loop .inv))
 
 pub number-in-spec : {M : Type 1} → statement M
 number-in-spec =

@@ -15,10 +15,14 @@ entry-in-requires-2 : tie.Need-entry-in-requires-2
 entry-in-requires-2 c κs = search needs
 
 sub-result : tie.Need-sub-result
-sub-result c = let a = c .before .before .args in omega (arith, entry-smaller (a .k) (a .t) (a .count) (omega arith) (omega arith))
+sub-result c =
+    let args = c .before .before .args in
+    omega (arith, entry-smaller (args .kinds) (args .tokens) (args .count) (omega arith) (omega arith))
 
 returns : tie.Need-returns
-returns c = let a = c .before .before .args in omega (arith, entry-smaller (a .k) (a .t) (a .count) (omega arith) (omega arith))
+returns c =
+    let args = c .before .before .args in
+    omega (arith, entry-smaller (args .kinds) (args .tokens) (args .count) (omega arith) (omega arith))
 
 pub with-fewer-spec : {M : Type 1} → statement M
 with-fewer-spec = tie.close (tie.spec entry-in-requires sub-entry-in entry-in-requires-2 sub-result returns)

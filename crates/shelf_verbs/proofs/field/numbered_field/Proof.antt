@@ -22,13 +22,15 @@ use Rattle.shelf_verbs.proofs.field.numbered_field.Statement.{statement
 use Rattle.shelf_verbs.proofs.field.numbered_field.Tie as tie
 
 -- The sheet was accepted, so that the room suffices.
-few : (c : tie.After-of-header) → c .of-header .result .kinds ≤ length (c .before .before .before .before .shelf-field .last .1 .1 .1 .0)
+few : (c : tie.After-of-header) → let shelf-field = c .before .before .before .before .shelf-field in c .of-header .result .kinds ≤ length (shelf-field .last .1 .1 .1 .0)
 few c =
     let start = c .before .before .before .before .before .before .before .before .before .before .before .before .before in
+    let shelf-room = c .before .before .before .before .before .before .before .before .shelf-room in
+    let shelf-field = c .before .before .before .before .shelf-field in
     omega (
       arith,
       ap (λ (x : Card). x .kinds) (c .of-header .ensures),
-      shelved-few (start .args .s .now) (getD (start .args .numbers .now) 0 0) (getD (start .args .numbers .now) 1 0) (c .before .before .before .before .before .before .before .before .shelf-room .result) (ap fieldAnswer (sym (c .before .enum-told .given .1)) ∙ c .before .before .before .before .shelf-field .ensures .0),
+      shelved-few (start .args .sheet .now) (getD (start .args .numbers .now) 0 0) (getD (start .args .numbers .now) 1 0) (shelf-room .result) (ap fieldAnswer (sym (c .before .enum-told .given .1)) ∙ shelf-field .ensures .0),
     )
 
 no-call-requires : tie.Need-no-call-requires
@@ -36,7 +38,9 @@ no-call-requires c κs = search needs
 
 returns : tie.Need-returns
 unfolding fieldTold
-returns c = told-as _ (tells-nothing (c .before .before .before .before .before .args .out .now) (c .no-call .result) (c .no-call .ensures)) (two-other _ (c .before .before .before .before .before .args .numbers .now) (c .before .if1 .taken))
+returns c =
+    let start = c .before .before .before .before .before in
+    told-as _ (tells-nothing (start .args .out .now) (c .no-call .result) (c .no-call .ensures)) (two-other _ (start .args .numbers .now) (c .before .if1 .taken))
 
 shelf-room-requires : tie.Need-shelf-room-requires
 shelf-room-requires c κs = search needs
@@ -62,24 +66,27 @@ of-header-requires c κs = search needs
 array-share-prefix-counts : tie.Need-array-share-prefix-counts
 array-share-prefix-counts c = few c
 
-slice-aggregate-widened : tie.Need-slice-aggregate-widened
-slice-aggregate-widened c = sym (length-take-le _ _ (few (c .before)))
+slice-aggregate-widen-u16 : tie.Need-slice-aggregate-widen-u16
+slice-aggregate-widen-u16 c = sym (length-take-le _ _ (few (c .before)))
 
-widened-requires : tie.Need-widened-requires
-widened-requires c κs = omega (arith, few (c .before), slice-aggregate-widened c)
+widen-u16-requires : tie.Need-widen-u16-requires
+widen-u16-requires c κs = omega (arith, few (c .before), slice-aggregate-widen-u16 c)
 
 -- So does that of the same counts of 64 bits.
-wide-few : (c : tie.After-put-form-line-arg) → c .before .before .before .of-header .result .kinds ≤ length (c .before .widened .result)
+wide-few : (c : tie.After-put-counts-line-arg) → c .before .before .before .of-header .result .kinds ≤ length (c .before .widen-u16 .result)
 wide-few c = omega (arith, few (c .before .before .before))
 
 array-share-prefix-wide : tie.Need-array-share-prefix-wide
 array-share-prefix-wide c = wide-few c
 
-slice-aggregate-put-form-line : tie.Need-slice-aggregate-put-form-line
-slice-aggregate-put-form-line c = sym (length-take-le _ _ (wide-few (c .before)))
+slice-aggregate-put-counts-line : tie.Need-slice-aggregate-put-counts-line
+slice-aggregate-put-counts-line c = sym (length-take-le _ _ (wide-few (c .before)))
 
-put-form-line-requires : tie.Need-put-form-line-requires
-put-form-line-requires c κs = omega (arith, c .before .before .before .before .before .before .before .before .before .before .before .before .before .before .before .before .before .pre, few (c .before .before .before .before), slice-aggregate-put-form-line c)
+put-counts-line-requires : tie.Need-put-counts-line-requires
+put-counts-line-requires c κs =
+    let start = c .before .before .before .before .before .before .before .before .before .before .before .before .before .before .before .before .before in
+    let after-of-header = c .before .before .before .before in
+    omega (arith, start .pre, few after-of-header, slice-aggregate-put-counts-line c)
 
 enum-known-number : tie.Need-enum-known-number
 enum-known-number c = search needs
@@ -93,17 +100,21 @@ same-length c = search needs
 returns-2 : tie.Need-returns-2
 unfolding fieldTold fieldText
 returns-2 c =
+    let start = c .before .before .before .before .before .before .before .before .before .before .before .before .before .before .before .before .before .before .before .before in
+    let if1 = c .before .before .before .before .before .before .before .before .before .before .before .before .before .before .before .before .if1 in
+    let shelf-room = c .before .before .before .before .before .before .before .before .before .before .before .before .before .before .before .shelf-room in
+    let shelf-field = c .before .before .before .before .before .before .before .before .before .before .before .shelf-field in
+    let counts = shelf-field .last .1 .1 .1 .0 in
     let header = c .before .before .before .before .before .before .before in
-    let start = header .before .before .before .before .before .before .before .before .before .before .before .before .before in
+    let widen-u16 = c .before .before .before .before .before .widen-u16 in
+    let wide = widen-u16 .result in
     let n = header .of-header .result .kinds in
-    let counts = header .before .before .before .before .shelf-field .last .1 .1 .1 .0 in
-    let wide = c .before .before .before .before .before .widened .result in
-    let answers = ap fieldAnswer (sym (header .before .enum-told .given .1)) ∙ header .before .before .before .before .shelf-field .ensures .0 in
-    told-as _ (tells-answer (c .before .before .put-form-line .ensures))
-    (ap (λ (l : List ℕ). told (given (countsLine l))) (ap (λ (k : ℕ). take k wide) (sym (length-take-le n counts (few header))) ∙ c .before .before .before .before .before .widened .ensures)
+    let answers = ap fieldAnswer (sym (header .before .enum-told .given .1)) ∙ shelf-field .ensures .0 in
+    told-as _ (tells-answer (c .before .before .put-counts-line .ensures))
+    (ap (λ (l : List ℕ). told (given (countsLine l))) (ap (λ (k : ℕ). take k wide) (sym (length-take-le n counts (few header))) ∙ widen-u16 .ensures)
     ∙ ap (λ (x : Card). told (given (countsLine (take (x .kinds) counts)))) (header .of-header .ensures)
-    ∙ ap told (counts-answered (kindCount (start .args .s .now)) (shelfFieldOf (start .args .s .now) (getD (start .args .numbers .now) 0 0) (getD (start .args .numbers .now) 1 0)) (header .before .before .before .before .before .before .before .before .shelf-room .ensures) (header .before .before .before .before .shelf-field .ensures .1) answers)
-    ∙ two-taken _ (start .args .numbers .now) (header .before .before .before .before .before .before .before .before .before .if1 .left))
+    ∙ ap told (counts-answered (kindCount (start .args .sheet .now)) (shelfFieldOf (start .args .sheet .now) (getD (start .args .numbers .now) 0 0) (getD (start .args .numbers .now) 1 0)) (shelf-room .ensures) (shelf-field .ensures .1) answers)
+    ∙ two-taken _ (start .args .numbers .now) (if1 .left))
 
 same-length-2 : tie.Need-same-length-2
 same-length-2 c = search needs
@@ -112,10 +123,14 @@ returns-3 : tie.Need-returns-3
 unfolding fieldTold fieldText
 returns-3 c =
     let start = c .before .before .before .before .before .before .before .before .before .before .before .before .before .before .before .before .before in
-    let answers = ap fieldAnswer (sym (c .before .before .before .before .before .number .given .1)) ∙ c .before .before .before .before .before .before .before .before .shelf-field .ensures .0 in
+    let if1 = c .before .before .before .before .before .before .before .before .before .before .before .before .before .if1 in
+    let shelf-room = c .before .before .before .before .before .before .before .before .before .before .before .before .shelf-room in
+    let shelf-field = c .before .before .before .before .before .before .before .before .shelf-field in
+    let number = c .before .before .before .before .before .number in
+    let answers = ap fieldAnswer (sym (number .given .1)) ∙ shelf-field .ensures .0 in
     told-as _ (c .before .before .refuse .ensures)
-    (ap told (counts-refused (kindCount (start .args .s .now)) (shelfFieldOf (start .args .s .now) (getD (start .args .numbers .now) 0 0) (getD (start .args .numbers .now) 1 0)) (c .before .before .before .before .before .before .before .before .before .before .before .before .shelf-room .ensures) (c .before .before .before .before .before .before .before .before .shelf-field .ensures .1) _ _ answers)
-    ∙ two-taken _ (start .args .numbers .now) (c .before .before .before .before .before .before .before .before .before .before .before .before .before .if1 .left))
+    (ap told (counts-refused (kindCount (start .args .sheet .now)) (shelfFieldOf (start .args .sheet .now) (getD (start .args .numbers .now) 0 0) (getD (start .args .numbers .now) 1 0)) (shelf-room .ensures) (shelf-field .ensures .1) _ _ answers)
+    ∙ two-taken _ (start .args .numbers .now) (if1 .left))
 
 pub numbered-field-spec : {M : Type 1} → statement M
 numbered-field-spec =
@@ -131,11 +146,11 @@ numbered-field-spec =
     enum-told
     of-header-requires
     array-share-prefix-counts
-    slice-aggregate-widened
-    widened-requires
+    slice-aggregate-widen-u16
+    widen-u16-requires
     array-share-prefix-wide
-    slice-aggregate-put-form-line
-    put-form-line-requires
+    slice-aggregate-put-counts-line
+    put-counts-line-requires
     enum-known-number
     refuse-requires
     same-length

@@ -16,7 +16,9 @@ no-call-requires c κs = search needs
 
 returns : tie.Need-returns
 unfolding numberTold
-returns c = told-as _ (tells-nothing (c .before .before .before .before .before .args .out .now) (c .no-call .result) (c .no-call .ensures)) (one-other _ (c .before .before .before .before .before .args .numbers .now) (c .before .if1 .taken))
+returns c =
+    let start = c .before .before .before .before .before in
+    told-as _ (tells-nothing (start .args .out .now) (c .no-call .result) (c .no-call .ensures)) (one-other _ (start .args .numbers .now) (c .before .if1 .taken))
 
 shared-slice-read-shelf-number : tie.Need-shared-slice-read-shelf-number
 shared-slice-read-shelf-number c = search needs
@@ -42,8 +44,12 @@ same-length c = search needs
 returns-2 : tie.Need-returns-2
 unfolding numberTold numberText shelvedText worded
 returns-2 c =
+    let start = c .before .before .before .before .before .before .before .before .before .before .before .before .before in
+    let if1 = c .before .before .before .before .before .before .before .before .before .if1 in
+    let shelf-number = c .before .before .before .before .before .before .before .shelf-number in
+    let size = c .before .before .before .before .before .size in
     told-as _ (tells-answer (c .before .before .put-shelved .ensures))
-    (ap (λ a. told (shelvedText (numberAnswer a))) (sym (c .before .before .before .before .before .size .given .1)) ∙ ap (λ a. told (shelvedText a)) (c .before .before .before .before .before .before .before .shelf-number .ensures) ∙ one-taken _ (c .before .before .before .before .before .before .before .before .before .before .before .before .before .args .numbers .now) (c .before .before .before .before .before .before .before .before .before .if1 .left))
+    (ap (λ a. told (shelvedText (numberAnswer a))) (sym (size .given .1)) ∙ ap (λ a. told (shelvedText a)) (shelf-number .ensures) ∙ one-taken _ (start .args .numbers .now) (if1 .left))
 
 same-length-2 : tie.Need-same-length-2
 same-length-2 c = search needs
@@ -51,8 +57,12 @@ same-length-2 c = search needs
 returns-3 : tie.Need-returns-3
 unfolding numberTold numberText shelvedText worded
 returns-3 c =
+    let start = c .before .before .before .before .before .before .before .before .before .before .before .before .before in
+    let if1 = c .before .before .before .before .before .before .before .before .before .if1 in
+    let shelf-number = c .before .before .before .before .before .before .before .shelf-number in
+    let number = c .before .before .before .before .before .number in
     told-as _ (c .before .before .refuse .ensures)
-    (ap (λ a. told (shelvedText (numberAnswer a))) (sym (c .before .before .before .before .before .number .given .1)) ∙ ap (λ a. told (shelvedText a)) (c .before .before .before .before .before .before .before .shelf-number .ensures) ∙ one-taken _ (c .before .before .before .before .before .before .before .before .before .before .before .before .before .args .numbers .now) (c .before .before .before .before .before .before .before .before .before .if1 .left))
+    (ap (λ a. told (shelvedText (numberAnswer a))) (sym (number .given .1)) ∙ ap (λ a. told (shelvedText a)) (shelf-number .ensures) ∙ one-taken _ (start .args .numbers .now) (if1 .left))
 
 pub field-number-spec : {M : Type 1} → statement M
 field-number-spec =

@@ -2,7 +2,7 @@
 use native.Mathlib.Omega.{arith}
 use Rattle.model.specs.Page.{bytes}
 use Rattle.text.proofs.Append.{then, reads-as}
-use Rattle.shelf_verbs.specs.Texts.{shelvedLine}
+use Rattle.shelf_verbs.specs.Texts.{mostShelved, shelvedLine}
 use Rattle.shelf_verbs.proofs.Shelved.{shelved-is}
 use borrow.Author.Needs.{needs}
 use Rattle.shelf_verbs.proofs.number.put_shelved.Statement.{statement}
@@ -27,7 +27,8 @@ returns : tie.Need-returns
 unfolding bytes
 returns c =
     let start = c .before .before .before .before .before .before .before .before .before .before .before in
-    reads-as 54 (shelvedLine (start .args .size) (start .args .number)) (then (c .before .before .before .before .before .before .put-two-labelled .ensures) (c .before .before .put-byte .ensures))
+    let put-two-labelled = c .before .before .before .before .before .before .put-two-labelled in
+    reads-as mostShelved (shelvedLine (start .args .size) (start .args .number)) (then (put-two-labelled .ensures) (c .before .before .put-byte .ensures))
     (omega arith) (shelved-is (start .args .size) (start .args .number))
 
 pub put-shelved-spec : {M : Type 1} → statement M

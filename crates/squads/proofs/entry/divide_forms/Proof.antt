@@ -22,10 +22,10 @@ squad-long : (c : tie.After-prime-counts2) → start c .args .card .kinds ≤ le
 squad-long c = let e : length (c .prime-counts2 .result) ≡ 32 = search needs in omega (arith, kinds-most (start c .pre .0 .0))
 
 -- They begin with the prime forms.
-whole-form : (c : tie.After-prime-counts2) → take (start c .args .card .kinds) (c .before .prime-counts .result) ≡ primeForm (start c .args .s .now) (start c .args .whole)
+whole-form : (c : tie.After-prime-counts2) → take (start c .args .card .kinds) (c .before .prime-counts .result) ≡ primeForm (start c .args .sheet .now) (start c .args .whole)
 whole-form c = ap (λ (n : ℕ). take n (c .before .prime-counts .result)) (kinds-are (start c .pre .0 .0)) ∙ c .before .prime-counts .ensures
 
-squad-form : (c : tie.After-prime-counts2) → take (start c .args .card .kinds) (c .prime-counts2 .result) ≡ primeForm (start c .args .s .now) (start c .args .squad)
+squad-form : (c : tie.After-prime-counts2) → take (start c .args .card .kinds) (c .prime-counts2 .result) ≡ primeForm (start c .args .sheet .now) (start c .args .squad)
 squad-form c = ap (λ (n : ℕ). take n (c .prime-counts2 .result)) (kinds-are (start c .pre .0 .0)) ∙ c .prime-counts2 .ensures
 
 prime-counts-requires : tie.Need-prime-counts-requires
@@ -48,19 +48,19 @@ slice-aggregate-divide-2 c = sym (length-take-le _ _ (squad-long (c .before .bef
 
 divide-requires : tie.Need-divide-requires
 divide-requires c κs =
-    let k = c .before .before .before in
-    let s = start k in
-    can-divide (s .args .s .now) (s .args .whole) (s .args .squad) _ _ (whole-form k) (squad-form k) (s .pre .0 .1) (s .pre .1 .1 .1 .0) _ (s .pre .1 .1 .1 .1)
+    let after-prime-counts2 = c .before .before .before in
+    let s = start after-prime-counts2 in
+    can-divide (s .args .sheet .now) (s .args .whole) (s .args .squad) _ _ (whole-form after-prime-counts2) (squad-form after-prime-counts2) (s .pre .0 .1) (s .pre .1 .1 .1 .0) _ (s .pre .1 .1 .1 .1)
 
 same-length : tie.Need-same-length
 same-length c = search needs
 
 returns : tie.Need-returns
 returns c =
-    let k = c .before .before .before .before .before .before in
-    let s = start k in
-    let e = c .before .before .divide .ensures in
-    divides (s .args .s .now) (s .args .whole) (s .args .squad) _ _ (whole-form k) (squad-form k) _ _ _ (e .0) (e .1)
+    let after-prime-counts2 = c .before .before .before .before .before .before in
+    let divide = c .before .before .divide .ensures in
+    let s = start after-prime-counts2 in
+    divides (s .args .sheet .now) (s .args .whole) (s .args .squad) _ _ (whole-form after-prime-counts2) (squad-form after-prime-counts2) _ _ _ (divide .0) (divide .1)
 
 pub divide-forms-spec : {M : Type 1} → statement M
 divide-forms-spec =

@@ -9,7 +9,7 @@ use Rattle.weights.proofs.Bounds.{counts-fit}
 use Rattle.squads.proofs.entry.is_empty.Statement.{statement}
 use Rattle.squads.proofs.entry.is_empty.Tie as tie
 
-counts-are : (c : tie.After-field) → at (c .field .result) ≡ fieldOf (c .before .before .args .s .now) (c .before .before .args .field)
+counts-are : (c : tie.After-field) → at (c .field .result) ≡ fieldOf (c .before .before .args .sheet .now) (c .before .before .args .field)
 counts-are c = ap at (c .field .ensures) ∙ field-counts-at (c .before .before .pre .0) (c .before .before .args .field)
 
 field-requires : tie.Need-field-requires
@@ -17,17 +17,17 @@ field-requires c κs = search needs
 
 field-tokens-requires : tie.Need-field-tokens-requires
 field-tokens-requires c κs =
-    let s = c .before .before in
-    let few = kinds-most (s .pre .0) in (
+    let start = c .before .before in
+    let few = kinds-most (start .pre .0) in (
       few,
-      counts-fit (s .args .card .kinds) (λ _. 1) (at (c .field .result)) few (λ k. omega arith)
-          (λ k. omega (arith, ap (λ (f : Field). f k) (counts-are c), field-under (s .args .s .now) (s .args .field) (λ i. omega (arith, c .before .shared-slice-known .given i)) k)),
+      counts-fit (start .args .card .kinds) (λ _. 1) (at (c .field .result)) few (λ k. omega arith)
+          (λ k. omega (arith, ap (λ (f : Field). f k) (counts-are c), field-under (start .args .sheet .now) (start .args .field) (λ i. omega (arith, c .before .shared-slice-known .given i)) k)),
     )
 
 returns : tie.Need-returns
 returns c =
-    let s = c .before .before .before in
-    rw (← kinds-are (s .pre .0), ← counts-are (c .before), ← c .field-tokens .ensures) refl
+    let start = c .before .before .before in
+    rw (← kinds-are (start .pre .0), ← counts-are (c .before), ← c .field-tokens .ensures) refl
 
 pub is-empty-spec : {M : Type 1} → statement M
 is-empty-spec = tie.close (tie.spec field-requires field-tokens-requires returns)

@@ -5,21 +5,21 @@ use native.Mathlib.Omega.{arith}
 use lib.ListN.{length}
 use Rattle.sheet.proofs.Laws.{kinds-are, kinds-most}
 use Rattle.theory.proofs.Writing.{first-counts}
-use Rattle.base.proofs.Outcomes.{settled-fit, prime-form}
+use Rattle.stages.proofs.Outcomes.{settled-fit, prime-form}
 use Rattle.squads.proofs.entry.prime_counts.Statement.{statement}
 use Rattle.squads.proofs.entry.prime_counts.Tie as tie
 
 form-by-requires : tie.Need-form-by-requires
 form-by-requires c κs =
-    let s = c .before in
-    (s .pre .0 .0, (s .pre .1 .1, settled-fit (s .args .s .now) (s .pre .0 .1) _ (s .pre .1 .0) (λ k. omega (arith, c .shared-slice-known .given k))))
+    let start = c .before in
+    (start .pre .0 .0, (start .pre .1 .1, settled-fit (start .args .sheet .now) (start .pre .0 .1) _ (start .pre .1 .0) (λ k. omega (arith, c .shared-slice-known .given k))))
 
 returns : tie.Need-returns
 returns c =
-    let s = c .before .before in
+    let start = c .before .before in
     let long : length (c .form-by .result) ≡ 32 = search needs in
-    first-counts (c .form-by .result) _ (omega (arith, kinds-are (s .pre .0 .0), kinds-most (s .pre .0 .0)))
-    ∙ prime-form (s .args .s .now) (s .pre .0 .1) _ (s .pre .1 .0) (s .args .field) (c .form-by .result) (c .form-by .ensures)
+    first-counts (c .form-by .result) _ (omega (arith, kinds-are (start .pre .0 .0), kinds-most (start .pre .0 .0)))
+    ∙ prime-form (start .args .sheet .now) (start .pre .0 .1) _ (start .pre .1 .0) (start .args .field) (c .form-by .result) (c .form-by .ensures)
 
 pub prime-counts-spec : {M : Type 1} → statement M
 prime-counts-spec = tie.close (tie.spec form-by-requires returns)

@@ -20,14 +20,16 @@ use Rattle.squads_verb.proofs.count.count_squads.Statement.{statement}
 use Rattle.squads_verb.proofs.count.count_squads.Tie as tie
 
 -- The sheet was accepted, so that the room suffices.
-few : (c : tie.After-put-squads-arg) → c .before .of-header .result .kinds ≤ length (c .before .before .before .before .before .before .squads .last .1 .1 .1 .0)
+few : (c : tie.After-put-squads-arg) → let squads = c .before .before .before .before .before .before .squads in c .before .of-header .result .kinds ≤ length (squads .last .1 .1 .1 .0)
 few c =
     let start = c .before .before .before .before .before .before .before .before .before .before .before .before .before .before .before in
+    let remainder-room = c .before .before .before .before .before .before .before .before .before .before .remainder-room in
+    let squads = c .before .before .before .before .before .before .squads in
     omega (
       arith,
       ap (λ (x : Card). x .kinds) (c .before .of-header .ensures),
-      squads-few (start .args .s .now) (getD (start .args .numbers .now) 0 0) (getD (start .args .numbers .now) 1 0) (c .before .before .before .before .before .before .before .before .before .before .remainder-room .result) _
-          (ap squadsAnswer (sym (c .before .before .before .count .given .1)) ∙ c .before .before .before .before .before .before .squads .ensures .0),
+      squads-few (start .args .sheet .now) (getD (start .args .numbers .now) 0 0) (getD (start .args .numbers .now) 1 0) (remainder-room .result) _
+          (ap squadsAnswer (sym (c .before .before .before .count .given .1)) ∙ squads .ensures .0),
     )
 
 no-call-requires : tie.Need-no-call-requires
@@ -35,7 +37,9 @@ no-call-requires c κs = search needs
 
 returns : tie.Need-returns
 unfolding squadsTold
-returns c = told-as _ (tells-nothing (c .before .before .before .before .before .args .out .now) (c .no-call .result) (c .no-call .ensures)) (two-other _ (c .before .before .before .before .before .args .numbers .now) (c .before .if1 .taken))
+returns c =
+    let start = c .before .before .before .before .before in
+    told-as _ (tells-nothing (start .args .out .now) (c .no-call .result) (c .no-call .ensures)) (two-other _ (start .args .numbers .now) (c .before .if1 .taken))
 
 remainder-room-requires : tie.Need-remainder-room-requires
 remainder-room-requires c κs = search needs
@@ -65,7 +69,9 @@ slice-aggregate-put-squads : tie.Need-slice-aggregate-put-squads
 slice-aggregate-put-squads c = sym (length-take-le _ _ (few (c .before)))
 
 put-squads-requires : tie.Need-put-squads-requires
-put-squads-requires c κs = omega (arith, c .before .before .before .before .before .before .before .before .before .before .before .before .before .before .before .before .pre, few (c .before), slice-aggregate-put-squads c)
+put-squads-requires c κs =
+    let start = c .before .before .before .before .before .before .before .before .before .before .before .before .before .before .before .before in
+    omega (arith, start .pre, few (c .before), slice-aggregate-put-squads c)
 
 enum-known-number : tie.Need-enum-known-number
 enum-known-number c = search needs
@@ -79,17 +85,20 @@ same-length c = search needs
 returns-2 : tie.Need-returns-2
 unfolding squadsTold squadsText
 returns-2 c =
-    let k = c .before .before .before .before in
-    let start = k .before .before .before .before .before .before .before .before .before .before .before .before .before .before .before in
+    let start = c .before .before .before .before .before .before .before .before .before .before .before .before .before .before .before .before .before .before .before in
+    let if1 = c .before .before .before .before .before .before .before .before .before .before .before .before .before .before .before .if1 in
+    let remainder-room = c .before .before .before .before .before .before .before .before .before .before .before .before .before .before .remainder-room in
+    let squads = c .before .before .before .before .before .before .before .before .before .before .squads in
+    let remainder = squads .last .1 .1 .1 .0 in
+    let count = c .before .before .before .before .before .before .before .count .given .0 .0 in
+    let earlier = c .before .before .before .before in
     let i = getD (start .args .numbers .now) 0 0 in
     let j = getD (start .args .numbers .now) 1 0 in
-    let remainder = k .before .before .before .before .before .before .squads .last .1 .1 .1 .0 in
-    let count = k .before .before .before .count .given .0 .0 in
     told-as _ (tells-answer (c .before .before .put-squads .ensures))
-    (ap (λ (x : Card). told (given (squadsLine count (take (x .kinds) remainder)))) (k .before .of-header .ensures)
-    ∙ ap told (lent-answered squadsLine (kindCount (start .args .s .now)) (squadsOf (start .args .s .now) i j) (k .before .before .before .before .before .before .before .before .before .before .remainder-room .ensures) (k .before .before .before .before .before .before .squads .ensures .1) count
-    (ap squadsAnswer (sym (k .before .before .before .count .given .1)) ∙ k .before .before .before .before .before .before .squads .ensures .0))
-    ∙ two-taken _ (start .args .numbers .now) (k .before .before .before .before .before .before .before .before .before .before .before .if1 .left))
+    (ap (λ (x : Card). told (given (squadsLine count (take (x .kinds) remainder)))) (earlier .before .of-header .ensures)
+    ∙ ap told (lent-answered squadsLine (kindCount (start .args .sheet .now)) (squadsOf (start .args .sheet .now) i j) (remainder-room .ensures) (squads .ensures .1) count
+    (ap squadsAnswer (sym (earlier .before .before .before .count .given .1)) ∙ squads .ensures .0))
+    ∙ two-taken _ (start .args .numbers .now) (if1 .left))
 
 same-length-2 : tie.Need-same-length-2
 same-length-2 c = search needs
@@ -98,12 +107,16 @@ returns-3 : tie.Need-returns-3
 unfolding squadsTold squadsText
 returns-3 c =
     let start = c .before .before .before .before .before .before .before .before .before .before .before .before .before .before .before .before .before in
+    let if1 = c .before .before .before .before .before .before .before .before .before .before .before .before .before .if1 in
+    let remainder-room = c .before .before .before .before .before .before .before .before .before .before .before .before .remainder-room in
+    let squads = c .before .before .before .before .before .before .before .before .squads in
+    let number = c .before .before .before .before .before .number in
     let i = getD (start .args .numbers .now) 0 0 in
     let j = getD (start .args .numbers .now) 1 0 in
     told-as _ (c .before .before .refuse .ensures)
-    (ap told (lent-refused squadsLine (kindCount (start .args .s .now)) (squadsOf (start .args .s .now) i j) (c .before .before .before .before .before .before .before .before .before .before .before .before .remainder-room .ensures) (c .before .before .before .before .before .before .before .before .squads .ensures .1) _ _
-    (ap squadsAnswer (sym (c .before .before .before .before .before .number .given .1)) ∙ c .before .before .before .before .before .before .before .before .squads .ensures .0))
-    ∙ two-taken _ (start .args .numbers .now) (c .before .before .before .before .before .before .before .before .before .before .before .before .before .if1 .left))
+    (ap told (lent-refused squadsLine (kindCount (start .args .sheet .now)) (squadsOf (start .args .sheet .now) i j) (remainder-room .ensures) (squads .ensures .1) _ _
+    (ap squadsAnswer (sym (number .given .1)) ∙ squads .ensures .0))
+    ∙ two-taken _ (start .args .numbers .now) (if1 .left))
 
 pub count-squads-spec : {M : Type 1} → statement M
 count-squads-spec =

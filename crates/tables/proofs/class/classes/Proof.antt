@@ -1,39 +1,48 @@
--- The lines below j have their numbers.
+-- The lines before the one at hand have their numbers.
 use borrow.Author.Needs.{needs}
 use Prim.Native.Nat.{_-_}
-use lib.ListN.{length}
-use Rattle.tables.proofs.Matching.{Numbered, numbered-none, numbered-more, numbered-tells, numbered-bounds, numbered-under}
+use native.Mathlib.Omega.{arith}
+use Rattle.tables.specs.Table.{rowIn}
+use Rattle.tables.specs.Lines.{linesIn, kindIn, codeIn}
+use Rattle.tables.specs.Match.{MatchIn}
+use Rattle.tables.proofs.Matching.{match-equivalence, Numbered, numbered-none, numbered-more, numbered-tells, numbered-bounds}
 use Rattle.tables.proofs.class.classes.Statement.{statement}
 use Rattle.tables.proofs.class.classes.Tie as tie
 
 abbrev Inv-loop : tie.InvT-loop
-Inv-loop codes kinds rows forms bounds numbers₀ j₀ numbers j = Numbered codes kinds rows forms j numbers
+Inv-loop lines rows forms bounds count numbers₀ line₀ numbers line = Numbered (MatchIn lines rows forms) (linesIn lines) line numbers
 
 abbrev μ-loop : tie.MeasureT-loop
-μ-loop codes kinds rows forms bounds numbers₀ j₀ numbers j = length kinds - j
+μ-loop lines rows forms bounds count numbers₀ line₀ numbers line = linesIn lines - line
 
 loop-holds : tie.Need-loop-holds Inv-loop μ-loop
-loop-holds c = numbered-none (c .before .before .before .before .before .pre .0 .few)
-
-mul-start : tie.Need-mul-start Inv-loop μ-loop
-mul-start c = search needs
+loop-holds c =
+    let start = c .before .before .before .before in
+    numbered-none (start .pre .0 .whole .few)
 
 shared-slice-read-start : tie.Need-shared-slice-read-start Inv-loop μ-loop
 shared-slice-read-start c = search needs
 
+cast-start : tie.Need-cast-start Inv-loop μ-loop
+cast-start c = omega (arith, c .shared-slice-known5 .given (c .before .before .loop .line))
+
 class-of-requires : tie.Need-class-of-requires Inv-loop μ-loop
 class-of-requires c κs =
-    let b = c .before .before .before .before .before .before .before .before in
-    (b .pre .0, (c .before .loop-test .taken, b .pre .1 .1 _ (c .before .loop-test .taken)))
+    let start = c .before .before .before .before .before .before .before in
+    (start .pre .0, (c .before .loop-test .taken, start .pre .1 .1 _ (c .before .loop-test .taken)))
 
-mul-numbers : tie.Need-mul-numbers Inv-loop μ-loop
-mul-numbers c = search needs
+cast-numbers : tie.Need-cast-numbers Inv-loop μ-loop
+cast-numbers c =
+    let start = c .before .before .before .before .before .before .before .before in
+    omega (arith, c .class-of .ensures .within, c .before .before .loop-test .taken, start .pre .0 .whole .few)
 
 array-write-numbers : tie.Need-array-write-numbers Inv-loop μ-loop
-array-write-numbers c = search needs
+array-write-numbers c =
+    let start = c .before .before .before .before .before .before .before .before in
+    omega (arith, c .before .before .loop-test .taken, start .pre .0 .whole .few)
 
-add-j : tie.Need-add-j Inv-loop μ-loop
-add-j c = search needs
+add-line : tie.Need-add-line Inv-loop μ-loop
+add-line c = search needs
 
 loop-less : tie.Need-loop-less Inv-loop μ-loop
 loop-less c = search needs
@@ -42,7 +51,11 @@ loop-again : tie.Need-loop-again Inv-loop μ-loop
 loop-again c = numbered-more (c .before .before .before .loop .inv) (c .before .before .loop-test .taken) (c .class-of .ensures)
 
 returns : tie.Need-returns Inv-loop μ-loop
-returns c = (numbered-tells (c .before .loop .inv) (c .loop-test .left), (numbered-bounds (c .before .loop .inv) (c .loop-test .left), numbered-under (c .before .loop .inv)))
+returns c =
+    let start = c .before .before .before .before .before .before in
+    let lines = start .args .lines .now in
+    let same = match-equivalence (kindIn lines) (codeIn lines) (rowIn (start .args .rows .now)) (rowIn (start .args .forms .now)) in
+    (numbered-tells (c .before .loop .inv) same (c .loop-test .left), numbered-bounds (c .before .loop .inv) (c .loop-test .left))
 
 pub classes-spec : {M : Type 1} → statement M
 classes-spec =
@@ -51,12 +64,12 @@ classes-spec =
     Inv-loop
     μ-loop
     loop-holds
-    mul-start
     shared-slice-read-start
+    cast-start
     class-of-requires
-    mul-numbers
+    cast-numbers
     array-write-numbers
-    add-j
+    add-line
     loop-less
     loop-again
     returns)

@@ -3,7 +3,7 @@ use borrow.Author.Needs.{needs}
 use Prim.Native.Nat.{_-_}
 use native.Mathlib.Omega.{arith}
 use lib.ListN.{length}
-use Rattle.tables.proofs.Tables.{Subtracted, subtracted-none, subtracted-more, subtracted-all, subtracted-not}
+use Rattle.tables.proofs.Subtraction.{Subtracted, subtracted-none, subtracted-more, subtracted-all, subtracted-not}
 use Rattle.tables.proofs.effect.candidate.Statement.{statement}
 use Rattle.tables.proofs.effect.candidate.Tie as tie
 
@@ -26,7 +26,9 @@ one-of-requires : tie.Need-one-of-requires Inv-loop μ-loop
 one-of-requires c κs = search needs
 
 add-whole : tie.Need-add-whole Inv-loop μ-loop
-add-whole c = omega (arith, c .before .before .before .before .before .before .pre .1 (c .before .before .before .loop .i))
+add-whole c =
+    let start = c .before .before .before .before .before .before in
+    omega (arith, start .pre .1 (c .before .before .before .loop .i))
 
 mul-part : tie.Need-mul-part Inv-loop μ-loop
 mul-part c = search needs
@@ -35,10 +37,14 @@ shared-slice-read-part : tie.Need-shared-slice-read-part Inv-loop μ-loop
 shared-slice-read-part c = search needs
 
 returns : tie.Need-returns Inv-loop μ-loop
-returns c = subtracted-not (c .before .before .before .before .before .loop .i) (λ v f e. omega arith)
+returns c =
+    let loop = c .before .before .before .before .before in
+    subtracted-not (loop .loop .i) (λ v f e. omega arith)
 
 returns-2 : tie.Need-returns-2 Inv-loop μ-loop
-returns-2 c = subtracted-not (c .before .before .before .before .before .before .loop .i) (λ v f e. omega arith)
+returns-2 c =
+    let loop = c .before .before .before .before .before .before in
+    subtracted-not (loop .loop .i) (λ v f e. omega arith)
 
 cast-counts : tie.Need-cast-counts Inv-loop μ-loop
 cast-counts c = search needs
@@ -56,7 +62,10 @@ loop-less : tie.Need-loop-less Inv-loop μ-loop
 loop-less c = search needs
 
 loop-again : tie.Need-loop-again Inv-loop μ-loop
-loop-again c = subtracted-more (c .before .before .before .before .before .before .loop .inv) _ (omega arith) (c .before .before .before .before .before .loop-test .taken)
+loop-again c =
+    let loop = c .before .before .before .before .before .before in
+    let at-loop-test = c .before .before .before .before .before in
+    subtracted-more (loop .loop .inv) _ (omega arith) (at-loop-test .loop-test .taken)
 
 returns-3 : tie.Need-returns-3 Inv-loop μ-loop
 returns-3 c = subtracted-all (c .before .loop .inv) (omega arith) (omega arith) (omega arith)

@@ -33,7 +33,10 @@ wide-requires : tie.Need-wide-requires Inv-loop μ-loop
 wide-requires c κs = search needs
 
 add-here : tie.Need-add-here Inv-loop μ-loop
-add-here c = omega (arith, c .before .before .before .before .before .before .before .before .before .pre .1 .0 (c .before .before .before .before .loop .i))
+add-here c =
+    let start = c .before .before .before .before .before .before .before .before .before in
+    let loop = c .before .before .before .before in
+    omega (arith, start .pre .1 .0 (loop .loop .i))
 
 mul-there : tie.Need-mul-there Inv-loop μ-loop
 mul-there c = search needs
@@ -51,10 +54,15 @@ wide-requires-2 : tie.Need-wide-requires-2 Inv-loop μ-loop
 wide-requires-2 c κs = search needs
 
 add-there : tie.Need-add-there Inv-loop μ-loop
-add-there c = omega (arith, c .before .before .before .before .before .before .before .before .before .before .before .before .pre .1 .1 (c .before .before .before .before .before .before .before .loop .i))
+add-there c =
+    let start = c .before .before .before .before .before .before .before .before .before .before .before .before in
+    let loop = c .before .before .before .before .before .before .before in
+    omega (arith, start .pre .1 .1 (loop .loop .i))
 
 returns : tie.Need-returns Inv-loop μ-loop
-returns c = differ (c .before .before .before .before .before .before .before .before .loop .i) (λ e. c .if1 .taken (omega arith))
+returns c =
+    let loop = c .before .before .before .before .before .before .before .before in
+    differ (loop .loop .i) (λ e. c .if1 .taken (omega arith))
 
 add-i : tie.Need-add-i Inv-loop μ-loop
 add-i c = search needs
@@ -63,12 +71,15 @@ loop-less : tie.Need-loop-less Inv-loop μ-loop
 loop-less c = search needs
 
 loop-again : tie.Need-loop-again Inv-loop μ-loop
-loop-again c = (omega arith, agree-more (c .before .before .before .before .before .before .before .before .loop .inv .1) (omega arith))
+loop-again c =
+    let loop = c .before .before .before .before .before .before .before .before in
+    (omega arith, agree-more (loop .loop .inv .1) (omega arith))
 
 returns-2 : tie.Need-returns-2 Inv-loop μ-loop
 returns-2 c =
-    let a = c .before .before .before .before .before .before .args in
-    tells-same (agree-all (c .before .loop .inv .1) (λ j h. omega (arith, past (a .l .now) j (omega arith), past (a .y .now) j (omega arith), past (a .m .now) j (omega arith), past (a .x .now) j (omega arith))))
+    let start = c .before .before .before .before .before .before in
+    let a = start .args in
+    tells-same (agree-all (c .before .loop .inv .1) (λ j h. omega (arith, past (a .form .now) j (omega arith), past (a .its .now) j (omega arith), past (a .other .now) j (omega arith), past (a .own .now) j (omega arith))))
 
 pub same-effect-spec : {M : Type 1} → statement M
 same-effect-spec =

@@ -30,7 +30,8 @@ wide-requires c κs = search needs
 
 mul-more : tie.Need-mul-more Inv-loop μ-loop
 mul-more c =
-    let h : _ = added-bound (c .before .before .before .loop .inv) (c .before .before .before .before .before .before .before .pre .1) _ (c .wide .ensures .0) in omega arith
+    let start = c .before .before .before .before .before .before .before in
+    let h : _ = added-bound (c .before .before .before .loop .inv) (start .pre .1) _ (c .wide .ensures .0) in omega arith
 
 mul-old : tie.Need-mul-old Inv-loop μ-loop
 mul-old c = search needs
@@ -40,7 +41,9 @@ slice-read-old c = search needs
 
 add-sum : tie.Need-add-sum Inv-loop μ-loop
 add-sum c =
-    record { fits = added-bound (c .before .before .before .before .loop .inv) (c .before .before .before .before .before .before .before .before .pre .1) _ (c .before .wide .ensures .0) }
+    let start = c .before .before .before .before .before .before .before .before in
+    let loop = c .before .before .before .before in
+    record { fits = added-bound (loop .loop .inv) (start .pre .1) _ (c .before .wide .ensures .0) }
 
 mul-sum : tie.Need-mul-sum Inv-loop μ-loop
 mul-sum c = search needs
@@ -55,7 +58,9 @@ loop-less : tie.Need-loop-less Inv-loop μ-loop
 loop-less c = search needs
 
 loop-again : tie.Need-loop-again Inv-loop μ-loop
-loop-again c = added-more (c .before .before .before .before .loop .inv) _ (c .before .wide .ensures .0) (c .before .before .before .loop-test .taken)
+loop-again c =
+    let loop = c .before .before .before .before in
+    added-more (loop .loop .inv) _ (c .before .wide .ensures .0) (c .before .before .before .loop-test .taken)
 
 same-length : tie.Need-same-length Inv-loop μ-loop
 same-length c = c .before .loop .inv .kept

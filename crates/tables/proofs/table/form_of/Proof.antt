@@ -24,7 +24,7 @@ part-result-end : tie.Need-part-result-end
 part-result-end c = search needs
 
 returns : tie.Need-returns
-returns c = part-is (c .before .args .forms .now) (c .before .args .j)
+returns c = part-is (c .before .args .forms .now) (c .before .args .line)
 
 pub form-of-spec : {M : Type 1} → statement M
 form-of-spec =

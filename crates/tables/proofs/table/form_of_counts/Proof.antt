@@ -30,10 +30,11 @@ wide-byte-requires c κs = search needs
 add-row-requires : tie.Need-add-row-requires Inv-loop μ-loop
 unfolding rowIn
 add-row-requires c κs =
-    let b = c .before .before .before .before .before .before .before .before .before .before .before .before in
-    let h = c .before .before .before .before .loop .inv in
+    let start = c .before .before .before .before .before .before .before .before .before .before .before .before in
+    let loop = c .before .before .before .before in
+    let h = loop .loop .inv in
     let l = c .before .before .before .loop-test .taken in
-    ((omega (arith, b .pre .0 .0), b .pre .0 .1, omega (arith, h .room, h .kept)), (b .pre .1 .0 _ l, formed-bound h (b .pre .1 .1) refl l _ (c .before .wide-byte .ensures)))
+    ((omega (arith, start .pre .0 .0), start .pre .0 .1, omega (arith, h .room, h .kept)), (start .pre .1 .0 _ l, formed-bound h (start .pre .1 .1) refl l _ (c .before .wide-byte .ensures)))
 
 add-k : tie.Need-add-k Inv-loop μ-loop
 add-k c = search needs
@@ -43,7 +44,11 @@ loop-less c = search needs
 
 loop-again : tie.Need-loop-again Inv-loop μ-loop
 unfolding rowIn
-loop-again c = formed-more (c .before .before .before .before .before .before .before .loop .inv) refl _ (c .before .before .before .before .wide-byte .ensures) (c .before .before .before .before .before .before .loop-test .taken) (c .before .before .add-row .kept .0) (c .before .before .add-row .ensures)
+loop-again c =
+    let loop = c .before .before .before .before .before .before .before in
+    let at-loop-test = c .before .before .before .before .before .before in
+    let at-wide-byte = c .before .before .before .before in
+    formed-more (loop .loop .inv) refl _ (at-wide-byte .wide-byte .ensures) (at-loop-test .loop-test .taken) (c .before .before .add-row .kept .0) (c .before .before .add-row .ensures)
 
 same-length : tie.Need-same-length Inv-loop μ-loop
 same-length c = search needs

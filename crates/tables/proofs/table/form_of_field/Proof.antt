@@ -29,13 +29,18 @@ wide-requires : tie.Need-wide-requires Inv-loop μ-loop
 wide-requires c κs = search needs
 
 row-of-requires : tie.Need-row-of-requires Inv-loop μ-loop
-row-of-requires c κs = formed-fits (c .before .before .before .before .loop .inv) (c .before .before .before .loop-test .taken)
+row-of-requires c κs =
+    let loop = c .before .before .before .before in
+    formed-fits (loop .loop .inv) (c .before .before .before .loop-test .taken)
 
 add-times-requires : tie.Need-add-times-requires Inv-loop μ-loop
 add-times-requires c κs =
-    let h = c .before .before .before .before .before .loop .inv in
-    let l = c .before .before .before .before .loop-test .taken in
-    (formed-room h (c .row-of .ensures) l, formed-bound h (c .before .before .before .before .before .before .before .before .before .before .before .before .before .pre .1) (c .row-of .ensures) l _ (c .before .before .wide .ensures .0))
+    let start = c .before .before .before .before .before .before .before .before .before .before .before .before .before in
+    let loop = c .before .before .before .before .before in
+    let at-loop-test = c .before .before .before .before in
+    let h = loop .loop .inv in
+    let l = at-loop-test .loop-test .taken in
+    (formed-room h (c .row-of .ensures) l, formed-bound h (start .pre .1) (c .row-of .ensures) l _ (c .before .before .wide .ensures .0))
 
 add-k : tie.Need-add-k Inv-loop μ-loop
 add-k c = search needs
@@ -44,7 +49,11 @@ loop-less : tie.Need-loop-less Inv-loop μ-loop
 loop-less c = search needs
 
 loop-again : tie.Need-loop-again Inv-loop μ-loop
-loop-again c = formed-more (c .before .before .before .before .before .before .before .before .loop .inv) (c .before .before .before .row-of .ensures) _ (c .before .before .before .before .before .wide .ensures .0) (c .before .before .before .before .before .before .before .loop-test .taken) (c .before .before .add-times .kept .0) (c .before .before .add-times .ensures)
+loop-again c =
+    let loop = c .before .before .before .before .before .before .before .before in
+    let at-loop-test = c .before .before .before .before .before .before .before in
+    let at-wide = c .before .before .before .before .before in
+    formed-more (loop .loop .inv) (c .before .before .before .row-of .ensures) _ (at-wide .wide .ensures .0) (at-loop-test .loop-test .taken) (c .before .before .add-times .kept .0) (c .before .before .add-times .ensures)
 
 same-length : tie.Need-same-length Inv-loop μ-loop
 same-length c = search needs

@@ -17,7 +17,7 @@ shared-slice-read-count : tie.Need-shared-slice-read-count
 shared-slice-read-count c = search needs
 
 returns : tie.Need-returns
-returns c = own-one (c .before .args .rows .now) (c .before .args .k) (c .before .pre .0)
+returns c = own-one (c .before .args .rows .now) (c .before .args .kind) (c .before .pre .0)
 
 pub is-atom-spec : {M : Type 1} → statement M
 is-atom-spec =

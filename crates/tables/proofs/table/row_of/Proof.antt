@@ -24,7 +24,7 @@ part-result-end : tie.Need-part-result-end
 part-result-end c = search needs
 
 returns : tie.Need-returns
-returns c = part-is (c .before .args .rows .now) (c .before .args .k)
+returns c = part-is (c .before .args .rows .now) (c .before .args .kind)
 
 pub row-of-spec : {M : Type 1} → statement M
 row-of-spec =

@@ -4,7 +4,7 @@ use Prim.Native.Nat.{_-_}
 use native.Mathlib.Omega.{arith}
 use lib.ListN.{length}
 use Rattle.tables.specs.Table.{withRow}
-use Rattle.tables.proofs.Tables.{Copied, copied-none, copied-more, copied-length, copied-all}
+use Rattle.tables.proofs.Stores.{Copied, copied-none, copied-more, copied-length, copied-all}
 use Rattle.tables.proofs.table.set_row.Statement.{statement}
 use Rattle.tables.proofs.table.set_row.Tie as tie
 

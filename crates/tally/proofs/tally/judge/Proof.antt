@@ -57,19 +57,34 @@ returns-4 : tie.Need-returns-4
 returns-4 c = judged (c .before .before .enum-told .given .1) (c .enum-told5 .given .1)
 
 returns-5 : tie.Need-returns-5
-returns-5 c = parted-agrees (c .before .before .before .before .before .called .given .1) (c .before .before .tried .given .1) (c .if1 .taken)
+returns-5 c =
+    let told = c .before .before in
+    let different = told .before .before .before in
+    parted-agrees (different .called .given .1) (told .tried .given .1) (c .if1 .taken)
 
 returns-6 : tie.Need-returns-6
-returns-6 c = parted-wrong (c .before .before .before .before .before .called .given .1) (c .before .before .tried .given .1) (c .if1 .left)
+returns-6 c =
+    let told = c .before .before in
+    let different = told .before .before .before in
+    parted-wrong (different .called .given .1) (told .tried .given .1) (c .if1 .left)
 
 returns-7 : tie.Need-returns-7
-returns-7 c = c .judge-held .ensures ∙ judged (c .before .before .before .before .before .called .given .1) (c .before .before .tried2 .given .1)
+returns-7 c =
+    let told = c .before .before in
+    let different = told .before .before .before in
+    c .judge-held .ensures ∙ judged (different .called .given .1) (told .tried2 .given .1)
 
 returns-8 : tie.Need-returns-8
-returns-8 c = c .judge-held2 .ensures ∙ judged (c .before .before .before .before .before .called .given .1) (c .before .before .tried3 .given .1)
+returns-8 c =
+    let told = c .before .before in
+    let different = told .before .before .before in
+    c .judge-held2 .ensures ∙ judged (different .called .given .1) (told .tried3 .given .1)
 
 returns-9 : tie.Need-returns-9
-returns-9 c = c .judge-held3 .ensures ∙ judged (c .before .before .before .before .before .called .given .1) (c .before .before .tried4 .given .1)
+returns-9 c =
+    let told = c .before .before in
+    let different = told .before .before .before in
+    c .judge-held3 .ensures ∙ judged (different .called .given .1) (told .tried4 .given .1)
 
 pub judge-spec : {M : Type 1} → statement M
 judge-spec =

@@ -1,4 +1,4 @@
--- The numbers below i are the same. The measure is what is left of the length.
+-- The numbers of the kinds below one are the same. The measure is what is left of the length.
 use borrow.Author.Needs.{needs}
 use native.Mathlib.Omega.{arith}
 use Prim.Native.Nat.{_-_, _≤_}
@@ -8,10 +8,10 @@ use Rattle.tally.proofs.tally.same_counts.Statement.{statement}
 use Rattle.tally.proofs.tally.same_counts.Tie as tie
 
 abbrev Inv-loop : tie.InvT-loop
-Inv-loop a b i₀ i = (i ≤ length a) × SameBelow a b i
+Inv-loop first second kind₀ kind = (kind ≤ length first) × SameBelow first second kind
 
 abbrev μ-loop : tie.MeasureT-loop
-μ-loop a b i₀ i = length a - i
+μ-loop first second kind₀ kind = length first - kind
 
 returns : tie.Need-returns Inv-loop μ-loop
 returns c = test-lengths _ _ (c .if1 .taken)
@@ -32,16 +32,16 @@ shared-slice-read-if2-2 : tie.Need-shared-slice-read-if2-2 Inv-loop μ-loop
 shared-slice-read-if2-2 c = omega (arith, c .before .before .before .loop .inv .1 .lengths)
 
 returns-2 : tie.Need-returns-2 Inv-loop μ-loop
-returns-2 c = test-other _ _ (c .before .before .before .before .loop .i) (c .if2 .taken)
+returns-2 c = let tested = c .before .before .before in test-other _ _ (tested .before .loop .kind) (c .if2 .taken)
 
-add-i : tie.Need-add-i Inv-loop μ-loop
-add-i c = search needs
+add-kind : tie.Need-add-kind Inv-loop μ-loop
+add-kind c = search needs
 
 loop-less : tie.Need-loop-less Inv-loop μ-loop
 loop-less c = search needs
 
 loop-again : tie.Need-loop-again Inv-loop μ-loop
-loop-again c = (omega arith, same-more (c .before .before .before .before .loop .inv .1) (c .if2 .left))
+loop-again c = let tested = c .before .before .before in (omega arith, same-more (tested .before .loop .inv .1) (c .if2 .left))
 
 returns-3 : tie.Need-returns-3 Inv-loop μ-loop
 returns-3 c = test-same (c .before .loop .inv .1) (c .loop-test .left)
@@ -59,7 +59,7 @@ same-counts-spec =
     mul-if2-2
     shared-slice-read-if2-2
     returns-2
-    add-i
+    add-kind
     loop-less
     loop-again
     returns-3)

@@ -3,6 +3,7 @@ use mathlib.Core.Path.{refl}
 use native.Mathlib.Omega.{arith}
 use Rattle.model.specs.Page.{bytes}
 use Rattle.text.specs.Count.{countText}
+use Rattle.text.specs.Lengths.{mostCount}
 use Rattle.text.proofs.Append.{reads-as}
 use borrow.Author.Needs.{needs}
 use Rattle.text.proofs.counts.put_count.Statement.{statement}
@@ -19,7 +20,9 @@ same-length c = search needs
 
 returns : tie.Need-returns
 unfolding countText bytes
-returns c = reads-as 21 (countText (c .before .before .before .before .before .before .args .count)) (c .before .before .put-labelled .ensures) (omega arith) refl
+returns c =
+    let start = c .before .before .before .before .before .before in
+    reads-as mostCount (countText (start .args .count)) (c .before .before .put-labelled .ensures) (omega arith) refl
 
 pub put-count-spec : {M : Type 1} → statement M
 put-count-spec =

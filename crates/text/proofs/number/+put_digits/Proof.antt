@@ -33,30 +33,41 @@ put-digits-digit-requires : (t : ℕ) → put-digits-lts.Need-digit-requires (pu
 put-digits-digit-requires t c κs = tt
 
 put-digits-put-byte-requires : (t : ℕ) → put-digits-lts.Need-put-byte-requires (put-digits-calls t) (put-digits-at t) put-digits.Post
-put-digits-put-byte-requires t c κs = omega (arith, c .before .before .before .before .pre .1, length-some (c .before .before .before .before .args .x))
+put-digits-put-byte-requires t c κs =
+    let start = c .before .before .before .before in
+    omega (arith, start .pre .1, length-some (start .args .value))
 
 put-digits-put-digits-requires : (t : ℕ) → put-digits-lts.Need-put-digits-requires (put-digits-calls t) (put-digits-at t) put-digits.Post
-put-digits-put-digits-requires t c κs = (omega (arith, c .before .before .before .pre .0, c .before .if1 .left), omega (arith, c .before .before .before .pre .1, length-more (c .before .before .before .args .x) (omega (arith, c .before .if1 .left))))
+put-digits-put-digits-requires t c κs = (omega (arith, c .before .before .before .pre .0, c .before .if1 .left), omega (arith, c .before .before .before .pre .1, length-more (c .before .before .before .args .value) (omega (arith, c .before .if1 .left))))
 
 put-digits-digit-requires-2 : (t : ℕ) → put-digits-lts.Need-digit-requires-2 (put-digits-calls t) (put-digits-at t) put-digits.Post
 put-digits-digit-requires-2 t c κs = tt
 
 put-digits-put-byte-requires-2 : (t : ℕ) → put-digits-lts.Need-put-byte-requires-2 (put-digits-calls t) (put-digits-at t) put-digits.Post
 put-digits-put-byte-requires-2 t c κs =
+    let start = c .before .before .before .before .before .before .before .before in
+    let long = c .before .before .before .before .before .before .if1 .left in
     let first = c .before .before .before .before .put-digits .ensures in
-    omega (arith, first .ends, first .size, c .before .before .before .before .before .before .before .before .pre .1, length-more (c .before .before .before .before .before .before .before .before .args .x) (omega (arith, c .before .before .before .before .before .before .if1 .left)))
+    omega (arith, first .ends, first .size, start .pre .1, length-more (start .args .value) (omega (arith, long)))
 
 put-digits-same-length : (t : ℕ) → put-digits-lts.Need-same-length (put-digits-calls t) (put-digits-at t) put-digits.Post
 put-digits-same-length t c = c .before .before .put-byte .kept .0
 
 put-digits-returns : (t : ℕ) → put-digits-lts.Need-returns (put-digits-calls t) (put-digits-at t) put-digits.Post
-put-digits-returns t c = digit-only (c .before .before .before .digit .ensures) (c .before .before .before .before .before .if1 .taken) (c .before .before .put-byte .ensures)
+put-digits-returns t c =
+    let short = c .before .before .before .before .before .if1 .taken in
+    digit-only (c .before .before .before .digit .ensures) short (c .before .before .put-byte .ensures)
 
 put-digits-same-length-2 : (t : ℕ) → put-digits-lts.Need-same-length-2 (put-digits-calls t) (put-digits-at t) put-digits.Post
-put-digits-same-length-2 t c = c .before .before .put-byte2 .kept .0 ∙ c .before .before .before .before .before .before .before .put-digits .kept .0
+put-digits-same-length-2 t c =
+    let first-digits = c .before .before .before .before .before .before .before .put-digits in
+    c .before .before .put-byte2 .kept .0 ∙ first-digits .kept .0
 
 put-digits-returns-2 : (t : ℕ) → put-digits-lts.Need-returns-2 (put-digits-calls t) (put-digits-at t) put-digits.Post
-put-digits-returns-2 t c = digit-last (c .before .before .before .digit2 .ensures) (c .before .before .before .before .before .before .before .before .before .if1 .left) (c .before .before .before .before .before .before .before .put-digits .ensures) (c .before .before .put-byte2 .ensures)
+put-digits-returns-2 t c =
+    let long = c .before .before .before .before .before .before .before .before .before .if1 .left in
+    let first-digits = c .before .before .before .before .before .before .before .put-digits in
+    digit-last (c .before .before .before .digit2 .ensures) long (first-digits .ensures) (c .before .before .put-byte2 .ensures)
 
 pub +put-digits-spec : {M : Type 1} → statement M
 +put-digits-spec = close μ-put-digits λ t. put-digits-lts.spec (put-digits-calls t)

@@ -38,7 +38,9 @@ same-length : tie.Need-same-length Inv-loop μ-loop
 same-length c = c .before .loop .inv .1 .size
 
 returns : tie.Need-returns Inv-loop μ-loop
-returns c = all-taken (c .before .before .before .before .args .text .now) (omega arith) (c .before .loop .inv .1)
+returns c =
+    let start = c .before .before .before .before in
+    all-taken (start .args .text .now) (omega arith) (c .before .loop .inv .1)
 
 pub put-bytes-spec : {M : Type 1} → statement M
 put-bytes-spec =

@@ -14,7 +14,9 @@ same-length : tie.Need-same-length
 same-length c = search needs
 
 returns : tie.Need-returns
-returns c = then (c .before .before .before .before .before .before .put-bytes .ensures) (c .before .before .put-number .ensures)
+returns c =
+    let put-bytes = c .before .before .before .before .before .before .put-bytes in
+    then (put-bytes .ensures) (c .before .before .put-number .ensures)
 
 pub put-labelled-spec : {M : Type 1} → statement M
 put-labelled-spec = tie.close (tie.spec put-bytes-requires put-number-requires same-length returns)

@@ -14,7 +14,9 @@ same-length : tie.Need-same-length
 same-length c = search needs
 
 returns : tie.Need-returns
-returns c = then (c .before .before .before .before .before .before .put-labelled .ensures) (c .before .before .put-labelled2 .ensures)
+returns c =
+    let put-labelled = c .before .before .before .before .before .before .put-labelled in
+    then (put-labelled .ensures) (c .before .before .put-labelled2 .ensures)
 
 pub put-two-labelled-spec : {M : Type 1} → statement M
 put-two-labelled-spec =

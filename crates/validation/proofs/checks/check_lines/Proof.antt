@@ -21,26 +21,33 @@ abbrev μ-loop : tie.MeasureT-loop
 μ-loop s card kinds codes lines j₀ j = lines - j
 
 -- The card's numbers are the header's, and within their limits.
-kinds-is : (c : tie.Start Inv-loop μ-loop) → c .args .card .kinds ≡ kindCount (c .args .s .now)
+kinds-is : (c : tie.Start Inv-loop μ-loop) → c .args .card .kinds ≡ kindCount (c .args .sheet .now)
 kinds-is c = ap (λ (d : Card). d .kinds) (c .pre .0)
 
-codes-is : (c : tie.Start Inv-loop μ-loop) → c .args .card .codes ≡ codeCount (c .args .s .now)
+codes-is : (c : tie.Start Inv-loop μ-loop) → c .args .card .codes ≡ codeCount (c .args .sheet .now)
 codes-is c = ap (λ (d : Card). d .codes) (c .pre .0)
 
-lines-is : (c : tie.Start Inv-loop μ-loop) → c .args .card .lines ≡ lineCount (c .args .s .now)
+lines-is : (c : tie.Start Inv-loop μ-loop) → c .args .card .lines ≡ lineCount (c .args .sheet .now)
 lines-is c = ap (λ (d : Card). d .lines) (c .pre .0)
 
 within : (c : tie.Start Inv-loop μ-loop) → (c .args .card .kinds ≤ mostKinds) × (c .args .card .lines ≤ mostLines)
 within c =
-    let n = numbers-limits (c .args .s .now) (header-clear (c .args .s .now) (c .pre .1) .0) in
+    let n = numbers-limits (c .args .sheet .now) (header-clear (c .args .sheet .now) (c .pre .1) .0) in
     (omega (arith, kinds-is c, n .kinds .1), omega (arith, lines-is c, n .lines))
 
 -- The bytes that are read are the line's kind and code.
-kind-is : (c : tie.After-byte-at Inv-loop μ-loop) → c .byte-at .result ≡ lineOf (c .before .before .before .before .before .args .s .now) (c .before .before .before .loop .j) .kind
-kind-is c = kind-read _ _ (c .before .before .before .before .before .pre .0) _ _ _ (c .before .line-start .ensures .0) (c .byte-at .ensures .0)
+kind-is : (c : tie.After-byte-at Inv-loop μ-loop) → let start = c .before .before .before .before .before in c .byte-at .result ≡ lineOf (start .args .sheet .now) (c .before .before .before .loop .j) .kind
+kind-is c =
+    let start = c .before .before .before .before .before in
+    kind-read _ _ (start .pre .0) _ _ _ (c .before .line-start .ensures .0) (c .byte-at .ensures .0)
 
-code-is : (c : tie.After-byte-at2 Inv-loop μ-loop) → c .byte-at2 .result ≡ lineOf (c .before .before .before .before .before .before .before .args .s .now) (c .before .before .before .before .before .loop .j) .code
-code-is c = code-read _ _ (c .before .before .before .before .before .before .before .pre .0) _ _ _ (c .before .before .before .line-start .ensures .0) (c .byte-at2 .ensures .0)
+code-is : (c : tie.After-byte-at2 Inv-loop μ-loop)
+    → let start = c .before .before .before .before .before .before .before in
+    let loop = c .before .before .before .before .before .loop in
+    c .byte-at2 .result ≡ lineOf (start .args .sheet .now) (loop .j) .code
+code-is c =
+    let start = c .before .before .before .before .before .before .before in
+    code-read _ _ (start .pre .0) _ _ _ (c .before .before .before .line-start .ensures .0) (c .byte-at2 .ensures .0)
 
 loop-holds : tie.Need-loop-holds Inv-loop μ-loop
 loop-holds c = (search needs, λ q h. absurd (omega arith))
@@ -55,10 +62,10 @@ byte-at-requires c κs = search needs
 
 returns : tie.Need-returns Inv-loop μ-loop
 returns c =
-    let d = c .before .before .before .before .before .before in
-    let l = c .before .before .before .before .loop in
-    refuses _ _ 7 _ (lines-stop (d .args .s .now) (l .j) 7 (l .j) (omega (arith, lines-is d)) (l .inv .1)
-    (kind-stops (d .args .s .now) (l .j) (omega (arith, kinds-is d, kind-is (c .before)))))
+    let start = c .before .before .before .before .before .before in
+    let loop = c .before .before .before .before .loop in
+    refuses _ _ 7 _ (lines-stop (start .args .sheet .now) (loop .j) 7 (loop .j) (omega (arith, lines-is start)) (loop .inv .1)
+    (kind-stops (start .args .sheet .now) (loop .j) (omega (arith, kinds-is start, kind-is (c .before)))))
 
 add-byte-at : tie.Need-add-byte-at Inv-loop μ-loop
 add-byte-at c = search needs
@@ -68,10 +75,10 @@ byte-at-requires-2 c κs = search needs
 
 returns-2 : tie.Need-returns-2 Inv-loop μ-loop
 returns-2 c =
-    let d = c .before .before .before .before .before .before .before .before in
-    let l = c .before .before .before .before .before .before .loop in
-    refuses _ _ 8 _ (lines-stop (d .args .s .now) (l .j) 8 (l .j) (omega (arith, lines-is d)) (l .inv .1)
-    (code-stops (d .args .s .now) (l .j) (omega (arith, kinds-is d, kind-is (c .before .before .before))) (omega (arith, codes-is d, code-is (c .before)))))
+    let start = c .before .before .before .before .before .before .before .before in
+    let loop = c .before .before .before .before .before .before .loop in
+    refuses _ _ 8 _ (lines-stop (start .args .sheet .now) (loop .j) 8 (loop .j) (omega (arith, lines-is start)) (loop .inv .1)
+    (code-stops (start .args .sheet .now) (loop .j) (omega (arith, kinds-is start, kind-is (c .before .before .before))) (omega (arith, codes-is start, code-is (c .before)))))
 
 add-j : tie.Need-add-j Inv-loop μ-loop
 add-j c = search needs
@@ -81,17 +88,17 @@ loop-less c = search needs
 
 loop-again : tie.Need-loop-again Inv-loop μ-loop
 loop-again c =
-    let d = c .before .before .before .before .before .before .before .before in
-    let l = c .before .before .before .before .before .before .loop in (
+    let start = c .before .before .before .before .before .before .before .before in
+    let loop = c .before .before .before .before .before .before .loop in (
       search needs,
-      below-more _ _ (l .inv .1)
-          (line-passes (d .args .s .now) (l .j) (omega (arith, kinds-is d, kind-is (c .before .before .before))) (omega (arith, codes-is d, code-is (c .before)))),
+      below-more _ _ (loop .inv .1)
+          (line-passes (start .args .sheet .now) (loop .j) (omega (arith, kinds-is start, kind-is (c .before .before .before))) (omega (arith, codes-is start, code-is (c .before)))),
     )
 
 returns-3 : tie.Need-returns-3 Inv-loop μ-loop
 returns-3 c =
-    let d = c .before .before .before in
-    passes _ _ _ refl (lines-pass (d .args .s .now) (λ q h. c .before .loop .inv .1 q (omega (arith, lines-is d))))
+    let start = c .before .before .before in
+    passes _ _ _ refl (lines-pass (start .args .sheet .now) (λ q h. c .before .loop .inv .1 q (omega (arith, lines-is start))))
 
 pub check-lines-spec : {M : Type 1} → statement M
 check-lines-spec =

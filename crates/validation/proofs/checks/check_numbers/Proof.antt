@@ -16,33 +16,35 @@ use Rattle.validation.proofs.checks.check_numbers.Statement.{statement}
 use Rattle.validation.proofs.checks.check_numbers.Tie as tie
 
 -- The tests of the code are those of the checks.
-kinds-test : (c : tie.After-outside) → outside 1 mostKinds (kindCount (c .before .before .before .before .args .s .now)) ≡ c .outside .result
+kinds-test : (c : tie.After-outside) → let start = c .before .before .before .before in outside 1 mostKinds (kindCount (start .args .sheet .now)) ≡ c .outside .result
 kinds-test c = sym (c .outside .ensures ∙ ap (λ (d : Card). outside 1 mostKinds (d .kinds)) (c .before .of-header .ensures))
 
-codes-test : (c : tie.After-outside2) → outside 1 mostCodes (codeCount (c .before .before .before .before .before .before .args .s .now)) ≡ c .outside2 .result
+codes-test : (c : tie.After-outside2) → let start = c .before .before .before .before .before .before in outside 1 mostCodes (codeCount (start .args .sheet .now)) ≡ c .outside2 .result
 codes-test c = sym (c .outside2 .ensures ∙ ap (λ (d : Card). outside 1 mostCodes (d .codes)) (c .before .before .before .of-header .ensures))
 
 -- The first k of the checks do not apply.
 abbrev After : ℕ → List ℕ → Type 0
 After k s = firstOf (numberChecks s) ≡ firstOf (drop k (numberChecks s))
 
-after-length : (c : tie.Else1) → After 1 (c .before .before .args .s .now)
+after-length : (c : tie.Else1) → After 1 (c .before .before .args .sheet .now)
 unfolding headerChecks
 after-length c = less-passes 1 0 _ _ _ (c .if1 .left)
 
-after-kinds : (c : tie.Else2) → After 2 (c .before .before .before .before .before .args .s .now)
+after-kinds : (c : tie.Else2) → let start = c .before .before .before .before .before in After 2 (start .args .sheet .now)
 unfolding headerChecks
 after-kinds c = after-length (c .before .before .before) ∙ test-passes 2 0 _ _ (kinds-test (c .before) ∙ c .if2 .left)
 
-after-codes : (c : tie.Else3) → After 3 (c .before .before .before .before .before .before .before .args .s .now)
+after-codes : (c : tie.Else3) → let start = c .before .before .before .before .before .before .before in After 3 (start .args .sheet .now)
 unfolding headerChecks
 after-codes c = after-kinds (c .before .before) ∙ test-passes 3 0 _ _ (codes-test (c .before) ∙ c .if3 .left)
 
-after-lines : (c : tie.Else4) → After 4 (c .before .before .before .before .before .before .before .before .args .s .now)
+after-lines : (c : tie.Else4) → let start = c .before .before .before .before .before .before .before .before in After 4 (start .args .sheet .now)
 unfolding headerChecks
 after-lines c =
-    let e = ap (λ (d : Card). d .lines) (c .before .before .before .before .before .of-header .ensures) in
-    after-codes (c .before) ∙ less-passes 4 0 _ mostLines (lineCount (c .before .before .before .before .before .before .before .before .args .s .now)) (omega (arith, e))
+    let start = c .before .before .before .before .before .before .before .before in
+    let of-header = c .before .before .before .before .before .of-header in
+    let e = ap (λ (d : Card). d .lines) (of-header .ensures) in
+    after-codes (c .before) ∙ less-passes 4 0 _ mostLines (lineCount (start .args .sheet .now)) (omega (arith, e))
 
 returns : tie.Need-returns
 unfolding headerChecks
@@ -68,21 +70,27 @@ returns-3 c = refuses _ _ 3 0 (after-kinds (c .before .before) ∙ test-stops 3 
 returns-4 : tie.Need-returns-4
 unfolding headerChecks
 returns-4 c =
-    let e = ap (λ (d : Card). d .lines) (c .before .before .before .before .before .of-header .ensures) in
-    refuses _ _ 4 0 (after-codes (c .before) ∙ less-stops 4 0 _ mostLines (lineCount (c .before .before .before .before .before .before .before .before .args .s .now)) (omega (arith, e)))
+    let start = c .before .before .before .before .before .before .before .before in
+    let of-header = c .before .before .before .before .before .of-header in
+    let e = ap (λ (d : Card). d .lines) (of-header .ensures) in
+    refuses _ _ 4 0 (after-codes (c .before) ∙ less-stops 4 0 _ mostLines (lineCount (start .args .sheet .now)) (omega (arith, e)))
 
 returns-5 : tie.Need-returns-5
 unfolding headerChecks
 returns-5 c =
-    let e = ap (λ (d : Card). d .fields) (c .before .before .before .before .before .before .of-header .ensures) in
-    refuses _ _ 5 0 (after-lines (c .before) ∙ less-stops 5 0 _ mostFields (fieldCount (c .before .before .before .before .before .before .before .before .before .args .s .now)) (omega (arith, e)))
+    let start = c .before .before .before .before .before .before .before .before .before in
+    let of-header = c .before .before .before .before .before .before .of-header in
+    let e = ap (λ (d : Card). d .fields) (of-header .ensures) in
+    refuses _ _ 5 0 (after-lines (c .before) ∙ less-stops 5 0 _ mostFields (fieldCount (start .args .sheet .now)) (omega (arith, e)))
 
 returns-6 : tie.Need-returns-6
 unfolding headerChecks
 returns-6 c =
-    let e = ap (λ (d : Card). d .fields) (c .before .before .before .before .before .before .of-header .ensures) in
-    passes _ _ _ (c .before .before .before .before .before .before .of-header .ensures)
-    (after-lines (c .before) ∙ less-passes 5 0 _ mostFields (fieldCount (c .before .before .before .before .before .before .before .before .before .args .s .now)) (omega (arith, e)) ∙ clear-nil)
+    let start = c .before .before .before .before .before .before .before .before .before in
+    let of-header = c .before .before .before .before .before .before .of-header in
+    let e = ap (λ (d : Card). d .fields) (of-header .ensures) in
+    passes _ _ _ (of-header .ensures)
+    (after-lines (c .before) ∙ less-passes 5 0 _ mostFields (fieldCount (start .args .sheet .now)) (omega (arith, e)) ∙ clear-nil)
 
 pub check-numbers-spec : {M : Type 1} → statement M
 check-numbers-spec =

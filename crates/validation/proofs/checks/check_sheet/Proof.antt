@@ -8,13 +8,14 @@ use Rattle.validation.proofs.checks.check_sheet.Statement.{statement}
 use Rattle.validation.proofs.checks.check_sheet.Tie as tie
 
 -- What a card tells that passed the first part, and one that passed the second.
-numbers-told : (c : tie.After-card) → (c .card .given .0 .0 ≡ headerOf (c .before .before .before .before .args .s .now)) × (firstOf (numberChecks (c .before .before .before .before .args .s .now)) ≡ clear)
+numbers-told : (c : tie.After-card) → let start = c .before .before .before .before in (c .card .given .0 .0 ≡ headerOf (start .args .sheet .now)) × (firstOf (numberChecks (start .args .sheet .now)) ≡ clear)
 numbers-told c = passed-found _ _ _ (sym (c .before .before .check-numbers .ensures) ∙ c .card .given .1)
 
-layout-told : (c : tie.After-card2) → (c .card2 .given .0 .0 ≡ headerOf (c .before .before .before .before .before .before .before .before .args .s .now)) × (firstOf (layoutChecks (c .before .before .before .before .before .before .before .before .args .s .now)) ≡ clear)
+layout-told : (c : tie.After-card2) → let start = c .before .before .before .before .before .before .before .before in (c .card2 .given .0 .0 ≡ headerOf (start .args .sheet .now)) × (firstOf (layoutChecks (start .args .sheet .now)) ≡ clear)
 layout-told c =
+    let after-card = c .before .before .before .before in
     let t = passed-found _ _ _ (sym (c .before .before .check-layout .ensures) ∙ c .card2 .given .1) in
-    (t .0 ∙ numbers-told (c .before .before .before .before) .0, t .1)
+    (t .0 ∙ numbers-told after-card .0, t .1)
 
 check-numbers-requires : tie.Need-check-numbers-requires
 check-numbers-requires c κs = search needs
@@ -36,21 +37,24 @@ enum-known-card-2 c = search needs
 
 check-lines-requires : tie.Need-check-lines-requires
 check-lines-requires c κs =
+    let after-card = c .before .before .before .before .before in
     let t = layout-told (c .before) in
-    (t .0, header-passes _ (numbers-told (c .before .before .before .before .before) .1) (t .1))
+    (t .0, header-passes _ (numbers-told after-card .1) (t .1))
 
 returns : tie.Need-returns
 returns c = numbers-refuse _ _ _ (refused-found _ _ _ _ (sym (c .before .before .before .check-numbers .ensures) ∙ c .before .number .given .1))
 
 returns-2 : tie.Need-returns-2
 returns-2 c =
-    layout-refuse _ (numbers-told (c .before .before .before .before .before) .1) _ _
+    let after-card = c .before .before .before .before .before in
+    layout-refuse _ (numbers-told after-card .1) _ _
     (refused-found _ _ _ _ (sym (c .before .before .before .check-layout .ensures) ∙ c .before .number2 .given .1))
 
 returns-3 : tie.Need-returns-3
 returns-3 c =
+    let after-card = c .before .before .before .before .before .before in
     let t = layout-told (c .before .before) in
-    c .check-lines .ensures ∙ lines-decide _ (numbers-told (c .before .before .before .before .before .before) .1) _ (t .0) (t .1)
+    c .check-lines .ensures ∙ lines-decide _ (numbers-told after-card .1) _ (t .0) (t .1)
 
 pub check-sheet-spec : {M : Type 1} → statement M
 check-sheet-spec =

@@ -14,7 +14,9 @@ no-call-requires c κs = search needs
 
 returns : tie.Need-returns
 unfolding compareTold
-returns c = told-as _ (tells-nothing (c .before .before .before .before .before .args .out .now) (c .no-call .result) (c .no-call .ensures)) (two-other _ (c .before .before .before .before .before .args .numbers .now) (c .before .if1 .taken))
+returns c =
+    let start = c .before .before .before .before .before in
+    told-as _ (tells-nothing (start .args .out .now) (c .no-call .result) (c .no-call .ensures)) (two-other _ (start .args .numbers .now) (c .before .if1 .taken))
 
 shared-slice-read-compare : tie.Need-shared-slice-read-compare
 shared-slice-read-compare c = search needs
@@ -34,7 +36,10 @@ same-length c = search needs
 returns-2 : tie.Need-returns-2
 unfolding compareTold compareText
 returns-2 c =
-    told-as _ (c .before .before .put-verdict .ensures) (ap (λ a. told (verdictText a)) (c .before .before .before .before .compare .ensures) ∙ two-taken _ (c .before .before .before .before .before .before .before .before .before .before .before .args .numbers .now) (c .before .before .before .before .before .before .before .if1 .left))
+    let start = c .before .before .before .before .before .before .before .before .before .before .before in
+    let if1 = c .before .before .before .before .before .before .before .if1 in
+    let compare = c .before .before .before .before .compare in
+    told-as _ (c .before .before .put-verdict .ensures) (ap (λ a. told (verdictText a)) (compare .ensures) ∙ two-taken _ (start .args .numbers .now) (if1 .left))
 
 pub compare-fields-spec : {M : Type 1} → statement M
 compare-fields-spec =

@@ -32,21 +32,27 @@ same-length c = search needs
 
 returns : tie.Need-returns
 unfolding worded verdictText
-returns c = told-as _ (tells-answer (c .before .before .put-same .ensures)) (ap (λ v. told (verdictText (verdictOf v))) (sym (c .before .before .before .before .enum-told .given .1)))
+returns c =
+    let at-enum-told = c .before .before .before .before .enum-told in
+    told-as _ (tells-answer (c .before .before .put-same .ensures)) (ap (λ v. told (verdictText (verdictOf v))) (sym (at-enum-told .given .1)))
 
 same-length-2 : tie.Need-same-length-2
 same-length-2 c = search needs
 
 returns-2 : tie.Need-returns-2
 unfolding worded verdictText
-returns-2 c = told-as _ (tells-answer (c .before .before .put-different .ensures)) (ap (λ v. told (verdictText (verdictOf v))) (sym (c .before .before .before .before .before .verdict .given .1)))
+returns-2 c =
+    let verdict = c .before .before .before .before .before .verdict in
+    told-as _ (tells-answer (c .before .before .put-different .ensures)) (ap (λ v. told (verdictText (verdictOf v))) (sym (verdict .given .1)))
 
 same-length-3 : tie.Need-same-length-3
 same-length-3 c = search needs
 
 returns-3 : tie.Need-returns-3
 unfolding worded verdictText
-returns-3 c = told-as _ (c .before .before .refuse .ensures) (ap (λ v. told (verdictText (verdictOf v))) (sym (c .before .before .before .before .before .verdict2 .given .1)))
+returns-3 c =
+    let verdict2 = c .before .before .before .before .before .verdict2 in
+    told-as _ (c .before .before .refuse .ensures) (ap (λ v. told (verdictText (verdictOf v))) (sym (verdict2 .given .1)))
 
 pub put-verdict-spec : {M : Type 1} → statement M
 put-verdict-spec =

@@ -21,12 +21,15 @@ use Rattle.verbs.proofs.form.field_form.Statement.{statement}
 use Rattle.verbs.proofs.form.field_form.Tie as tie
 
 -- The sheet was accepted, so that the room suffices.
-few : (c : tie.After-put-form-line-arg) → c .before .of-header .result .kinds ≤ length (c .before .before .before .before .before .prime-form .last .1 .1 .0)
+few : (c : tie.After-put-counts-line-arg) → let prime-form = c .before .before .before .before .before .prime-form in c .before .of-header .result .kinds ≤ length (prime-form .last .1 .1 .0)
 few c =
+    let start = c .before .before .before .before .before .before .before .before .before .before .before .before .before in
+    let form-room = c .before .before .before .before .before .before .before .before .form-room in
+    let prime-form = c .before .before .before .before .before .prime-form in
     omega (
       arith,
       ap (λ (x : Card). x .kinds) (c .before .of-header .ensures),
-      formed-few (c .before .before .before .before .before .before .before .before .before .before .before .before .before .args .s .now) (getD (c .before .before .before .before .before .before .before .before .before .before .before .before .before .args .numbers .now) 0 0) (c .before .before .before .before .before .before .before .before .form-room .result) (ap formingOf (sym (c .before .before .enum-told .given .1)) ∙ c .before .before .before .before .before .prime-form .ensures .0),
+      formed-few (start .args .sheet .now) (getD (start .args .numbers .now) 0 0) (form-room .result) (ap formingOf (sym (c .before .before .enum-told .given .1)) ∙ prime-form .ensures .0),
     )
 
 no-call-requires : tie.Need-no-call-requires
@@ -34,7 +37,9 @@ no-call-requires c κs = search needs
 
 returns : tie.Need-returns
 unfolding formTold
-returns c = told-as _ (tells-nothing (c .before .before .before .before .before .args .out .now) (c .no-call .result) (c .no-call .ensures)) (one-other _ (c .before .before .before .before .before .args .numbers .now) (c .before .if1 .taken))
+returns c =
+    let start = c .before .before .before .before .before in
+    told-as _ (tells-nothing (start .args .out .now) (c .no-call .result) (c .no-call .ensures)) (one-other _ (start .args .numbers .now) (c .before .if1 .taken))
 
 form-room-requires : tie.Need-form-room-requires
 form-room-requires c κs = search needs
@@ -57,11 +62,14 @@ of-header-requires c κs = search needs
 array-share-prefix-form : tie.Need-array-share-prefix-form
 array-share-prefix-form c = few c
 
-slice-aggregate-put-form-line : tie.Need-slice-aggregate-put-form-line
-slice-aggregate-put-form-line c = sym (length-take-le _ _ (few (c .before)))
+slice-aggregate-put-counts-line : tie.Need-slice-aggregate-put-counts-line
+slice-aggregate-put-counts-line c = sym (length-take-le _ _ (few (c .before)))
 
-put-form-line-requires : tie.Need-put-form-line-requires
-put-form-line-requires c κs = omega (arith, c .before .before .before .before .before .before .before .before .before .before .before .before .before .before .pre, few (c .before), length-take-le (c .before .before .of-header .result .kinds) (c .before .before .before .before .before .before .prime-form .last .1 .1 .0) (few (c .before)))
+put-counts-line-requires : tie.Need-put-counts-line-requires
+put-counts-line-requires c κs =
+    let start = c .before .before .before .before .before .before .before .before .before .before .before .before .before .before in
+    let prime-form = c .before .before .before .before .before .before .prime-form in
+    omega (arith, start .pre, few (c .before), length-take-le (c .before .before .of-header .result .kinds) (prime-form .last .1 .1 .0) (few (c .before)))
 
 enum-known-number : tie.Need-enum-known-number
 enum-known-number c = search needs
@@ -76,13 +84,18 @@ returns-2 : tie.Need-returns-2
 unfolding formTold formText
 returns-2 c =
     let start = c .before .before .before .before .before .before .before .before .before .before .before .before .before .before .before .before .before in
+    let if1 = c .before .before .before .before .before .before .before .before .before .before .before .before .before .if1 in
+    let form-room = c .before .before .before .before .before .before .before .before .before .before .before .before .form-room in
+    let prime-form = c .before .before .before .before .before .before .before .before .before .prime-form in
+    let form = prime-form .last .1 .1 .0 in
+    let at-enum-told = c .before .before .before .before .before .before .enum-told in
+    let of-header = c .before .before .before .before .before .of-header in
     let field = getD (start .args .numbers .now) 0 0 in
-    let form = c .before .before .before .before .before .before .before .before .before .prime-form .last .1 .1 .0 in
-    let answers = ap formingOf (sym (c .before .before .before .before .before .before .enum-told .given .1)) ∙ c .before .before .before .before .before .before .before .before .before .prime-form .ensures .0 in
-    told-as _ (tells-answer (c .before .before .put-form-line .ensures))
-    (ap (λ (x : Card). told (given (countsLine (take (x .kinds) form)))) (c .before .before .before .before .before .of-header .ensures)
-    ∙ ap told (counts-answered (kindCount (start .args .s .now)) (formOf (start .args .s .now) field) (c .before .before .before .before .before .before .before .before .before .before .before .before .form-room .ensures) (c .before .before .before .before .before .before .before .before .before .prime-form .ensures .1) answers)
-    ∙ one-taken _ (start .args .numbers .now) (c .before .before .before .before .before .before .before .before .before .before .before .before .before .if1 .left))
+    let answers = ap formingOf (sym (at-enum-told .given .1)) ∙ prime-form .ensures .0 in
+    told-as _ (tells-answer (c .before .before .put-counts-line .ensures))
+    (ap (λ (x : Card). told (given (countsLine (take (x .kinds) form)))) (of-header .ensures)
+    ∙ ap told (counts-answered (kindCount (start .args .sheet .now)) (formOf (start .args .sheet .now) field) (form-room .ensures) (prime-form .ensures .1) answers)
+    ∙ one-taken _ (start .args .numbers .now) (if1 .left))
 
 same-length-2 : tie.Need-same-length-2
 same-length-2 c = search needs
@@ -91,11 +104,15 @@ returns-3 : tie.Need-returns-3
 unfolding formTold formText
 returns-3 c =
     let start = c .before .before .before .before .before .before .before .before .before .before .before .before .before .before .before .before in
+    let if1 = c .before .before .before .before .before .before .before .before .before .before .before .before .if1 in
+    let form-room = c .before .before .before .before .before .before .before .before .before .before .before .form-room in
+    let prime-form = c .before .before .before .before .before .before .before .before .prime-form in
+    let number = c .before .before .before .before .before .number in
     let field = getD (start .args .numbers .now) 0 0 in
-    let answers = ap formingOf (sym (c .before .before .before .before .before .number .given .1)) ∙ c .before .before .before .before .before .before .before .before .prime-form .ensures .0 in
+    let answers = ap formingOf (sym (number .given .1)) ∙ prime-form .ensures .0 in
     told-as _ (c .before .before .refuse .ensures)
-    (ap told (counts-refused (kindCount (start .args .s .now)) (formOf (start .args .s .now) field) (c .before .before .before .before .before .before .before .before .before .before .before .form-room .ensures) (c .before .before .before .before .before .before .before .before .prime-form .ensures .1) _ _ answers)
-    ∙ one-taken _ (start .args .numbers .now) (c .before .before .before .before .before .before .before .before .before .before .before .before .if1 .left))
+    (ap told (counts-refused (kindCount (start .args .sheet .now)) (formOf (start .args .sheet .now) field) (form-room .ensures) (prime-form .ensures .1) _ _ answers)
+    ∙ one-taken _ (start .args .numbers .now) (if1 .left))
 
 pub field-form-spec : {M : Type 1} → statement M
 field-form-spec =
@@ -110,8 +127,8 @@ field-form-spec =
     enum-told
     of-header-requires
     array-share-prefix-form
-    slice-aggregate-put-form-line
-    put-form-line-requires
+    slice-aggregate-put-counts-line
+    put-counts-line-requires
     enum-known-number
     refuse-requires
     same-length

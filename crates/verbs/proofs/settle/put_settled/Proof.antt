@@ -20,16 +20,21 @@ put-stages-requires c κs = search needs
 
 put-rows-requires : tie.Need-put-rows-requires
 put-rows-requires c κs =
+    let start = c .before .before .before .before .before .before .before .before .before in
+    let of-header = c .before .before .before .before .before .of-header in
     let stages = c .before .before .before .put-stages .ensures in
-    omega (arith, stages .ends, stages .size, stages .within, c .before .before .before .before .before .before .before .before .before .pre .0, c .before .before .before .before .before .before .before .before .before .pre .1, ap (λ (x : Card). x .kinds) (c .before .before .before .before .before .of-header .ensures))
+    omega (arith, stages .ends, stages .size, stages .within, start .pre .0, start .pre .1, ap (λ (x : Card). x .kinds) (of-header .ensures))
 
 same-length : tie.Need-same-length
 same-length c = search needs
 
 returns : tie.Need-returns
 returns c =
-    told-as _ (tells-answer (then (c .before .before .before .before .before .before .put-stages .ensures) (c .before .before .put-rows .ensures)))
-    (ap (λ (x : Card). told (given (stagesLine (c .before .before .before .before .before .before .before .before .before .before .before .before .args .stage) ++ rowLines (x .kinds) (c .before .before .before .before .before .before .before .before .before .before .before .before .args .table .now)))) (c .before .before .before .before .before .before .before .before .of-header .ensures))
+    let start = c .before .before .before .before .before .before .before .before .before .before .before .before in
+    let of-header = c .before .before .before .before .before .before .before .before .of-header in
+    let put-stages = c .before .before .before .before .before .before .put-stages in
+    told-as _ (tells-answer (then (put-stages .ensures) (c .before .before .put-rows .ensures)))
+    (ap (λ (x : Card). told (given (stagesLine (start .args .stage) ++ rowLines (x .kinds) (start .args .table .now)))) (of-header .ensures))
 
 pub put-settled-spec : {M : Type 1} → statement M
 put-settled-spec =

@@ -3,7 +3,7 @@ use mathlib.Core.Path.{refl}
 use native.Mathlib.Omega.{arith}
 use Rattle.model.specs.Page.{bytes, newline}
 use Rattle.text.proofs.Append.{then, reads-as}
-use Rattle.verbs.specs.Texts.{stagesLine}
+use Rattle.verbs.specs.Texts.{mostStages, stagesLine}
 use borrow.Author.Needs.{needs}
 use Rattle.verbs.proofs.settle.put_stages.Statement.{statement}
 use Rattle.verbs.proofs.settle.put_stages.Tie as tie
@@ -22,7 +22,10 @@ same-length c = search needs
 
 returns : tie.Need-returns
 unfolding stagesLine newline bytes
-returns c = reads-as 28 (stagesLine (c .before .before .before .before .before .before .before .before .before .before .args .stage)) (then (c .before .before .before .before .before .before .put-labelled .ensures) (c .before .before .put-byte .ensures)) (omega arith) refl
+returns c =
+    let start = c .before .before .before .before .before .before .before .before .before .before in
+    let put-labelled = c .before .before .before .before .before .before .put-labelled in
+    reads-as mostStages (stagesLine (start .args .stage)) (then (put-labelled .ensures) (c .before .before .put-byte .ensures)) (omega arith) refl
 
 pub put-stages-spec : {M : Type 1} → statement M
 put-stages-spec =

@@ -17,7 +17,9 @@ no-call-requires c κs = search needs
 
 returns : tie.Need-returns
 unfolding settleTold
-returns c = told-as _ (tells-nothing (c .before .before .before .before .before .args .out .now) (c .no-call .result) (c .no-call .ensures)) (none-other _ (c .before .before .before .before .before .args .numbers .now) (c .before .if1 .taken))
+returns c =
+    let start = c .before .before .before .before .before in
+    told-as _ (tells-nothing (start .args .out .now) (c .no-call .result) (c .no-call .ensures)) (none-other _ (start .args .numbers .now) (c .before .if1 .taken))
 
 table-room-requires : tie.Need-table-room-requires
 table-room-requires c κs = search needs
@@ -35,10 +37,13 @@ slice-aggregate-put-settled : tie.Need-slice-aggregate-put-settled
 slice-aggregate-put-settled c = search needs
 
 put-settled-requires : tie.Need-put-settled-requires
-put-settled-requires c κs = (
-  omega (arith, c .before .before .before .before .before .before .before .before .before .before .before .before .before .pre),
-  settled-few (c .before .before .before .before .before .before .before .before .before .before .before .before .before .args .s .now) (c .before .before .before .before .before .before .before .before .table-room .result) (c .before .before .before .stage .given .0 .0) (ap settlingOf (sym (c .before .before .before .stage .given .1)) ∙ c .before .before .before .before .before .before .settle-sheet .ensures .0),
-)
+put-settled-requires c κs =
+    let start = c .before .before .before .before .before .before .before .before .before .before .before .before .before in
+    let table-room = c .before .before .before .before .before .before .before .before .table-room in
+    let settle-sheet = c .before .before .before .before .before .before .settle-sheet in (
+      omega (arith, start .pre),
+      settled-few (start .args .sheet .now) (table-room .result) (c .before .before .before .stage .given .0 .0) (ap settlingOf (sym (c .before .before .before .stage .given .1)) ∙ settle-sheet .ensures .0),
+    )
 
 enum-known-number : tie.Need-enum-known-number
 enum-known-number c = search needs
@@ -53,10 +58,14 @@ returns-2 : tie.Need-returns-2
 unfolding settleTold
 returns-2 c =
     let start = c .before .before .before .before .before .before .before .before .before .before .before .before .before .before .before .before in
-    let answers = ap settlingOf (sym (c .before .before .before .before .before .before .stage .given .1)) ∙ c .before .before .before .before .before .before .before .before .before .settle-sheet .ensures .0 in
+    let if1 = c .before .before .before .before .before .before .before .before .before .before .before .before .if1 in
+    let table-room = c .before .before .before .before .before .before .before .before .before .before .before .table-room in
+    let settle-sheet = c .before .before .before .before .before .before .before .before .before .settle-sheet in
+    let stage = c .before .before .before .before .before .before .stage in
+    let answers = ap settlingOf (sym (stage .given .1)) ∙ settle-sheet .ensures .0 in
     told-as _ (c .before .before .put-settled .ensures)
-    (ap told (settle-answered (start .args .s .now) (c .before .before .before .before .before .before .before .before .before .before .before .table-room .result) (c .before .before .before .before .before .before .before .before .before .settle-sheet .last .1 .0) (c .before .before .before .before .before .before .before .before .before .before .before .table-room .ensures) (c .before .before .before .before .before .before .before .before .before .settle-sheet .ensures .1) (c .before .before .before .before .before .before .stage .given .0 .0) answers)
-    ∙ none-taken _ (start .args .numbers .now) (c .before .before .before .before .before .before .before .before .before .before .before .before .if1 .left))
+    (ap told (settle-answered (start .args .sheet .now) (table-room .result) (settle-sheet .last .1 .0) (table-room .ensures) (settle-sheet .ensures .1) (stage .given .0 .0) answers)
+    ∙ none-taken _ (start .args .numbers .now) (if1 .left))
 
 same-length-2 : tie.Need-same-length-2
 same-length-2 c = search needs
@@ -65,10 +74,14 @@ returns-3 : tie.Need-returns-3
 unfolding settleTold
 returns-3 c =
     let start = c .before .before .before .before .before .before .before .before .before .before .before .before .before .before .before in
-    let answers = ap settlingOf (sym (c .before .before .before .before .before .number .given .1)) ∙ c .before .before .before .before .before .before .before .before .settle-sheet .ensures .0 in
+    let if1 = c .before .before .before .before .before .before .before .before .before .before .before .if1 in
+    let table-room = c .before .before .before .before .before .before .before .before .before .before .table-room in
+    let settle-sheet = c .before .before .before .before .before .before .before .before .settle-sheet in
+    let number = c .before .before .before .before .before .number in
+    let answers = ap settlingOf (sym (number .given .1)) ∙ settle-sheet .ensures .0 in
     told-as _ (c .before .before .refuse .ensures)
-    (ap told (settle-refused (start .args .s .now) (c .before .before .before .before .before .before .before .before .before .before .table-room .result) (c .before .before .before .before .before .before .before .before .settle-sheet .last .1 .0) (c .before .before .before .before .before .before .before .before .before .before .table-room .ensures) (c .before .before .before .before .before .before .before .before .settle-sheet .ensures .1) _ _ answers)
-    ∙ none-taken _ (start .args .numbers .now) (c .before .before .before .before .before .before .before .before .before .before .before .if1 .left))
+    (ap told (settle-refused (start .args .sheet .now) (table-room .result) (settle-sheet .last .1 .0) (table-room .ensures) (settle-sheet .ensures .1) _ _ answers)
+    ∙ none-taken _ (start .args .numbers .now) (if1 .left))
 
 pub settle-spec : {M : Type 1} → statement M
 settle-spec =

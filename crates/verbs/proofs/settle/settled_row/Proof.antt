@@ -19,7 +19,9 @@ no-call-requires c κs = search needs
 
 returns : tie.Need-returns
 unfolding rowTold
-returns c = told-as _ (tells-nothing (c .before .before .before .before .before .args .out .now) (c .no-call .result) (c .no-call .ensures)) (one-other _ (c .before .before .before .before .before .args .numbers .now) (c .before .if1 .taken))
+returns c =
+    let start = c .before .before .before .before .before in
+    told-as _ (tells-nothing (start .args .out .now) (c .no-call .result) (c .no-call .ensures)) (one-other _ (start .args .numbers .now) (c .before .if1 .taken))
 
 shared-slice-read-kind : tie.Need-shared-slice-read-kind
 shared-slice-read-kind c = search needs
@@ -58,13 +60,18 @@ returns-2 : tie.Need-returns-2
 unfolding rowTold
 returns-2 c =
     let start = c .before .before .before .before .before .before .before .before .before .before .before .before .before .before .before .before .before in
+    let if1 = c .before .before .before .before .before .before .before .before .before .before .before .before .before .if1 in
+    let table-room = c .before .before .before .before .before .before .before .before .before .before .before .table-room in
+    let settle-sheet = c .before .before .before .before .before .before .before .before .before .settle-sheet in
+    let table = settle-sheet .last .1 .0 in
+    let at-enum-told = c .before .before .before .before .before .before .enum-told in
+    let of-header = c .before .before .before .before .before .of-header in
     let kind = getD (start .args .numbers .now) 0 0 in
-    let table = c .before .before .before .before .before .before .before .before .before .settle-sheet .last .1 .0 in
-    let answers = ap settlingOf (sym (c .before .before .before .before .before .before .enum-told .given .1)) ∙ c .before .before .before .before .before .before .before .before .before .settle-sheet .ensures .0 in
+    let answers = ap settlingOf (sym (at-enum-told .given .1)) ∙ settle-sheet .ensures .0 in
     told-as _ (c .before .before .put-row-of .ensures)
-    (ap (λ (x : Card). told (rowIn (x .kinds) kind table (rowCheckOf (x .kinds) kind table))) (c .before .before .before .before .before .of-header .ensures)
-    ∙ ap told (row-answered (start .args .s .now) (c .before .before .before .before .before .before .before .before .before .before .before .table-room .result) table (c .before .before .before .before .before .before .before .before .before .before .before .table-room .ensures) (c .before .before .before .before .before .before .before .before .before .settle-sheet .ensures .1) kind _ answers)
-    ∙ one-taken _ (start .args .numbers .now) (c .before .before .before .before .before .before .before .before .before .before .before .before .before .if1 .left))
+    (ap (λ (x : Card). told (rowIn (x .kinds) kind table (rowCheckOf (x .kinds) kind table))) (of-header .ensures)
+    ∙ ap told (row-answered (start .args .sheet .now) (table-room .result) table (table-room .ensures) (settle-sheet .ensures .1) kind _ answers)
+    ∙ one-taken _ (start .args .numbers .now) (if1 .left))
 
 same-length-2 : tie.Need-same-length-2
 same-length-2 c = search needs
@@ -73,11 +80,15 @@ returns-3 : tie.Need-returns-3
 unfolding rowTold
 returns-3 c =
     let start = c .before .before .before .before .before .before .before .before .before .before .before .before .before .before .before .before in
+    let if1 = c .before .before .before .before .before .before .before .before .before .before .before .before .if1 in
+    let table-room = c .before .before .before .before .before .before .before .before .before .before .table-room in
+    let settle-sheet = c .before .before .before .before .before .before .before .before .settle-sheet in
+    let number = c .before .before .before .before .before .number in
     let kind = getD (start .args .numbers .now) 0 0 in
-    let answers = ap settlingOf (sym (c .before .before .before .before .before .number .given .1)) ∙ c .before .before .before .before .before .before .before .before .settle-sheet .ensures .0 in
+    let answers = ap settlingOf (sym (number .given .1)) ∙ settle-sheet .ensures .0 in
     told-as _ (c .before .before .refuse .ensures)
-    (ap told (row-refused (start .args .s .now) (c .before .before .before .before .before .before .before .before .before .before .table-room .result) (c .before .before .before .before .before .before .before .before .settle-sheet .last .1 .0) (c .before .before .before .before .before .before .before .before .before .before .table-room .ensures) (c .before .before .before .before .before .before .before .before .settle-sheet .ensures .1) kind _ _ answers)
-    ∙ one-taken _ (start .args .numbers .now) (c .before .before .before .before .before .before .before .before .before .before .before .before .if1 .left))
+    (ap told (row-refused (start .args .sheet .now) (table-room .result) (settle-sheet .last .1 .0) (table-room .ensures) (settle-sheet .ensures .1) kind _ _ answers)
+    ∙ one-taken _ (start .args .numbers .now) (if1 .left))
 
 pub settled-row-spec : {M : Type 1} → statement M
 settled-row-spec =

@@ -26,8 +26,10 @@ same-length c = search needs
 returns : tie.Need-returns
 unfolding bytes
 returns c =
-    reads-as 52 (wordOf (given (different (c .before .before .before .before .before .before .before .before .before .before .before .args .stage) (c .before .before .before .before .before .before .before .before .before .before .before .args .rounds)))) (then (c .before .before .before .before .before .before .put-two-labelled .ensures) (c .before .before .put-byte .ensures)) (omega arith)
-    (different-is (c .before .before .before .before .before .before .before .before .before .before .before .args .stage) (c .before .before .before .before .before .before .before .before .before .before .before .args .rounds))
+    let start = c .before .before .before .before .before .before .before .before .before .before .before in
+    let put-two-labelled = c .before .before .before .before .before .before .put-two-labelled in
+    reads-as 52 (wordOf (given (different (start .args .stage) (start .args .rounds)))) (then (put-two-labelled .ensures) (c .before .before .put-byte .ensures)) (omega arith)
+    (different-is (start .args .stage) (start .args .rounds))
 
 pub put-different-spec : {M : Type 1} → statement M
 put-different-spec =

@@ -26,7 +26,8 @@ returns : tie.Need-returns
 unfolding bytes
 returns c =
     let start = c .before .before .before .before .before .before .before .before .before .before .before in
-    reads-as 50 (refusedLine (start .args .number) (start .args .place)) (then (c .before .before .before .before .before .before .put-two-labelled .ensures) (c .before .before .put-byte .ensures))
+    let put-two-labelled = c .before .before .before .before .before .before .put-two-labelled in
+    reads-as 50 (refusedLine (start .args .number) (start .args .place)) (then (put-two-labelled .ensures) (c .before .before .put-byte .ensures))
     (omega arith) (refused-is (start .args .number) (start .args .place))
 
 pub put-refused-spec : {M : Type 1} → statement M

@@ -23,7 +23,9 @@ same-length c = search needs
 returns : tie.Need-returns
 unfolding bytes
 returns c =
-    reads-as 28 (startText (c .before .before .before .before .before .before .before .before .before .before .args .later)) (then (c .before .before .before .before .before .before .put-labelled .ensures) (c .before .before .put-byte .ensures)) (omega arith) (start-is (c .before .before .before .before .before .before .before .before .before .before .args .later))
+    let start = c .before .before .before .before .before .before .before .before .before .before in
+    let put-labelled = c .before .before .before .before .before .before .put-labelled in
+    reads-as 28 (startText (start .args .later)) (then (put-labelled .ensures) (c .before .before .put-byte .ensures)) (omega arith) (start-is (start .args .later))
 
 pub put-start-spec : {M : Type 1} → statement M
 put-start-spec =

@@ -4,7 +4,7 @@ use borrow.Author.Needs.{needs}
 use native.Mathlib.Omega.{arith}
 use mathlib.Core.Path.{_≡_, sym, ap, _∙_}
 use mathlib.Core.Bool.{true, false}
-use Prim.Native.Nat.{_+_, _-_, _≤_}
+use Prim.Native.Nat.{_+_, _-_, _*_, _≤_}
 use Rattle.model.specs.Field.{at}
 use Rattle.model.specs.Limits.{mostRounds}
 use Rattle.model.specs.Sheet.{cardOf}
@@ -15,21 +15,29 @@ use Rattle.theory.proofs.Counted.{pair-spent}
 use Rattle.sheet.proofs.Laws.{lines-most}
 use Rattle.game.specs.Rounds.{countedOf}
 use Rattle.moves.proofs.Fields.{bounded-less}
-use Rattle.game.proofs.Steps.{pair-challenged}
+use Rattle.game.proofs.Steps.{Challenged, pair-challenged}
 use Rattle.walker.proofs.Tries.{plays-of, plays-as, walkFrom, starts, none-left, tries-within, tries-spent, tries-apart, tries-on}
 use Rattle.walker.proofs.entry.try_rounds.Statement.{statement}
 use Rattle.walker.proofs.entry.try_rounds.Tie as tie
 
 abbrev Inv-loop : tie.InvT-loop
-Inv-loop card s t a b limit allowance challenges left₀ rounds₀ left rounds =
+Inv-loop s card table first second limit allowance challenges left₀ rounds₀ left rounds =
     (1 ≤ rounds)
     × (rounds ≤ limit + 1)
     × (left ≤ allowance)
-    × (walkFrom (cardOf s .lines) (at a) (at b) allowance left rounds (limit + 1 - rounds)
-    ≡ within allowance (walk (cardOf s .lines) (at a) (at b) 1 limit))
+    × (walkFrom (cardOf s .lines) (at first) (at second) allowance left rounds (limit + 1 - rounds)
+    ≡ within allowance (walk (cardOf s .lines) (at first) (at second) 1 limit))
 
 abbrev μ-loop : tie.MeasureT-loop
-μ-loop card s t a b limit allowance challenges left₀ rounds₀ left rounds = limit + 1 - rounds
+μ-loop s card table first second limit allowance challenges left₀ rounds₀ left rounds = limit + 1 - rounds
+
+-- The start, from the state in which something is left for the pair itself.
+abbrev start : tie.Else1 Inv-loop μ-loop → tie.Start Inv-loop μ-loop
+start c = c .before .before .before .before .before
+
+-- The state in which something is left for the pair itself, from that in which the challenges to the pair are tried.
+abbrev tested : tie.After-challenge Inv-loop μ-loop → tie.Else1 Inv-loop μ-loop
+tested c = c .before .before
 
 mul-challenges : tie.Need-mul-challenges Inv-loop μ-loop
 mul-challenges c = omega (arith, lines-most (c .before .before .pre .0 .0))
@@ -41,8 +49,8 @@ loop-holds c =
       omega arith,
       omega arith,
       omega arith,
-      ap (walkFrom (cardOf (a .s .now) .lines) (at (a .a .now)) (at (a .b .now)) (a .allowance) (a .allowance) 1) z
-          ∙ starts (cardOf (a .s .now) .lines) (at (a .a .now)) (at (a .b .now)) (a .allowance) 1 (a .limit),
+      ap (walkFrom (cardOf (a .sheet .now) .lines) (at (a .first .now)) (at (a .second .now)) (a .allowance) (a .allowance) 1) z
+          ∙ starts (cardOf (a .sheet .now) .lines) (at (a .first .now)) (at (a .second .now)) (a .allowance) 1 (a .limit),
     )
 
 spend-requires : tie.Need-spend-requires Inv-loop μ-loop
@@ -51,28 +59,39 @@ spend-requires c κs = search needs
 -- Nothing is left for the pair itself.
 returns : tie.Need-returns Inv-loop μ-loop
 returns c =
-    let a = c .before .before .before .before .before .before .args in
-    let l = c .before .before .before .loop in
+    let loop = c .before .before .before in
+    let a = loop .before .before .before .args in
+    let l = loop .loop in
     plays-as (c .spend .result) (c .spend .ensures)
-    (tries-spent (cardOf (a .s .now) .lines) (at (a .a .now)) (at (a .b .now)) (a .allowance) (l .left) (l .rounds) (a .limit + 1 - l .rounds) (l .inv .2) (a .limit - l .rounds) (omega (arith, c .before .before .loop-test .taken))
-    (sym (pair-spent (cardOf (a .s .now) .lines) (at (a .a .now)) (at (a .b .now)) (l .left) (l .rounds) (c .before .if1 .taken)))
+    (tries-spent (cardOf (a .sheet .now) .lines) (at (a .first .now)) (at (a .second .now)) (a .allowance) (l .left) (l .rounds) (a .limit + 1 - l .rounds) (l .inv .2) (a .limit - l .rounds) (omega (arith, c .before .before .loop-test .taken))
+    (sym (pair-spent (cardOf (a .sheet .now) .lines) (at (a .first .now)) (at (a .second .now)) (l .left) (l .rounds) (c .before .if1 .taken)))
     ∙ l .inv .3)
 
-sub-challenge : tie.Need-sub-challenge Inv-loop μ-loop
-sub-challenge c = search needs
+sub-new : tie.Need-sub-new Inv-loop μ-loop
+sub-new c = search needs
+
+new-requires : tie.Need-new-requires Inv-loop μ-loop
+new-requires c κs = search needs
 
 challenge-requires : tie.Need-challenge-requires Inv-loop μ-loop
 challenge-requires c κs =
-    let p = c .before .before .before .before .before .pre in
-    let l = c .before .before .loop in
-    let h : l .rounds ≤ mostRounds = omega (arith, p .1 .0, c .before .loop-test .taken) in
-    (p .0, (omega (arith, l .inv), (bounded-less mostRounds (l .rounds) _ h (p .1 .1 .0), bounded-less mostRounds (l .rounds) _ h (p .1 .1 .1))))
+    let p = start (c .before) .pre in
+    let l = c .before .before .before .loop in
+    let h : l .rounds ≤ mostRounds = omega (arith, p .1 .0, c .before .before .loop-test .taken) in
+    rw (c .new .ensures) (p .0, (omega (arith, l .inv), (bounded-less mostRounds (l .rounds) _ h (p .1 .1 .0), bounded-less mostRounds (l .rounds) _ h (p .1 .1 .1))))
+
+-- What the challenges to the pair come to at these rounds.
+challenges-told : (c : tie.After-challenge Inv-loop μ-loop)
+    → countedOf (c .challenge .result) ≡ cut (tested c .before .before .loop .left - 1) (Challenged (start (tested c) .pre .0 .0) (tested c .before .before .loop .rounds - 1) (at (start (tested c) .args .first .now)) (at (start (tested c) .args .second .now)) 0 (2 * start (tested c) .args .card .lines))
+challenges-told c = rw (c .before .new .ensures) at (c .challenge .ensures)
 
 -- What the pair comes to at these rounds.
-pair-examined : (c : tie.After-challenge Inv-loop μ-loop) → countedOf (c .challenge .result) ≡ cut (c .before .before .before .loop .left) (examine (cardOf (c .before .before .before .before .before .before .args .s .now) .lines) (c .before .before .before .loop .rounds) (at (c .before .before .before .before .before .before .args .a .now)) (at (c .before .before .before .before .before .before .args .b .now)))
+pair-examined : (c : tie.After-challenge Inv-loop μ-loop)
+    → countedOf (c .challenge .result) ≡ cut (tested c .before .before .loop .left) (examine (cardOf (start (tested c) .args .sheet .now) .lines) (tested c .before .before .loop .rounds) (at (start (tested c) .args .first .now)) (at (start (tested c) .args .second .now)))
 pair-examined c =
-    let l = c .before .before .before .loop in
-    c .challenge .ensures ∙ pair-challenged (c .before .before .before .before .before .before .pre .0 .0) (l .rounds) (l .left) (at (c .before .before .before .before .before .before .args .a .now)) (at (c .before .before .before .before .before .before .args .b .now)) (c .before .if1 .left) (λ z. omega (arith, l .inv .0))
+    let a = start (tested c) .args in
+    let l = tested c .before .before .loop in
+    challenges-told c ∙ pair-challenged (start (tested c) .pre .0 .0) (l .rounds) (l .left) (at (a .first .now)) (at (a .second .now)) (tested c .if1 .left) (λ z. omega (arith, l .inv .0))
 
 enum-known-rest : tie.Need-enum-known-rest Inv-loop μ-loop
 enum-known-rest c = search needs
@@ -80,18 +99,20 @@ enum-known-rest c = search needs
 enum-known-rest-2 : tie.Need-enum-known-rest-2 Inv-loop μ-loop
 enum-known-rest-2 c = search needs
 
-sub-t17 : tie.Need-sub-t17 Inv-loop μ-loop
-sub-t17 c =
-    let a = c .before .before .before .before .before .before .before .before .before .args in
-    let l = c .before .before .before .before .before .before .loop in
-    omega (arith, l .inv .2, tries-within (cardOf (a .s .now) .lines) (at (a .a .now)) (at (a .b .now)) (a .allowance) (l .left) (l .rounds) (a .limit + 1 - l .rounds) (l .inv .2) false _ (sym (pair-examined (c .before .before .before)) ∙ ap countedOf (c .before .rest2 .given .1)))
+sub-t18 : tie.Need-sub-t18 Inv-loop μ-loop
+sub-t18 c =
+    let examined = c .before .before .before in
+    let a = start (tested examined) .args in
+    let l = tested examined .before .before .loop in
+    omega (arith, l .inv .2, tries-within (cardOf (a .sheet .now) .lines) (at (a .first .now)) (at (a .second .now)) (a .allowance) (l .left) (l .rounds) (a .limit + 1 - l .rounds) (l .inv .2) false _ (sym (pair-examined examined) ∙ ap countedOf (c .before .rest2 .given .1)))
 
 returns-2 : tie.Need-returns-2 Inv-loop μ-loop
 returns-2 c =
-    let a = c .before .before .before .before .before .before .before .before .before .args in
-    let l = c .before .before .before .before .before .before .loop in
+    let examined = c .before .before .before in
+    let a = start (tested examined) .args in
+    let l = tested examined .before .before .loop in
     plays-of
-    (tries-apart (cardOf (a .s .now) .lines) (at (a .a .now)) (at (a .b .now)) (a .allowance) (l .left) (l .rounds) (a .limit + 1 - l .rounds) (l .inv .2) (a .limit - l .rounds) (omega (arith, c .before .before .before .before .before .loop-test .taken)) _ (sym (pair-examined (c .before .before .before)) ∙ ap countedOf (c .before .rest2 .given .1))
+    (tries-apart (cardOf (a .sheet .now) .lines) (at (a .first .now)) (at (a .second .now)) (a .allowance) (l .left) (l .rounds) (a .limit + 1 - l .rounds) (l .inv .2) (a .limit - l .rounds) (omega (arith, tested examined .before .loop-test .taken)) _ (sym (pair-examined examined) ∙ ap countedOf (c .before .rest2 .given .1))
     ∙ l .inv .3)
 
 enum-told : tie.Need-enum-told Inv-loop μ-loop
@@ -102,40 +123,44 @@ spend-requires-2 c κs = search needs
 
 returns-3 : tie.Need-returns-3 Inv-loop μ-loop
 returns-3 c =
-    let a = c .before .before .before .before .before .before .before .before .before .args in
-    let l = c .before .before .before .before .before .before .loop in
+    let examined = c .before .before .before in
+    let a = start (tested examined) .args in
+    let l = tested examined .before .before .loop in
     plays-as (c .spend2 .result) (c .spend2 .ensures)
-    (tries-spent (cardOf (a .s .now) .lines) (at (a .a .now)) (at (a .b .now)) (a .allowance) (l .left) (l .rounds) (a .limit + 1 - l .rounds) (l .inv .2) (a .limit - l .rounds) (omega (arith, c .before .before .before .before .before .loop-test .taken)) (sym (pair-examined (c .before .before .before)) ∙ ap countedOf (c .before .enum-told .given .1))
+    (tries-spent (cardOf (a .sheet .now) .lines) (at (a .first .now)) (at (a .second .now)) (a .allowance) (l .left) (l .rounds) (a .limit + 1 - l .rounds) (l .inv .2) (a .limit - l .rounds) (omega (arith, tested examined .before .loop-test .taken)) (sym (pair-examined examined) ∙ ap countedOf (c .before .enum-told .given .1))
     ∙ l .inv .3)
 
 add-rounds : tie.Need-add-rounds Inv-loop μ-loop
-add-rounds c = omega (arith, c .before .before .before .before .before .loop-test .taken, c .before .before .before .before .before .before .before .before .before .pre .1 .0)
+add-rounds c = let before = tested (c .before .before .before) in omega (arith, before .before .loop-test .taken, start before .pre .1 .0)
 
 loop-less : tie.Need-loop-less Inv-loop μ-loop
-loop-less c = omega (arith, c .before .before .before .before .before .loop-test .taken)
+loop-less c = omega (arith, tested (c .before .before .before) .before .loop-test .taken)
 
 loop-again : tie.Need-loop-again Inv-loop μ-loop
 loop-again c =
-    let a = c .before .before .before .before .before .before .before .before .before .args in
-    let l = c .before .before .before .before .before .before .loop in
-    let e = sym (pair-examined (c .before .before .before)) ∙ ap countedOf (c .before .rest .given .1) in
+    let examined = c .before .before .before in
+    let a = start (tested examined) .args in
+    let l = tested examined .before .before .loop in
+    let more = tested examined .before .loop-test .taken in
+    let e = sym (pair-examined examined) ∙ ap countedOf (c .before .rest .given .1) in
     let z : a .limit + 1 - (l .rounds + 1) ≡ a .limit - l .rounds = omega arith in (
       omega arith,
-      omega (arith, c .before .before .before .before .before .loop-test .taken),
-      tries-within (cardOf (a .s .now) .lines) (at (a .a .now)) (at (a .b .now)) (a .allowance) (l .left) (l .rounds) (a .limit + 1 - l .rounds) (l .inv .2) true _ e,
-      ap (walkFrom (cardOf (a .s .now) .lines) (at (a .a .now)) (at (a .b .now)) (a .allowance) (c .before .rest .given .0 .0) (l .rounds + 1)) z
-          ∙ tries-on (cardOf (a .s .now) .lines) (at (a .a .now)) (at (a .b .now)) (a .allowance) (l .left) (l .rounds) (a .limit + 1 - l .rounds) (l .inv .2) (a .limit - l .rounds) (omega (arith, c .before .before .before .before .before .loop-test .taken)) _ e
+      omega (arith, more),
+      tries-within (cardOf (a .sheet .now) .lines) (at (a .first .now)) (at (a .second .now)) (a .allowance) (l .left) (l .rounds) (a .limit + 1 - l .rounds) (l .inv .2) true _ e,
+      ap (walkFrom (cardOf (a .sheet .now) .lines) (at (a .first .now)) (at (a .second .now)) (a .allowance) (c .before .rest .given .0 .0) (l .rounds + 1)) z
+          ∙ tries-on (cardOf (a .sheet .now) .lines) (at (a .first .now)) (at (a .second .now)) (a .allowance) (l .left) (l .rounds) (a .limit + 1 - l .rounds) (l .inv .2) (a .limit - l .rounds) (omega (arith, more)) _ e
           ∙ l .inv .3,
     )
 
-sub-t19 : tie.Need-sub-t19 Inv-loop μ-loop
-sub-t19 c = omega (arith, c .before .loop .inv .2)
+sub-t20 : tie.Need-sub-t20 Inv-loop μ-loop
+sub-t20 c = omega (arith, c .before .loop .inv .2)
 
 returns-4 : tie.Need-returns-4 Inv-loop μ-loop
 returns-4 c =
-    let a = c .before .before .before .before .args in
-    let l = c .before .loop in
-    plays-of (none-left (cardOf (a .s .now) .lines) (at (a .a .now)) (at (a .b .now)) (a .allowance) (l .left) (l .rounds) (a .limit + 1 - l .rounds) (l .inv .2) (omega (arith, c .loop-test .left)) ∙ l .inv .3)
+    let loop = c .before in
+    let a = loop .before .before .before .args in
+    let l = loop .loop in
+    plays-of (none-left (cardOf (a .sheet .now) .lines) (at (a .first .now)) (at (a .second .now)) (a .allowance) (l .left) (l .rounds) (a .limit + 1 - l .rounds) (l .inv .2) (omega (arith, c .loop-test .left)) ∙ l .inv .3)
 
 pub try-rounds-spec : {M : Type 1} → statement M
 try-rounds-spec =
@@ -147,11 +172,12 @@ try-rounds-spec =
     loop-holds
     spend-requires
     returns
-    sub-challenge
+    sub-new
+    new-requires
     challenge-requires
     enum-known-rest
     enum-known-rest-2
-    sub-t17
+    sub-t18
     returns-2
     enum-told
     spend-requires-2
@@ -159,5 +185,5 @@ try-rounds-spec =
     add-rounds
     loop-less
     loop-again
-    sub-t19
+    sub-t20
     returns-4)

@@ -1,55 +1,55 @@
--- 11 at the first field's number, then at the second's, then 13; a call that passes them walks.
+-- 13; a call that passes it walks.
 use borrow.Author.Needs.{needs}
 use native.Mathlib.Omega.{arith}
 use mathlib.Core.Path.{ap, _∙_}
 use Prim.Native.Nat.{_<_}
 use Rattle.model.specs.Field.{at}
 use Rattle.model.specs.Sheet.{fieldCount}
-use Rattle.sheet.proofs.Laws.{fields-are, field-counts-at}
+use Rattle.sheet.proofs.Laws.{Bytes, fields-are, field-counts-at}
 use Rattle.walker.specs.Answers.{sessionOf}
 use Rattle.moves.proofs.Fields.{field-bounded}
 use Rattle.walker.proofs.Tries.{plays-most}
-use Rattle.walker.proofs.Refusals.{first-refused, second-refused, limit-refused, call-walks}
+use Rattle.walker.proofs.Refusals.{limit-refused, call-walks}
 use Rattle.walker.proofs.entry.walk_card.Statement.{statement}
 use Rattle.walker.proofs.entry.walk_card.Tie as tie
+
+-- The start, from the state in which the limit is checked.
+abbrev start : tie.Else1 → tie.Start
+start c = c .before .before
+
+-- The state in which the limit is checked, from that in which the table is made.
+abbrev passed : tie.After-fill-table → tie.Else1
+passed c = c .before .before .before .before
+
+-- The state in which the table is made, from that in which the allowance left is read.
+abbrev tabled : tie.After-left-of → tie.After-fill-table
+tabled c = c .before .before
+
+-- The state in which the allowance left is read, from that in which both fields are lent.
+abbrev lent : tie.After-second-field → tie.After-left-of
+lent c = c .before .before .before
+
+-- The first number is a field's.
+first-field : (start : tie.Start) → start .args .first < fieldCount (start .args .sheet .now)
+first-field start = omega (arith, fields-are (start .pre .0), start .pre .1 .0)
+
+-- The second number is a field's.
+second-field : (start : tie.Start) → start .args .second < fieldCount (start .args .sheet .now)
+second-field start = omega (arith, fields-are (start .pre .0), start .pre .1 .1)
+
+-- The sheet is of bytes.
+bytes : (c : tie.Else1) → Bytes (start c .args .sheet .now)
+bytes c = λ k. omega (arith, c .before .shared-slice-known .given k)
 
 refuse-requires : tie.Need-refuse-requires
 refuse-requires c κs = search needs
 
 returns : tie.Need-returns
 returns c =
-    let a = c .before .before .before .args in
-    let read = c .before .before .before .pre in
+    let start = c .before .before .before in
+    let a = start .args in
     c .refuse .ensures
-    ∙ first-refused (a .s .now) (a .first) (a .second) (a .limit) (a .desk) (sessionOf (a .session)) (read .1) (read .0 .passed) (omega (arith, fields-are (read .0), c .before .if1 .taken))
-
-refuse-requires-2 : tie.Need-refuse-requires-2
-refuse-requires-2 c κs = search needs
-
--- The first number is a field's, and the second.
-first-field : (c : tie.Else1) → c .before .before .args .first < fieldCount (c .before .before .args .s .now)
-first-field c = omega (arith, fields-are (c .before .before .pre .0), c .if1 .left)
-
-second-field : (c : tie.Else2) → c .before .before .before .args .second < fieldCount (c .before .before .before .args .s .now)
-second-field c = omega (arith, fields-are (c .before .before .before .pre .0), c .if2 .left)
-
-returns-2 : tie.Need-returns-2
-returns-2 c =
-    let a = c .before .before .before .before .args in
-    let read = c .before .before .before .before .pre in
-    c .refuse2 .ensures
-    ∙ second-refused (a .s .now) (a .first) (a .second) (a .limit) (a .desk) (sessionOf (a .session)) (read .1) (read .0 .passed) (first-field (c .before .before))
-    (omega (arith, fields-are (read .0), c .before .if2 .taken))
-
-refuse-requires-3 : tie.Need-refuse-requires-3
-refuse-requires-3 c κs = search needs
-
-returns-3 : tie.Need-returns-3
-returns-3 c =
-    let a = c .before .before .before .before .before .args in
-    let read = c .before .before .before .before .before .pre in
-    c .refuse3 .ensures
-    ∙ limit-refused (a .s .now) (a .first) (a .second) (a .limit) (a .desk) (sessionOf (a .session)) (read .1) (read .0 .passed) (first-field (c .before .before .before)) (second-field (c .before .before)) (omega (arith, c .before .if3 .taken))
+    ∙ limit-refused (a .sheet .now) (a .first) (a .second) (a .limit) (a .desk) (sessionOf (a .session)) (start .pre .1 .2) (start .pre .0 .passed) (first-field start) (second-field start) (omega (arith, c .before .if1 .taken))
 
 field-requires : tie.Need-field-requires
 field-requires c κs = search needs
@@ -68,30 +68,38 @@ left-of-requires c κs = search needs
 
 try-rounds-requires : tie.Need-try-rounds-requires
 try-rounds-requires c κs =
-    let a = c .before .before .before .before .before .before .before .before .before .before .before .before .before .args in
-    let read = c .before .before .before .before .before .before .before .before .before .before .before .before .before .pre .0 in (
-      (read, c .before .before .before .before .before .fill-table .ensures),
+    let table = tabled (lent c) in
+    let limited = passed table in
+    let a = start limited .args in
+    let read = start limited .pre .0 in (
+      (read, table .fill-table .ensures),
       (
-        omega (arith, c .before .before .before .before .before .before .before .before .before .if3 .left),
+        omega (arith, limited .if1 .left),
         (
-          field-bounded read (a .first) _ (c .before .before .before .before .before .before .before .before .field .ensures) (λ k. omega (arith, c .before .before .before .before .before .before .before .before .before .before .before .before .shared-slice-known .given k)),
-          field-bounded read (a .second) _ (c .before .before .before .before .before .before .before .field2 .ensures) (λ k. omega (arith, c .before .before .before .before .before .before .before .before .before .before .before .before .shared-slice-known .given k)),
+          field-bounded read (a .first) _ (table .before .before .before .field .ensures) (bytes limited),
+          field-bounded read (a .second) _ (table .before .before .field2 .ensures) (bytes limited),
         ),
       ),
     )
 
 draw-requires : tie.Need-draw-requires
-draw-requires c κs = (c .before .before .before .before .before .before .before .before .before .before .before .before .before .before .pre .1, omega (arith, plays-most (c .try-rounds .result) _ _ (c .try-rounds .ensures), c .before .before .before .before .left-of .ensures))
+draw-requires c κs =
+    let own = lent (c .before) in
+    (start (passed (tabled own)) .pre .1 .2, omega (arith, plays-most (c .try-rounds .result) _ _ (c .try-rounds .ensures), own .left-of .ensures))
 
-returns-4 : tie.Need-returns-4
-returns-4 c =
-    let a = c .before .before .before .before .before .before .before .before .before .before .before .before .before .before .before .args in
-    let read = c .before .before .before .before .before .before .before .before .before .before .before .before .before .before .before .pre in
+returns-2 : tie.Need-returns-2
+returns-2 c =
+    let played = c .before in
+    let own = lent (played .before) in
+    let table = tabled own in
+    let limited = passed table in
+    let begun = start limited in
+    let a = begun .args in
     c .draw .ensures
-    ∙ call-walks (a .s .now) (a .first) (a .second) (a .limit) (a .desk) (sessionOf (a .session)) (read .1) (read .0 .passed) (first-field (c .before .before .before .before .before .before .before .before .before .before .before .before .before)) (second-field (c .before .before .before .before .before .before .before .before .before .before .before .before)) (omega (arith, c .before .before .before .before .before .before .before .before .before .before .before .if3 .left)) _ _ _
-    (ap at (c .before .before .before .before .before .before .before .before .before .before .field .ensures) ∙ field-counts-at (read .0) (a .first))
-    (ap at (c .before .before .before .before .before .before .before .before .before .field2 .ensures) ∙ field-counts-at (read .0) (a .second))
-    (c .before .before .before .before .before .left-of .ensures) (c .before .try-rounds .result) (c .before .try-rounds .ensures)
+    ∙ call-walks (a .sheet .now) (a .first) (a .second) (a .limit) (a .desk) (sessionOf (a .session)) (begun .pre .1 .2) (begun .pre .0 .passed) (first-field begun) (second-field begun) (omega (arith, limited .if1 .left)) _ _ _
+    (ap at (table .before .before .before .field .ensures) ∙ field-counts-at (begun .pre .0) (a .first))
+    (ap at (table .before .before .field2 .ensures) ∙ field-counts-at (begun .pre .0) (a .second))
+    (own .left-of .ensures) (played .try-rounds .result) (played .try-rounds .ensures)
 
 pub walk-card-spec : {M : Type 1} → statement M
 walk-card-spec =
@@ -99,10 +107,6 @@ walk-card-spec =
     (tie.spec
     refuse-requires
     returns
-    refuse-requires-2
-    returns-2
-    refuse-requires-3
-    returns-3
     field-requires
     field-requires-2
     slice-aggregate-fill-table
@@ -110,4 +114,4 @@ walk-card-spec =
     left-of-requires
     try-rounds-requires
     draw-requires
-    returns-4)
+    returns-2)

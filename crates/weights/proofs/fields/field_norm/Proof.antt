@@ -38,13 +38,14 @@ wide32-requires-2 c κs = search needs
 
 -- What a turn adds.
 more : (c : tie.After-wide322 Inv-loop μ-loop)
-    → let l = c .before .before .before .loop in
-    let a = c .before .before .before .before .args in
-    SumMore (l .kind) (at (a .t2)) (at (a .t3)) (l .sum) (c .before .wide32 .result * c .wide322 .result) (2 ^ 64)
+    → let args = c .before .before .before .before .args in
+    let loop = c .before .before .before .loop in
+    SumMore (loop .kind) (at (args .t2)) (at (args .t3)) (loop .sum) (c .before .wide32 .result * c .wide322 .result) (2 ^ 64)
 more c =
-    let l = c .before .before .before .loop in
-    let a = c .before .before .before .before .args in
-    sum-more (l .kind) (a .kinds) (at (a .t2)) (at (a .t3)) (2 ^ 64) (l .sum) (c .before .wide32 .result) (c .wide322 .result) (omega arith) (c .before .before .before .before .pre .1) (l .inv .0) (c .before .wide32 .ensures)
+    let start = c .before .before .before .before in
+    let args = start .args in
+    let loop = c .before .before .before .loop in
+    sum-more (loop .kind) (args .kinds) (at (args .t2)) (at (args .t3)) (2 ^ 64) (loop .sum) (c .before .wide32 .result) (c .wide322 .result) (omega arith) (start .pre .1) (loop .inv .0) (c .before .wide32 .ensures)
     (c .wide322 .ensures)
 
 mul-sum : tie.Need-mul-sum Inv-loop μ-loop

@@ -35,12 +35,12 @@ element-copy-out-value c = search needs
 
 returns : tie.Need-returns Inv-loop μ-loop
 returns c =
-    let a = c .before .before .before .before .before .before .before .args in
-    let i = c .before .before .before .before .before .loop .i in
-    let n = length (a .counts .now) in
+    let args = c .before .before .before .before .before .before .before .args in
+    let loop-i = c .before .before .before .before .before .loop .i in
+    let n = length (args .counts .now) in
     omega (
       arith,
-      read-missing n (at (a .values .now)) (at (a .counts .now)) (ready-false n (at (a .values .now)) (at (a .counts .now)) i (omega arith) (c .before .before .if1 .taken) (c .if2 .taken)),
+      read-missing n (at (args .values .now)) (at (args .counts .now)) (ready-false n (at (args .values .now)) (at (args .counts .now)) loop-i (omega arith) (c .before .before .if1 .taken) (c .if2 .taken)),
     )
 
 wide8-requires : tie.Need-wide8-requires Inv-loop μ-loop
@@ -51,23 +51,27 @@ wide32-requires c κs = search needs
 
 -- What a turn adds of a kind that has tokens.
 more : (c : tie.In-loop Inv-loop μ-loop)
-    → let a = c .before .before .before .args in
-    (x y : ℕ) → x ≡ at (a .counts .now) (c .before .loop .i) → y ≡ at (a .values .now) (c .before .loop .i)
-    → SumMore (c .before .loop .i) (at (a .values .now)) (at (a .counts .now)) (c .before .loop .sum) (x * y) (2 ^ 64)
+    → let args = c .before .before .before .args in
+    (x y : ℕ) → x ≡ at (args .counts .now) (c .before .loop .i) → y ≡ at (args .values .now) (c .before .loop .i)
+    → SumMore (c .before .loop .i) (at (args .values .now)) (at (args .counts .now)) (c .before .loop .sum) (x * y) (2 ^ 64)
 more c x y p q =
-    let b = c .before .before .before in
-    let n = length (b .args .counts .now) in
-    let l = c .before .loop in
+    let start = c .before .before .before in
+    let loop = c .before .loop in
+    let n = length (start .args .counts .now) in
     let fits =
-    bytes-fit n (at (b .args .values .now)) (at (b .args .counts .now)) (b .pre .0) (b .pre .1)
+    bytes-fit n (at (start .args .values .now)) (at (start .args .counts .now)) (start .pre .0) (start .pre .1)
     (λ k. omega (arith, c .before .before .shared-slice-known .given k)) in
-    sum-more (l .i) n (at (b .args .values .now)) (at (b .args .counts .now)) (2 ^ 64) (l .sum) x y (omega arith) fits (l .inv .2) p q
+    sum-more (loop .i) n (at (start .args .values .now)) (at (start .args .counts .now)) (2 ^ 64) (loop .sum) x y (omega arith) fits (loop .inv .2) p q
 
 mul-sum : tie.Need-mul-sum Inv-loop μ-loop
-mul-sum c = record { fits = more (c .before .before .before .before .before .before) _ _ (c .before .wide8 .ensures) (c .wide32 .ensures) .product-fits }
+mul-sum c =
+    let in-loop = c .before .before .before .before .before .before in
+    record { fits = more in-loop _ _ (c .before .wide8 .ensures) (c .wide32 .ensures) .product-fits }
 
 add-sum : tie.Need-add-sum Inv-loop μ-loop
-add-sum c = record { fits = more (c .before .before .before .before .before .before) _ _ (c .before .wide8 .ensures) (c .wide32 .ensures) .sum-fits }
+add-sum c =
+    let in-loop = c .before .before .before .before .before .before in
+    record { fits = more in-loop _ _ (c .before .wide8 .ensures) (c .wide32 .ensures) .sum-fits }
 
 add-i : tie.Need-add-i Inv-loop μ-loop
 add-i c = search needs
@@ -77,25 +81,23 @@ loop-less c = search needs
 
 loop-again : tie.Need-loop-again Inv-loop μ-loop
 loop-again c =
-    let t = c .before .before in
-    let a = t .before .before .before .args in
-    let l = t .before .loop in (
+    let args = c .before .before .before .before .before .args in
+    let loop = c .before .before .before .loop in
+    let in-loop = c .before .before in (
       search needs,
-      ready-more _ _ _ (l .inv .1) (⊎-elim (λ u q. omega (arith, u .2 .left)) (λ u q. absurd (omega (arith, u .0 .left))) (c .if1 .came)),
-      ⊎-elim (λ u. u .5 ∙ more t _ _ (u .3 .ensures) (u .4 .ensures) .sum-is)
-          (λ u. u .1 ∙ l .inv .2 ∙ sum-same (l .i) (at (a .values .now)) (at (a .counts .now)) (omega (arith, u .0 .left))) (c .if1 .came),
+      ready-more _ _ _ (loop .inv .1) (⊎-elim (λ u q. omega (arith, u .2 .left)) (λ u q. absurd (omega (arith, u .0 .left))) (c .if1 .came)),
+      ⊎-elim (λ u. u .5 ∙ more in-loop _ _ (u .3 .ensures) (u .4 .ensures) .sum-is)
+          (λ u. u .1 ∙ loop .inv .2 ∙ sum-same (loop .i) (at (args .values .now)) (at (args .counts .now)) (omega (arith, u .0 .left))) (c .if1 .came),
     )
 
 -- The read's value, where each kind that is left has one.
-value-told : (c : tie.After-loop Inv-loop μ-loop)
-    → let a = c .before .before .before .args in
-    readValue (length (a .counts .now)) (at (a .values .now)) (at (a .counts .now)) ≡ suc (c .before .loop .sum)
+value-told : (c : tie.After-loop Inv-loop μ-loop) → let args = c .before .before .before .args in readValue (length (args .counts .now)) (at (args .values .now)) (at (args .counts .now)) ≡ suc (c .before .loop .sum)
 value-told c =
-    let a = c .before .before .before .args in
-    let l = c .before .loop in
-    let n = length (a .counts .now) in
-    let z : l .i ≡ n = omega arith in
-    read-ready n (at (a .values .now)) (at (a .counts .now)) (ready-true n (at (a .values .now)) (at (a .counts .now)) (rw z at (l .inv .1))) ∙ ap suc (sym (rw z at (l .inv .2)))
+    let args = c .before .before .before .args in
+    let loop = c .before .loop in
+    let n = length (args .counts .now) in
+    let z : loop .i ≡ n = omega arith in
+    read-ready n (at (args .values .now)) (at (args .counts .now)) (ready-true n (at (args .values .now)) (at (args .counts .now)) (rw z at (loop .inv .1))) ∙ ap suc (sym (rw z at (loop .inv .2)))
 
 cast-if3 : tie.Need-cast-if3 Inv-loop μ-loop
 cast-if3 c = search needs

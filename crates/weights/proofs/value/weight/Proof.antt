@@ -36,13 +36,15 @@ wide32-requires c κs = search needs
 
 -- What a turn adds.
 more : (c : tie.After-wide32 Inv-loop μ-loop)
-    → let a = c .before .before .before .before .before .before .before .args in
-    SumMore (c .before .before .before .before .before .loop .i) (at (a .values .now)) (at (a .counts .now)) (c .before .before .before .before .before .loop .sum) (c .before .wide8 .result * c .wide32 .result) (2 ^ 64)
+    → let args = c .before .before .before .before .before .before .before .args in
+    let loop = c .before .before .before .before .before .loop in
+    SumMore (loop .i) (at (args .values .now)) (at (args .counts .now)) (loop .sum) (c .before .wide8 .result * c .wide32 .result) (2 ^ 64)
 more c =
-    let a = c .before .before .before .before .before .before .before .args in
-    let l = c .before .before .before .before .before .loop in
-    sum-more (l .i) (length (a .counts .now)) (at (a .values .now)) (at (a .counts .now)) (2 ^ 64) (l .sum) (c .before .wide8 .result) (c .wide32 .result) (omega arith)
-    (c .before .before .before .before .before .before .before .pre .1) (l .inv .1) (c .before .wide8 .ensures) (c .wide32 .ensures)
+    let start = c .before .before .before .before .before .before .before in
+    let args = start .args in
+    let loop = c .before .before .before .before .before .loop in
+    sum-more (loop .i) (length (args .counts .now)) (at (args .values .now)) (at (args .counts .now)) (2 ^ 64) (loop .sum) (c .before .wide8 .result) (c .wide32 .result) (omega arith)
+    (start .pre .1) (loop .inv .1) (c .before .wide8 .ensures) (c .wide32 .ensures)
 
 mul-sum : tie.Need-mul-sum Inv-loop μ-loop
 mul-sum c = record { fits = more c .product-fits }

@@ -26,19 +26,32 @@ digit-requires : tie.Need-digit-requires Inv-loop μ-loop
 digit-requires c κs = search needs
 
 returns-2 : tie.Need-returns-2 Inv-loop μ-loop
-returns-2 c = reading-other (c .before .before .before .before .before .before .before .args .most) (c .before .before .before .before .before .before .before .args .word .now) (c .before .before .before .before .loop .value) (c .before .before .before .before .loop .i) (c .before .digit .result) (c .before .before .before .before .loop .inv) (c .before .before .before .loop-test .taken) (c .before .digit .ensures) (c .if2 .taken)
+returns-2 c =
+    let start = c .before .before .before .before .before .before .before in
+    let loop = c .before .before .before .before .loop in
+    reading-other (start .args .most) (start .args .word .now) (loop .value) (loop .i) (c .before .digit .result) (loop .inv) (c .before .before .before .loop-test .taken) (c .before .digit .ensures) (c .if2 .taken)
 
 sub-if3 : tie.Need-sub-if3 Inv-loop μ-loop
-sub-if3 c = omega (arith, c .if2 .left, c .before .before .before .before .before .before .before .pre)
+sub-if3 c =
+    let start = c .before .before .before .before .before .before .before in
+    omega (arith, c .if2 .left, start .pre)
 
 returns-3 : tie.Need-returns-3 Inv-loop μ-loop
-returns-3 c = reading-over (c .before .before .before .before .before .before .before .before .args .most) (c .before .before .before .before .before .before .before .before .args .word .now) (c .before .before .before .before .before .loop .value) (c .before .before .before .before .before .loop .i) (c .before .before .digit .result) (c .before .before .before .before .before .loop .inv) (c .before .before .before .before .loop-test .taken) (c .before .before .digit .ensures) (c .before .if2 .left) (c .before .before .before .before .before .before .before .before .pre) (c .if3 .taken)
+returns-3 c =
+    let start = c .before .before .before .before .before .before .before .before in
+    let loop = c .before .before .before .before .before .loop in
+    let loop-test = c .before .before .before .before .loop-test in
+    reading-over (start .args .most) (start .args .word .now) (loop .value) (loop .i) (c .before .before .digit .result) (loop .inv) (loop-test .taken) (c .before .before .digit .ensures) (c .before .if2 .left) (start .pre) (c .if3 .taken)
 
 mul-value : tie.Need-mul-value Inv-loop μ-loop
-mul-value c = omega (arith, c .if3 .left, c .before .before .before .before .before .before .before .before .fits)
+mul-value c =
+    let fits = c .before .before .before .before .before .before .before .before .fits in
+    omega (arith, c .if3 .left, fits)
 
 add-value : tie.Need-add-value Inv-loop μ-loop
-add-value c = omega (arith, c .if3 .left, c .before .if2 .left, c .before .before .before .before .before .before .before .before .fits, c .before .before .before .before .before .before .before .before .pre)
+add-value c =
+    let start = c .before .before .before .before .before .before .before .before in
+    omega (arith, c .if3 .left, c .before .if2 .left, start .fits, start .pre)
 
 add-i : tie.Need-add-i Inv-loop μ-loop
 add-i c = search needs
@@ -47,10 +60,16 @@ loop-less : tie.Need-loop-less Inv-loop μ-loop
 loop-less c = search needs
 
 loop-again : tie.Need-loop-again Inv-loop μ-loop
-loop-again c = reading-on (c .before .before .before .before .before .before .before .before .args .most) (c .before .before .before .before .before .before .before .before .args .word .now) (c .before .before .before .before .before .loop .value) (c .before .before .before .before .before .loop .i) (c .before .before .digit .result) (c .before .before .before .before .before .loop .inv) (c .before .before .before .before .loop-test .taken) (c .before .before .digit .ensures) (c .before .if2 .left) (c .before .before .before .before .before .before .before .before .pre) (c .if3 .left)
+loop-again c =
+    let start = c .before .before .before .before .before .before .before .before in
+    let loop = c .before .before .before .before .before .loop in
+    let loop-test = c .before .before .before .before .loop-test in
+    reading-on (start .args .most) (start .args .word .now) (loop .value) (loop .i) (c .before .before .digit .result) (loop .inv) (loop-test .taken) (c .before .before .digit .ensures) (c .before .if2 .left) (start .pre) (c .if3 .left)
 
 returns-4 : tie.Need-returns-4 Inv-loop μ-loop
-returns-4 c = reading-ends (c .before .before .before .before .args .most) (c .before .before .before .before .args .word .now) (c .before .loop .value) (c .before .loop .i) 0 (c .before .loop .inv) (c .loop-test .left)
+returns-4 c =
+    let start = c .before .before .before .before in
+    reading-ends (start .args .most) (start .args .word .now) (c .before .loop .value) (c .before .loop .i) 0 (c .before .loop .inv) (c .loop-test .left)
 
 pub number-spec : {M : Type 1} → statement M
 number-spec =

@@ -31,21 +31,30 @@ word-end-requires c κs = search needs
 
 add-end : tie.Need-add-end Inv-loop μ-loop
 add-end c =
-    omega (arith, c .word-end .ensures, first-within (part (c .before .before .before .before .before .before .args .text .now) (c .before .before .before .loop .at)), part-length (c .before .before .before .before .before .before .args .text .now) (c .before .before .before .loop .at))
+    let start = c .before .before .before .before .before .before in
+    omega (arith, c .word-end .ensures, first-within (part (start .args .text .now) (c .before .before .before .loop .at)), part-length (start .args .text .now) (c .before .before .before .loop .at))
 
 same-length : tie.Need-same-length Inv-loop μ-loop
-same-length c = c .before .before .before .before .loop .inv .size
+same-length c =
+    let loop = c .before .before .before .before .loop in
+    loop .inv .size
 
 returns : tie.Need-returns Inv-loop μ-loop
 returns c =
-    (counting-stops (length (c .before .before .before .before .before .before .before .args .values .now)) (c .before .before .before .before .before .before .before .args .text .now) (c .before .before .before .before .loop .values) (c .before .before .before .before .loop .at) (c .before .before .before .before .loop .count) (c .before .before .before .before .loop .inv) (c .before .word-end .result) (c .before .word-end .ensures) (c .if1 .taken), c .before .before .before .before .loop .inv .room)
+    let start = c .before .before .before .before .before .before .before in
+    let loop = c .before .before .before .before .loop in
+    (counting-stops (length (start .args .values .now)) (start .args .text .now) (loop .values) (loop .at) (loop .count) (loop .inv) (c .before .word-end .result) (c .before .word-end .ensures) (c .if1 .taken), loop .inv .room)
 
 same-length-2 : tie.Need-same-length-2 Inv-loop μ-loop
-same-length-2 c = c .before .before .before .before .before .loop .inv .size
+same-length-2 c =
+    let loop = c .before .before .before .before .before .loop in
+    loop .inv .size
 
 returns-2 : tie.Need-returns-2 Inv-loop μ-loop
 returns-2 c =
-    (counting-full (length (c .before .before .before .before .before .before .before .before .args .values .now)) (c .before .before .before .before .before .before .before .before .args .text .now) (c .before .before .before .before .before .loop .values) (c .before .before .before .before .before .loop .at) (c .before .before .before .before .before .loop .count) (c .before .before .before .before .before .loop .inv) (c .before .before .word-end .result) (c .before .before .word-end .ensures) (omega (arith, c .before .if1 .left)) (omega (arith, c .before .before .before .before .before .loop .inv .size, c .if2 .taken)), tt)
+    let start = c .before .before .before .before .before .before .before .before in
+    let loop = c .before .before .before .before .before .loop in
+    (counting-full (length (start .args .values .now)) (start .args .text .now) (loop .values) (loop .at) (loop .count) (loop .inv) (c .before .before .word-end .result) (c .before .before .word-end .ensures) (omega (arith, c .before .if1 .left)) (omega (arith, loop .inv .size, c .if2 .taken)), tt)
 
 sub-number : tie.Need-sub-number Inv-loop μ-loop
 sub-number c = omega arith
@@ -66,37 +75,56 @@ enum-told : tie.Need-enum-told Inv-loop μ-loop
 enum-told c = search needs
 
 same-length-3 : tie.Need-same-length-3 Inv-loop μ-loop
-same-length-3 c = c .before .before .before .before .before .before .before .before .before .loop .inv .size
+same-length-3 c =
+    let loop = c .before .before .before .before .before .before .before .before .before .loop in
+    loop .inv .size
 
 returns-3 : tie.Need-returns-3 Inv-loop μ-loop
 returns-3 c =
-    (counting-other (length (c .before .before .before .before .before .before .before .before .before .before .before .before .args .values .now)) (c .before .before .before .before .before .before .before .before .before .before .before .before .args .text .now) (c .before .before .before .before .before .before .before .before .before .loop .values) (c .before .before .before .before .before .before .before .before .before .loop .at) (c .before .before .before .before .before .before .before .before .before .loop .count) (c .before .before .before .before .before .before .before .before .before .loop .inv) (c .before .before .before .before .before .before .word-end .result) (c .before .before .before .before .before .before .word-end .ensures) (omega (arith, c .before .before .before .before .before .if1 .left)) (omega (arith, c .before .before .before .before .before .before .before .before .before .loop .inv .size, c .before .before .before .before .if2 .left)) (sym (c .before .before .number .ensures) ∙ c .enum-told .given .1), tt)
+    let start = c .before .before .before .before .before .before .before .before .before .before .before .before in
+    let loop = c .before .before .before .before .before .before .before .before .before .loop in
+    let word-end = c .before .before .before .before .before .before .word-end in
+    let inside = c .before .before .before .before .before .if1 .left in
+    let room = c .before .before .before .before .if2 .left in
+    (counting-other (length (start .args .values .now)) (start .args .text .now) (loop .values) (loop .at) (loop .count) (loop .inv) (word-end .result) (word-end .ensures) (omega (arith, inside)) (omega (arith, loop .inv .size, room)) (sym (c .before .before .number .ensures) ∙ c .enum-told .given .1), tt)
 
 mul-values : tie.Need-mul-values Inv-loop μ-loop
 mul-values c = search needs
 
 slice-write-values : tie.Need-slice-write-values Inv-loop μ-loop
-slice-write-values c = omega (arith, c .before .before .before .before .before .if2 .left)
+slice-write-values c =
+    let room = c .before .before .before .before .before .if2 .left in
+    omega (arith, room)
 
 add-count : tie.Need-add-count Inv-loop μ-loop
 add-count c = search needs
 
 add-at : tie.Need-add-at Inv-loop μ-loop
-add-at c = omega (arith, c .before .before .before .before .before .before .if1 .left)
+add-at c =
+    let inside = c .before .before .before .before .before .before .if1 .left in
+    omega (arith, inside)
 
 loop-less : tie.Need-loop-less Inv-loop μ-loop
-loop-less c = omega (arith, c .before .before .before .before .before .before .if1 .left)
+loop-less c =
+    let inside = c .before .before .before .before .before .before .if1 .left in
+    omega (arith, inside)
 
 loop-again : tie.Need-loop-again Inv-loop μ-loop
 loop-again c =
-    counting-on (length (c .before .before .before .before .before .before .before .before .before .before .before .before .before .args .values .now)) (c .before .before .before .before .before .before .before .before .before .before .before .before .before .args .text .now) (c .before .before .before .before .before .before .before .before .before .before .loop .values) (c .before .before .before .before .before .before .before .before .before .before .loop .at) (c .before .before .before .before .before .before .before .before .before .before .loop .count) (c .before .before .before .before .before .before .before .before .before .before .loop .inv) (c .before .before .before .before .before .before .before .word-end .result) (c .before .before .before .before .before .before .before .word-end .ensures) (omega (arith, c .before .before .before .before .before .before .if1 .left)) (omega (arith, c .before .before .before .before .before .before .before .before .before .before .loop .inv .size, c .before .before .before .before .before .if2 .left)) (c .before .value .given .0 .0) (sym (c .before .before .before .number .ensures) ∙ c .before .value .given .1)
+    let start = c .before .before .before .before .before .before .before .before .before .before .before .before .before in
+    let loop = c .before .before .before .before .before .before .before .before .before .before .loop in
+    let word-end = c .before .before .before .before .before .before .before .word-end in
+    let inside = c .before .before .before .before .before .before .if1 .left in
+    let room = c .before .before .before .before .before .if2 .left in
+    counting-on (length (start .args .values .now)) (start .args .text .now) (loop .values) (loop .at) (loop .count) (loop .inv) (word-end .result) (word-end .ensures) (omega (arith, inside)) (omega (arith, loop .inv .size, room)) (c .before .value .given .0 .0) (sym (c .before .before .before .number .ensures) ∙ c .before .value .given .1)
 
 same-length-4 : tie.Need-same-length-4 Inv-loop μ-loop
 same-length-4 c = c .before .loop .inv .size
 
 returns-4 : tie.Need-returns-4 Inv-loop μ-loop
 returns-4 c =
-    (counting-ends (length (c .before .before .before .before .args .values .now)) (c .before .before .before .before .args .text .now) (c .before .loop .values) (c .before .loop .at) (c .before .loop .count) (c .before .loop .inv) (c .loop-test .left), c .before .loop .inv .room)
+    let start = c .before .before .before .before in
+    (counting-ends (length (start .args .values .now)) (start .args .text .now) (c .before .loop .values) (c .before .loop .at) (c .before .loop .count) (c .before .loop .inv) (c .loop-test .left), c .before .loop .inv .room)
 
 pub numbers-in-spec : {M : Type 1} → statement M
 numbers-in-spec =

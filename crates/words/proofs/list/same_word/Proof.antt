@@ -28,7 +28,9 @@ shared-slice-read-if2-2 c = omega arith
 
 returns-2 : tie.Need-returns-2 Inv-loop μ-loop
 returns-2 c =
-    same-off (c .before .before .before .before .before .before .args .word .now) (c .before .before .before .before .before .before .args .other .now) (c .before .before .before .before .loop .i) (omega arith) (omega arith) (c .before .before .before .before .loop .inv .2) (c .if2 .taken)
+    let start = c .before .before .before .before .before .before in
+    let loop = c .before .before .before .before .loop in
+    same-off (start .args .word .now) (start .args .other .now) (loop .i) (omega arith) (omega arith) (loop .inv .2) (c .if2 .taken)
 
 add-i : tie.Need-add-i Inv-loop μ-loop
 add-i c = omega arith
@@ -38,7 +40,9 @@ loop-less c = omega arith
 
 loop-again : tie.Need-loop-again Inv-loop μ-loop
 loop-again c =
-    (omega arith, c .before .before .before .before .loop .inv .1, same-on (c .before .before .before .before .before .before .args .word .now) (c .before .before .before .before .before .before .args .other .now) (c .before .before .before .before .loop .i) (omega arith) (omega arith) (c .before .before .before .before .loop .inv .2) (c .if2 .left))
+    let start = c .before .before .before .before .before .before in
+    let loop = c .before .before .before .before .loop in
+    (omega arith, loop .inv .1, same-on (start .args .word .now) (start .args .other .now) (loop .i) (omega arith) (omega arith) (loop .inv .2) (c .if2 .left))
 
 returns-3 : tie.Need-returns-3 Inv-loop μ-loop
 returns-3 c = same-ends (c .before .before .before .args .word .now) (c .before .before .before .args .other .now) (c .before .loop .i) (omega arith) (omega arith) (c .before .loop .inv .2)

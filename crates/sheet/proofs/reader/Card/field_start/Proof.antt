@@ -13,22 +13,22 @@ mul-result c = search needs
 
 mul-result-2 : tie.Need-mul-result-2
 mul-result-2 c =
-    let a = c .before .before .args in
-    let p = c .before .before .pre in
-    omega (arith, field-start-small (a .self .kinds) (a .i) (p .0) (p .2))
+    let args = c .before .before .args in
+    let pre = c .before .before .pre in
+    omega (arith, field-start-small (args .self .kinds) (args .field) (pre .0) (pre .2))
 
 add-result : tie.Need-add-result
 add-result c =
-    let a = c .before .before .args in
-    let p = c .before .before .pre in
-    omega (arith, field-start-small (a .self .kinds) (a .i) (p .0) (p .2))
+    let args = c .before .before .args in
+    let pre = c .before .before .pre in
+    omega (arith, field-start-small (args .self .kinds) (args .field) (pre .0) (pre .2))
 
 returns : tie.Need-returns
 returns c =
-    let a = c .before .before .args in
-    let p = c .before .before .pre in (
+    let args = c .before .before .args in
+    let pre = c .before .before .pre in (
       omega (arith, c .before .line-start .ensures .0),
-      omega (arith, c .before .line-start .ensures .0, line-start-small (a .self .kinds) (a .self .lines) (p .0) (p .1), field-start-small (a .self .kinds) (a .i) (p .0) (p .2)),
+      omega (arith, c .before .line-start .ensures .0, line-start-small (args .self .kinds) (args .self .lines) (pre .0) (pre .1), field-start-small (args .self .kinds) (args .field) (pre .0) (pre .2)),
     )
 
 pub field-start-spec : {M : Type 1} → statement M

@@ -22,12 +22,12 @@ part-result-start : tie.Need-part-result-start
 part-result-start c = search needs
 
 part-result-end : tie.Need-part-result-end
-part-result-end c = omega (arith, line-inside (c .before .before .before .pre .0) (c .before .before .before .args .j) (c .before .before .before .pre .1), c .before .line-start .ensures .0)
+part-result-end c = omega (arith, line-inside (c .before .before .before .pre .0) (c .before .before .before .args .line) (c .before .before .before .pre .1), c .before .line-start .ensures .0)
 
 returns : tie.Need-returns
 returns c =
-    let d = c .before .before .before .before in
-    counts-read (d .pre .0) (d .args .j) _ (c .before .before .line-start .ensures .0) (d .pre .1)
+    let start = c .before .before .before .before in
+    counts-read (start .pre .0) (start .args .line) _ (c .before .before .line-start .ensures .0) (start .pre .1)
 
 pub line-counts-spec : {M : Type 1} → statement M
 line-counts-spec =

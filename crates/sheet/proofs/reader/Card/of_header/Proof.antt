@@ -18,7 +18,8 @@ u16-at-requires-4 c κs = search needs
 
 returns : tie.Need-returns
 returns c =
-    header-read (c .before .before .before .before .before .args .s .now) _ _ _ _ (c .before .before .before .u16-at .ensures .0) (c .before .before .u16-at2 .ensures .0) (c .before .u16-at3 .ensures .0)
+    let start = c .before .before .before .before .before in
+    header-read (start .args .sheet .now) _ _ _ _ (c .before .before .before .u16-at .ensures .0) (c .before .before .u16-at2 .ensures .0) (c .before .u16-at3 .ensures .0)
     (c .u16-at4 .ensures .0)
 
 pub of-header-spec : {M : Type 1} → statement M

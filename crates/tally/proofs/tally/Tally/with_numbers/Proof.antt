@@ -1,4 +1,4 @@
--- Each number is counted by its own test.
+-- Each number is counted by its own test; a state is named after the number that was counted last.
 use borrow.Author.Needs.{needs}
 use mathlib.Core.Bool.{Bool}
 use mathlib.Core.Path.{ap, _∙_}
@@ -60,20 +60,25 @@ counted-requires-12 c κs = search needs
 
 returns : tie.Need-returns
 returns c =
-    let a = c .before .before .before .before .before .before .before .before .before .before .before .before .before .before .before .before .before .before .before .args in
+    let undecided = c .before .before .before in
+    let later = undecided .before .before .before in
+    let one = later .before .before .before in
+    let unlike = one .before .before .before in
+    let played = unlike .before .before .before in
+    let a = played .before .before .before .before .args in
     equal-tallies
-    (c .before .before .before .before .before .before .before .before .before .before .before .before .before .before .counted .ensures)
-    (c .before .before .before .before .before .before .before .before .before .before .before .before .counted2 .ensures ∙ ap (λ (t : Bool). countedOf t (a .self .unlike)) (c .before .before .before .before .before .before .before .before .before .before .before .before .before .both .ensures))
-    (c .before .before .before .before .before .before .before .before .before .before .before .counted3 .ensures)
-    (c .before .before .before .before .before .before .before .before .before .before .counted4 .ensures)
-    (c .before .before .before .before .before .before .before .before .before .counted5 .ensures)
-    (c .before .before .before .before .before .before .before .before .counted6 .ensures)
-    (c .before .before .before .before .before .before .before .counted7 .ensures)
-    (c .before .before .before .before .before .before .counted8 .ensures)
-    (c .before .before .before .before .counted9 .ensures ∙ ap (λ (t : Bool). countedOf t (a .self .early)) (c .before .before .before .before .before .between .ensures))
-    (c .before .before .before .before .before .before .before .before .before .before .before .before .before .before .before .before .with-extent .ensures)
-    (c .before .before .before .before .before .before .before .before .before .before .before .before .before .before .before .with-extent2 .ensures)
-    (c .before .before .before .counted10 .ensures)
+    (unlike .before .before .counted .ensures)
+    (unlike .counted2 .ensures ∙ ap (λ (t : Bool). countedOf t (a .self .unlike)) (unlike .before .both .ensures))
+    (one .before .before .counted3 .ensures)
+    (one .before .counted4 .ensures)
+    (one .counted5 .ensures)
+    (later .before .before .counted6 .ensures)
+    (later .before .counted7 .ensures)
+    (later .counted8 .ensures)
+    (undecided .before .counted9 .ensures ∙ ap (λ (t : Bool). countedOf t (a .self .early)) (undecided .before .before .between .ensures))
+    (played .before .with-extent .ensures)
+    (played .with-extent2 .ensures)
+    (undecided .counted10 .ensures)
     (c .before .before .counted11 .ensures)
     (c .counted12 .ensures ∙ ap (λ (t : Bool). countedOf t (a .self .misfiled)) (c .before .misfiled .ensures))
 

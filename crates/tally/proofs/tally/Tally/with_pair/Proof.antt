@@ -24,10 +24,11 @@ with-numbers-requires c κs = search needs
 
 returns : tie.Need-returns
 returns c =
-    let a = c .before .before .before .before .before .args in
+    let parted = c .before .before .before .before in
+    let a = parted .before .args in
     let mark = c .before .before .mark-of .ensures ∙ ap markOf (c .before .before .before .judge .ensures) in
     c .with-numbers .ensures
-    ∙ ap (λ (p : ℕ). tallied (a .self) p (c .before .before .mark-of .result) (c .before .extent-of .result) (a .settled) (a .equal) (a .unlike)) (c .before .before .before .before .part-of .ensures)
+    ∙ ap (λ (p : ℕ). tallied (a .self) p (c .before .before .mark-of .result) (c .before .extent-of .result) (a .settled) (a .equal) (a .unlike)) (parted .part-of .ensures)
     ∙ ap (λ (m : ℕ). tallied (a .self) (partOf (a .called)) m (c .before .extent-of .result) (a .settled) (a .equal) (a .unlike)) mark
     ∙ ap (λ (e : Extent). tallied (a .self) (partOf (a .called)) (markOf (judgementOf (a .called) (a .tried))) e (a .settled) (a .equal) (a .unlike)) (c .before .extent-of .ensures)
 

@@ -1,0 +1,32 @@
+// Numbers of 16 bits.
+ghost use mathlib.Core.Path.{_≡_};
+ghost use Prim.Native.Nat.{_≤_};
+ghost use lib.ListN.{length, take};
+ghost use Rattle.model.specs.Limits.{mostKinds};
+ghost use Rattle.model.specs.Answer.{written};
+
+// The values to the front of a lent buffer; what it holds past them stays.
+pub fn write_u16(values: &[u16], buffer: &mut [u16])
+    requires { ⌜ length (now values) ≤ length (now buffer) ⌝ }
+    ensures { λ _. ⌜ now (buffer .exit) ≡ written (now (values .entry)) (now (buffer .entry)) ⌝ }
+{
+    let mut next = 0;
+    while next < values.len() {
+        buffer[next] = values[next];
+        next += 1;
+    }
+}
+
+// The same values in 64 bits each, at most one for each kind of a sheet: they are the first of the array.
+pub fn widen_u16(values: &[u16]) -> [u64; 32]
+    requires { ⌜ length (now values) ≤ mostKinds ⌝ }
+    ensures { λ r. ⌜ take (length (now (values .entry))) r ≡ now (values .entry) ⌝ }
+{
+    let mut wide = [0u64; 32];
+    let mut i = 0;
+    while i < values.len() {
+        wide[i] = values[i] as u64;
+        i += 1;
+    }
+    wide
+}

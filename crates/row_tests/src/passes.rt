@@ -1,0 +1,26 @@
+// The tests that tell whether the row of a kind in a table, a product of atoms, is its row at a stage.
+use crate::expansion::uses_alike;
+use crate::norm_reducing::all_answered;
+use tables::table::row_of;
+ghost use mathlib.Core.Path.{_≡_};
+ghost use mathlib.Core.Bool.{true};
+ghost use mathlib.Core.List.{List};
+ghost use mathlib.Core.Logic.{_↔_};
+ghost use Prim.Native.Nat.{ℕ, _<_};
+ghost use lib.ListN.{length};
+ghost use Rattle.model.specs.Limits.{mostKinds};
+ghost use Rattle.tables.specs.Match.{MatchTables};
+ghost use Rattle.tables.specs.Class.{KindMarks, Passes};
+
+// Whether the row passes the tests: it and the kind may use lines of the same classes of the stage before, and every challenge that lowers the norm has a reply.
+pub fn passes(lines: &[u8], marks: &[bool], rows: &[u32], forms: &[u64], kind: usize) -> bool
+    requires { ⌜ MatchTables (now lines) (now rows) (now forms) ⌝ }
+    requires { ⌜ (kind < mostKinds) × (length (now marks) ≡ 8192) ⌝ }
+    ensures { λ r. ⌜ ((classes : List ℕ) → KindMarks (now (lines .entry)) classes (now (marks .entry)) → (r ≡ true) ↔ Passes (now (lines .entry)) (now (rows .entry)) (now (forms .entry)) classes kind) ⌝ }
+{
+    let alike = uses_alike(marks, kind, row_of(rows, kind));
+    if alike {
+        return all_answered(lines, rows, forms, kind);
+    }
+    false
+}

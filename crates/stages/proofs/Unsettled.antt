@@ -1,0 +1,113 @@
+-- The loop over the stages: what is held at each, and that none before the present one is settled.
+use mathlib.Core.List.{List}
+use mathlib.Core.Logic.{_↔_}
+use mathlib.Core.Path.{_≡_, subst}
+use Prim.Native.Nat.{ℕ, suc, _≤_, _<_}
+use native.Mathlib.Decide.{decLt}
+use native.Mathlib.Omega.{arith}
+use lib.ListN.{length, replicate}
+use Rattle.model.specs.Field.{unit}
+use Rattle.model.specs.Base.{settledStage, stageRow}
+use Rattle.model.specs.Limits.{mostKinds, mostLines}
+use Rattle.model.specs.Refusal.{Accepted}
+use Rattle.model.specs.Sheet.{kindCount, cardOf}
+use Rattle.theory.specs.Terms.{Settled}
+use Rattle.sheet.specs.Reader.{Reads}
+use Rattle.sheet.specs.declared.reader.Card.{Card}
+use Rattle.sheet.proofs.Laws.{kinds-are, kinds-most}
+use Rattle.tables.specs.Table.{rowIn, Atoms}
+use Rattle.tables.specs.Class.{RowsExpand}
+use Rattle.tables.specs.declared.table.Base.{Base}
+use Rattle.tables.proofs.Tables.{zero-counts}
+use Rattle.rows.specs.Stage.{BaseAt, Classes, BoundsAt, AlikeAt, LinesAre}
+use Rattle.rows.specs.Forms.{FormTable}
+use Rattle.rows.specs.StageRows.{StageGiven}
+use Rattle.rows.proofs.Classes.{bounds-first, bounds-next}
+use Rattle.rows.proofs.StageRows.{alike-at, base-atoms, reads-header, rows-first, rows-next}
+use Rattle.stages.specs.Kept.{KeptTo}
+use Rattle.stages.specs.Settle.{AtStage, IsSettled}
+use Rattle.stages.proofs.Settled.{settled-after, settled-most, settled-first, settled-classes}
+
+-- Of the stages 1 to t none is settled.
+abbrev pub Unsettled : List ℕ → ℕ → Type 0
+Unsettled s t = (p : ℕ) → suc p ≤ t → ¬ Settled (cardOf s) (suc p)
+
+pub unsettled-start : (s : List ℕ) → Unsettled s 0
+unsettled-start s p h = absurd (omega arith)
+
+module _ (s : List ℕ) (ok : Accepted s) {t : ℕ} (u : Unsettled s t) where
+  -- One stage more: it is at most the settled stage, and that at most n.
+  pub unsettled-more : ¬ Settled (cardOf s) (suc t) → Unsettled s (suc t)
+  unsettled-more n p h = go (decLt p t)
+    where
+      go : Dec (p < t) → ¬ Settled (cardOf s) (suc p)
+      go (yes l) = u p l
+      go (no l) = let z : p ≡ t = omega arith in rw z n
+
+  pub unsettled-next : suc t ≤ kindCount s
+  unsettled-next = omega (arith, settled-after s ok t u, settled-most s ok)
+
+  pub unsettled-end : Settled (cardOf s) (suc t) → suc t ≡ settledStage (cardOf s)
+  unsettled-end x = settled-first s ok t x u
+
+pub few-kinds : {s : List ℕ} {c : Card} → Reads s c → kindCount s ≤ mostKinds
+few-kinds R = omega (arith, kinds-are R, kinds-most R)
+
+-- Before stage 1 all rows and all classes are 0.
+pub held-start : (s : List ℕ) → AtStage s 0 (replicate 1024 0) (replicate mostLines 0)
+held-start s = record {
+  rows-are = rows-first s 1024;
+  classes-tell = λ q e. absurd (omega arith);
+  one-class = λ _. zero-counts mostLines;
+  bounds = bounds-first s 0 mostLines;
+}
+
+-- What is held is what the rows of the next stage are sought from.
+pub held-given : {s lines rows classes : List ℕ} {t : ℕ} {c : Card} → Reads s c → Accepted s → LinesAre s lines → AtStage s t rows classes → StageGiven s t lines classes
+held-given R ok L H = record { reads = reads-header R; accepted = ok; lines-are = L; follows = H .classes-tell; one-class = H .one-class }
+
+-- The rows of the next stage and the classes by them are held there.
+pub held-next : {s : List ℕ} → Accepted s → (t : ℕ) (rows classes : List ℕ) → BaseAt s (suc t) rows → Classes s t classes → BoundsAt s t classes → AtStage s (suc t) rows classes
+held-next {s} ok t rows classes B K f = record {
+  rows-are = rows-next s t rows B;
+  classes-tell = λ q e. let z : q ≡ t = omega arith in rw z K;
+  one-class = λ e. absurd (omega arith);
+  bounds = bounds-next s ok t classes f;
+}
+
+-- What the loop has reached: what is held at stage t and kept of the stages up to it, in whole tables, and none of these is settled.
+pub record Reached (s : List ℕ) (t : ℕ) (forms rows classes since rowsBefore : List ℕ) : Type 0 where
+  pub held : AtStage s t rows classes
+  pub unsettled : Unsettled s t
+  pub table : FormTable forms
+  pub kept : KeptTo s t since rowsBefore
+  pub rows-long : length rows ≡ 1024
+  pub classes-long : length classes ≡ mostLines
+  pub since-long : length since ≡ mostKinds
+  pub before-long : length rowsBefore ≡ 1024
+
+-- The rows of a stage from 1 up and the classes by them tell whether it is settled.
+module _ {s lines : List ℕ} {c : Card} (R : Reads s c) (ok : Accepted s) (L : LinesAre s lines) (q : ℕ) (rows classes : List ℕ) (B : BaseAt s (suc q) rows) where
+  -- Its kinds whose own count is 1 are atoms.
+  pub held-atoms : Atoms rows (c .kinds)
+  held-atoms = rw (kinds-are R) (base-atoms s ok q rows B)
+
+  pub held-settled : Classes s q classes → RowsExpand lines classes rows (c .kinds) ↔ Settled (cardOf s) (suc q)
+  held-settled K = rw (kinds-are R) (
+    (λ f. settled .1 (λ k h. rw (B k h) at (alike-at L classes (unit k) (rowIn rows k) .0 (f k h)))),
+    (λ y k h. alike-at L classes (unit k) (rowIn rows k) .1 (rw (B k h) (settled .0 y k h))),
+  )
+    where
+      settled : Settled (cardOf s) (suc q) ↔ ((k : ℕ) → k < kindCount s → AlikeAt s classes (unit k) (stageRow (cardOf s) (suc q) k))
+      settled = settled-classes s ok q classes K
+
+  -- The settled stage, with its base and what is kept of the stages.
+  pub held-end : Classes s q classes → Unsettled s q → RowsExpand lines classes rows (c .kinds) → (base : Base) → base .rows ≡ rows → {since rowsBefore : List ℕ} → KeptTo s (suc q) since rowsBefore
+      → IsSettled s (record { base = base; stage = suc q; kept = record { since = since; rows = rowsBefore } })
+  held-end K u f base same {since} {rowsBefore} H =
+      let e = unsettled-end s ok u (held-settled K .0 f) in
+      record {
+        stage-is = e;
+        base-is = rw same (subst (λ (v : ℕ). BaseAt s v rows) e B);
+        kept-is = subst (λ (v : ℕ). KeptTo s v since rowsBefore) e H;
+      }

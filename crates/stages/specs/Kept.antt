@@ -1,0 +1,40 @@
+-- What is kept of the stages: of each kind the first stage at which it is an atom, and its row at the stage before that one.
+use mathlib.Core.Bool.{true, false}
+use mathlib.Core.List.{List}
+use mathlib.Core.Path.{_≡_}
+use Prim.Native.Nat.{ℕ, suc, _≤_, _<_}
+use lib.Dec.{eqb}
+use Rattle.model.specs.Field.{Field, unit, at, weigh}
+use Rattle.model.specs.Limits.{mostKinds}
+use Rattle.model.specs.Base.{stageRow}
+use Rattle.model.specs.Sheet.{kindCount, cardOf}
+use Rattle.tables.specs.Table.{rowIn}
+
+-- Kind k is kept: where it was marked with no stage and the table after has it as an atom, it is marked with this stage, and its row before is kept; else its mark and its row are as they were.
+pub record AsKept (before after : List ℕ) (stage k : ℕ) (since rows newSince newRows : List ℕ) : Type 0 where
+  pub marked : at since k ≡ 0 → rowIn after k k ≡ 1 → (at newSince k ≡ stage) × (rowIn newRows k ≡ rowIn before k)
+  pub left : ¬ (at since k ≡ 0 × (rowIn after k k ≡ 1)) → (at newSince k ≡ at since k) × (rowIn newRows k ≡ rowIn rows k)
+
+-- Kind k is kept, and the marks and rows of all others are as they were.
+pub record KindKept (before after : List ℕ) (stage k : ℕ) (since rows newSince newRows : List ℕ) : Type 0 where
+  pub here : AsKept before after stage k since rows newSince newRows
+  pub others : (i : ℕ) → ¬ (i ≡ k) → (at newSince i ≡ at since i) × (rowIn newRows i ≡ rowIn rows i)
+
+-- The first m kinds are kept, and the marks and rows of all others are as they were.
+pub record KeptFrom (before after : List ℕ) (stage m : ℕ) (since rows newSince newRows : List ℕ) : Type 0 where
+  pub each : (k : ℕ) → k < m → AsKept before after stage k since rows newSince newRows
+  pub others : (k : ℕ) → m ≤ k → (at newSince k ≡ at since k) × (rowIn newRows k ≡ rowIn rows k)
+
+-- What is kept of the stages 1 to t: a kind's mark is the first of them at which it is an atom, 0 where it is none at all of them; and its row is that of the stage before that one.
+pub record KeptTo (s : List ℕ) (t : ℕ) (since rows : List ℕ) : Type 0 where
+  pub none : (k q : ℕ) → k < kindCount s → at since k ≡ 0 → suc q ≤ t → ¬ (stageRow (cardOf s) (suc q) k ≡ unit k)
+  pub first : (k q : ℕ) → k < kindCount s → at since k ≡ suc q → (suc q ≤ t) × (stageRow (cardOf s) (suc q) k ≡ unit k)
+  pub before : (k q : ℕ) → k < kindCount s → at since k ≡ suc (suc q) → (¬ (stageRow (cardOf s) (suc q) k ≡ unit k)) × (rowIn rows k ≡ stageRow (cardOf s) (suc q) k)
+
+-- What stands for an atom of a stage at the stage before: its row there where it is new, else the kind itself.
+unfoldable pub rowBefore : List ℕ → List ℕ → ℕ → ℕ → Field
+rowBefore since rows stage k = elim (eqb (at since k) stage) [ true ↦ rowIn rows k | false ↦ unit k ]
+
+-- The form at the stage before, from that at a stage.
+unfoldable pub formBefore : List ℕ → List ℕ → ℕ → Field → Field
+formBefore since rows stage form j = weigh mostKinds (λ k. rowBefore since rows stage k j) form

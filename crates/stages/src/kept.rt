@@ -1,0 +1,89 @@
+// What is kept of the stages, so that the forms of a field at all of them can be had once the settled one is found: a kind that is an atom at a stage is one at every
+// later stage, and a form at the stage before is got by putting its row there for each atom that is new.
+use tables::table::add_times;
+use tables::table::is_atom;
+use tables::table::row_of;
+use tables::table::set_row;
+ghost use mathlib.Core.Path.{_≡_};
+ghost use Prim.Native.Nat.{ℕ, _+_, _*_, _^_, _<_};
+ghost use lib.ListN.{length};
+ghost use Rattle.model.specs.Field.{_⊕_, times, at};
+ghost use Rattle.model.specs.Limits.{mostKinds};
+ghost use Rattle.stages.specs.Kept.{rowBefore, formBefore, KindKept, KeptFrom};
+
+// For each kind the first stage at which it is an atom, 0 where it is none; and in a flat table its row at the stage before that one.
+pub struct Kept {
+    pub since: [usize; 32],
+    pub rows: [u32; 1024],
+}
+
+// Keeps one kind: if it is an atom now and was none before, the stage and the row that it had.
+fn keep_kind(
+    before: &[u32],
+    after: &[u32],
+    stage: usize,
+    kind: usize,
+    since: &mut [usize],
+    rows: &mut [u32],
+)
+    requires { ⌜ (length (now before) ≡ 1024) × (length (now after) ≡ 1024) × (length (now rows) ≡ 1024) × (length (now since) ≡ mostKinds) ⌝ }
+    requires { ⌜ kind < mostKinds ⌝ }
+    ensures { λ _. ⌜ KindKept (now (before .entry)) (now (after .entry)) stage kind (now (since .entry)) (now (rows .entry)) (now (since .exit)) (now (rows .exit)) ⌝ }
+{
+    let from = since[kind];
+    if from == 0 {
+        if is_atom(after, kind) {
+            since[kind] = stage;
+            set_row(rows, kind, row_of(before, kind));
+        }
+    }
+}
+
+// Keeps what is new at a stage, by its rows and those of the stage before.
+pub fn keep_stage(
+    before: &[u32],
+    after: &[u32],
+    stage: usize,
+    since: &mut [usize],
+    rows: &mut [u32],
+)
+    requires { ⌜ (length (now before) ≡ 1024) × (length (now after) ≡ 1024) × (length (now rows) ≡ 1024) × (length (now since) ≡ mostKinds) ⌝ }
+    ensures { λ _. ⌜ KeptFrom (now (before .entry)) (now (after .entry)) stage mostKinds (now (since .entry)) (now (rows .entry)) (now (since .exit)) (now (rows .exit)) ⌝ }
+{
+    let mut kind = 0;
+    while kind < 32 {
+        keep_kind(before, after, stage, kind, since, rows);
+        kind += 1;
+    }
+}
+
+// Adds so many tokens of a kind to the sum, as the stage before has them.
+fn add_before(sum: &mut [u64], since: &[usize], rows: &[u32], stage: usize, kind: usize, count: u64)
+    requires { ⌜ (length (now sum) ≡ mostKinds) × (length (now since) ≡ mostKinds) × (length (now rows) ≡ 1024) × (kind < mostKinds) ⌝ }
+    requires { ⌜ ((j : ℕ) → at (now sum) j + count * rowBefore (now since) (now rows) stage kind j < 2 ^ 64) ⌝ }
+    ensures { λ _. ⌜ at (now (sum .exit)) ≡ at (now (sum .entry)) ⊕ times count (rowBefore (now (since .entry)) (now (rows .entry)) stage kind) ⌝ }
+{
+    let from = since[kind];
+    if from == stage {
+        add_times(sum, row_of(rows, kind), count);
+        return;
+    }
+    let old = sum[kind];
+    sum[kind] = old + count;
+}
+
+// The form at the stage before, from that at a stage.
+pub fn form_before(form: &[u64], since: &[usize], rows: &[u32], stage: usize) -> [u64; 32]
+    requires { ⌜ (length (now form) ≡ mostKinds) × (length (now since) ≡ mostKinds) × (length (now rows) ≡ 1024) ⌝ }
+    requires { ⌜ ((j : ℕ) → formBefore (now since) (now rows) stage (at (now form)) j < 2 ^ 64) ⌝ }
+    ensures { λ r. ⌜ at r ≡ formBefore (now (since .entry)) (now (rows .entry)) stage (at (now (form .entry))) ⌝ }
+{
+    let mut sum = [0u64; 32];
+    let mut kind = 0;
+    while kind < 32 {
+        let count = form[kind];
+        add_before(&mut sum, since, rows, stage, kind, count);
+        kind += 1;
+    }
+    sum
+}

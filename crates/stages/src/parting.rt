@@ -1,0 +1,116 @@
+// The least stage that parts two fields of a settled sheet. Stage 0 goes by their norms, every later stage by their forms.
+use crate::kept::Kept;
+use crate::kept::form_before;
+use crate::settle::Settled;
+use sheet::Card;
+use tables::table::form_of_field;
+use weights::fields::field_norm;
+ghost use mathlib.Core.Path.{_≡_};
+ghost use mathlib.Core.Bool.{true};
+ghost use mathlib.Core.List.{List};
+ghost use mathlib.Core.Logic.{_↔_};
+ghost use Prim.Native.Nat.{ℕ, _≤_, _<_};
+ghost use lib.ListN.{length};
+ghost use Rattle.model.specs.Field.{at};
+ghost use Rattle.model.specs.Norm.{norm};
+ghost use Rattle.model.specs.Base.{settledStage};
+ghost use Rattle.model.specs.Sheet.{kindCount, cardOf, fieldOf};
+ghost use Rattle.model.specs.Limits.{mostKinds};
+ghost use Rattle.sheet.specs.Reader.{Reads};
+ghost use Rattle.norms.specs.Norms.{Accepts};
+ghost use Rattle.tables.specs.Table.{formIn};
+ghost use Rattle.stages.specs.Settle.{IsSettled};
+ghost use Rattle.stages.specs.Parting.{partedBy, FieldsFit, FormsPart, LeastPart};
+
+// The decomposition of a field, by the rows of a table.
+pub fn field_form(sheet: &[u8], card: Card, rows: &[u32], field: usize) -> [u64; 32]
+    requires { ⌜ Reads (now sheet) card ⌝ }
+    requires { ⌜ field < card .fields ⌝ }
+    requires { ⌜ (length (now rows) ≡ 1024) × FieldsFit (now sheet) (now rows) ⌝ }
+    ensures { λ r. ⌜ at r ≡ formIn (kindCount (now (sheet .entry))) (now (rows .entry)) (fieldOf (now (sheet .entry)) field) ⌝ }
+{
+    let kinds = card.kinds;
+    let field = card.field(sheet, field);
+    let mut form = [0u64; 32];
+    form_of_field(&field[..kinds], rows, &mut form);
+    form
+}
+
+// Whether two lists of counts are the same.
+fn same_counts(first: &[u64], second: &[u64]) -> bool
+    requires { ⌜ length (now second) ≡ length (now first) ⌝ }
+    ensures { λ r. ⌜ (r ≡ true) ↔ (at (now (first .entry)) ≡ at (now (second .entry))) ⌝ }
+{
+    let mut i = 0;
+    while i < first.len() {
+        let here = first[i];
+        let there = second[i];
+        if here != there {
+            return false;
+        }
+        i += 1;
+    }
+    true
+}
+
+// Whether two fields have one norm: whether stage 0 relates them.
+fn same_norm(sheet: &[u8], card: Card, norms: [u32; 32], first: usize, second: usize) -> bool
+    requires { ⌜ Accepts (now sheet) card norms ⌝ }
+    requires { ⌜ (first < card .fields) × (second < card .fields) ⌝ }
+    ensures { λ r. ⌜ (r ≡ true) ↔ (norm (cardOf (now (sheet .entry))) (fieldOf (now (sheet .entry)) first) ≡ norm (cardOf (now (sheet .entry))) (fieldOf (now (sheet .entry)) second)) ⌝ }
+{
+    let kinds = card.kinds;
+    let one = field_norm(kinds, norms, card.field(sheet, first));
+    let other = field_norm(kinds, norms, card.field(sheet, second));
+    one == other
+}
+
+// The least stage from 1 up at which two forms differ, where those of this stage do: from stage to stage down, up to the first at which they are the same.
+fn parting_form(kept: Kept, stage: usize, first: [u64; 32], second: [u64; 32]) -> usize
+    requires { ⌜ (1 ≤ stage) × (stage ≤ mostKinds) ⌝ }
+    requires { ⌜ ((s : List ℕ) × (i : ℕ) × (j : ℕ) × FormsPart s stage i j (kept .since) (kept .rows) first second) ⌝ }
+    ensures { λ r. ⌜ ((s : List ℕ) (i j : ℕ) → FormsPart s stage i j (kept .since) (kept .rows) first second → LeastPart s stage i j r) ⌝ }
+{
+    let since = kept.since;
+    let rows = kept.rows;
+    let mut one = first;
+    let mut other = second;
+    let mut t = stage;
+    while 1 < t {
+        one = form_before(&one, &since, &rows, t);
+        other = form_before(&other, &since, &rows, t);
+        if same_counts(&one, &other) {
+            return t;
+        }
+        t -= 1;
+    }
+    t
+}
+
+// The least stage, up to the settled one, that does not relate two fields; one more than that where all of them relate the two.
+pub fn parted(
+    sheet: &[u8],
+    card: Card,
+    norms: [u32; 32],
+    settled: Settled,
+    first: usize,
+    second: usize,
+) -> usize
+    requires { ⌜ Accepts (now sheet) card norms ⌝ }
+    requires { ⌜ IsSettled (now sheet) settled ⌝ }
+    requires { ⌜ (first < card .fields) × (second < card .fields) ⌝ }
+    ensures { λ r. ⌜ r ≡ partedBy (now (sheet .entry)) (settledStage (cardOf (now (sheet .entry)))) first second ⌝ }
+{
+    let base = settled.base;
+    let rows = base.rows;
+    let stage = settled.stage;
+    if same_norm(sheet, card, norms, first, second) {
+        let one = field_form(sheet, card, &rows, first);
+        let other = field_form(sheet, card, &rows, second);
+        if same_counts(&one, &other) {
+            return stage + 1;
+        }
+        return parting_form(settled.kept, stage, one, other);
+    }
+    0
+}
