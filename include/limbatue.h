@@ -108,8 +108,8 @@ enum { LIMBATUE_TOGETHER = 0, LIMBATUE_APART = 1, LIMBATUE_SPENT = 2 };
 #define LIMBATUE_SHELF_NUMBER_ANSWER 2
 #define LIMBATUE_SQUADS_ANSWER 1
 
-/* Bytes of stack that must be left where a call is made. Taken are, as measured: settle 115,992, compare 111,912, prime form 116,328, walk 81,220 at most, page
- * 211,016, shelf number 6,296, shelf field 6,408, squads 120,616, the others under 256. Stated is each with 4,096 more, for memcpy, memset and the loader, which may be
+/* Bytes of stack that must be left where a call is made. Taken are, as measured: settle 115,704, compare 111,624, prime form 116,040, walk 81,220 at most, page
+ * 210,728, shelf number 6,296, shelf field 6,408, squads 120,328, the others under 256. Stated is each with 4,096 more, for memcpy, memset and the loader, which may be
  * asked for them at a first call, and rounded up to pages of 4,096. In the repository ./stack measures the archive again, and fails where under 4,096 are left. */
 #define LIMBATUE_VERSION_STACK 8192
 #define LIMBATUE_NUMBERS_STACK 8192

@@ -1,13 +1,15 @@
 -- What the texts of the calls share.
 use mathlib.Core.List.{List}
-use Prim.Native.Nat.{ℕ}
+use Prim.Native.Nat.{ℕ, _+_, _*_}
 use lib.ListN.{take}
 use Rattle.model.specs.Answer.{Answer, refused, given, Lent}
+use Rattle.model.specs.Limits.{mostKinds}
 use Rattle.text.specs.Count.{countsLine}
+use Rattle.text.specs.Lengths.{letters, mostDigits, mostCounts}
 
--- The room that a call has for its text. No text is longer: that of settle has a line of at most 28 bytes, `stages S`, and at most 32 rows of 673.
+-- The room that a call has for its text: that of settle, a line `stages S` and a row of counts for each kind. No text is longer.
 abbrev pub mostText : ℕ
-mostText = 21564
+mostText = letters "stages " + mostDigits + letters "\n" + mostKinds * (mostCounts mostKinds + letters "\n")
 
 -- An answer by the text that its value gets.
 unfoldable pub worded : {A : Type 0} → (A → List ℕ) → Answer A → Answer (List ℕ)

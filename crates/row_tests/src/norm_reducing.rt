@@ -1,5 +1,4 @@
 // Norm-reducing expansion of a kind against its row in a table: "Norm-reducing expansion considers only reads that lower the norm, for challenge and reply alike."
-use crate::expansion::one_token;
 use tables::class::lines_match;
 use tables::lines::kind_of;
 use tables::lines::lowers;
@@ -9,7 +8,7 @@ ghost use mathlib.Core.Bool.{true};
 ghost use mathlib.Core.Logic.{_↔_};
 ghost use Prim.Native.Nat.{ℕ, _≤_, _<_};
 ghost use lib.ListN.{length, take};
-ghost use Rattle.model.specs.Field.{at};
+ghost use Rattle.model.specs.Field.{unit, at};
 ghost use Rattle.model.specs.Limits.{mostKinds};
 ghost use Rattle.tables.specs.Lines.{linesIn, kindIn, LowersIn, LineTable};
 ghost use Rattle.tables.specs.Match.{EachMatched, AllMatched, Among, Lists, MatchTables, MatchIn, UsableIn, Answered};
@@ -28,7 +27,7 @@ fn is_usable(lines: &[u8], field: &[u32], line: usize) -> bool
 }
 
 // The lines that lower the norm and that a field may use: how many there are. The list then begins with their numbers.
-fn usable_lines(lines: &[u8], field: &[u32], list: &mut [u8]) -> usize
+pub fn usable_lines(lines: &[u8], field: &[u32], list: &mut [u8]) -> usize
     requires { ⌜ LineTable (now lines) × (length (now field) ≡ 32) × (linesIn (now lines) ≤ length (now list)) ⌝ }
     ensures { λ r. ⌜ (r ≤ length (now (list .exit))) × Lists (UsableIn (now (lines .entry)) (at (now (field .entry)))) (take r (now (list .exit))) ⌝ }
 {
@@ -101,15 +100,13 @@ fn all_matched(lines: &[u8], rows: &[u32], forms: &[u64], list: &[u8], others: &
     false
 }
 
-// Whether every challenge of the kind or of its row that lowers the norm has a reply by the other that does.
-pub fn all_answered(lines: &[u8], rows: &[u32], forms: &[u64], kind: usize) -> bool
+// Whether every challenge of the kind or of its row that lowers the norm has a reply by the other that does. The kind's own lines that do are given.
+pub fn all_answered(lines: &[u8], rows: &[u32], forms: &[u64], own: &[u8], kind: usize) -> bool
     requires { ⌜ MatchTables (now lines) (now rows) (now forms) × (kind < mostKinds) ⌝ }
+    requires { ⌜ Lists (UsableIn (now lines) (unit kind)) (now own) ⌝ }
     ensures { λ r. ⌜ (r ≡ true) ↔ Answered (now (lines .entry)) (now (rows .entry)) (now (forms .entry)) kind ⌝ }
 {
-    let token = one_token(kind);
-    let mut own = [0u8; 256];
     let mut its = [0u8; 256];
-    let own_count = usable_lines(lines, &token, &mut own);
-    let its_count = usable_lines(lines, row_of(rows, kind), &mut its);
-    all_matched(lines, rows, forms, &own[..own_count], &its[..its_count])
+    let count = usable_lines(lines, row_of(rows, kind), &mut its);
+    all_matched(lines, rows, forms, own, &its[..count])
 }

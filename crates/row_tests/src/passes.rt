@@ -8,19 +8,28 @@ ghost use mathlib.Core.List.{List};
 ghost use mathlib.Core.Logic.{_↔_};
 ghost use Prim.Native.Nat.{ℕ, _<_};
 ghost use lib.ListN.{length};
+ghost use Rattle.model.specs.Field.{unit};
 ghost use Rattle.model.specs.Limits.{mostKinds};
-ghost use Rattle.tables.specs.Match.{MatchTables};
+ghost use Rattle.tables.specs.Match.{Lists, MatchTables, UsableIn};
 ghost use Rattle.tables.specs.Class.{KindMarks, Passes};
 
-// Whether the row passes the tests: it and the kind may use lines of the same classes of the stage before, and every challenge that lowers the norm has a reply.
-pub fn passes(lines: &[u8], marks: &[bool], rows: &[u32], forms: &[u64], kind: usize) -> bool
+// Whether the row passes the tests: it and the kind may use lines of the same classes of the stage before, and every challenge that lowers the norm has a reply. The kind's own lines that do are given.
+pub fn passes(
+    lines: &[u8],
+    marks: &[bool],
+    rows: &[u32],
+    forms: &[u64],
+    own: &[u8],
+    kind: usize,
+) -> bool
     requires { ⌜ MatchTables (now lines) (now rows) (now forms) ⌝ }
     requires { ⌜ (kind < mostKinds) × (length (now marks) ≡ 8192) ⌝ }
+    requires { ⌜ Lists (UsableIn (now lines) (unit kind)) (now own) ⌝ }
     ensures { λ r. ⌜ ((classes : List ℕ) → KindMarks (now (lines .entry)) classes (now (marks .entry)) → (r ≡ true) ↔ Passes (now (lines .entry)) (now (rows .entry)) (now (forms .entry)) classes kind) ⌝ }
 {
     let alike = uses_alike(marks, kind, row_of(rows, kind));
     if alike {
-        return all_answered(lines, rows, forms, kind);
+        return all_answered(lines, rows, forms, own, kind);
     }
     false
 }

@@ -1,20 +1,23 @@
 -- The forms of what the lines leave: how large they are, and the loops that write them.
 -- Assumes nothing.
 use mathlib.Core.List.{List}
-use mathlib.Core.Path.{_≡_, ap, _∙_}
+use mathlib.Core.Path.{_≡_, refl, ap, sym, _∙_}
 use Prim.Native.Nat.{ℕ, _+_, _^_, _≤_, _<_}
 use native.Mathlib.Decide.{ℕ-discrete}
 use native.Mathlib.Omega.{arith}
 use lib.ListN.{length}
-use Rattle.model.specs.Field.{at}
+use Rattle.model.specs.Field.{unit, at}
 use Rattle.model.specs.Sheet.{kindCount, lineCount, lineOf}
+use Rattle.theory.proofs.Field.{unit-same}
+use Rattle.theory.proofs.Base.{unit-some}
 use Rattle.sheet.specs.Reader.{Reads, lineCounts}
 use Rattle.sheet.specs.declared.reader.Card.{Card}
 use Rattle.sheet.proofs.Laws.{Bytes, kinds-are, kinds-most, lines-are, left-under}
 use Rattle.norms.proofs.Laws.{part-left}
 use Rattle.tables.specs.Table.{Under, rowIn, formIn}
-use Rattle.tables.specs.Lines.{kindIn, LowersIn}
-use Rattle.rows.specs.Forms.{RowSet, LineForm, LoweringForms, AllForms, KindForms}
+use Rattle.tables.specs.Lines.{linesIn, kindIn, LowersIn}
+use Rattle.tables.specs.Match.{Lists, UsableIn}
+use Rattle.rows.specs.Forms.{RowSet, LineForm, LoweringForms, AllForms, ListForms, KindForms}
 use Rattle.rows.proofs.TableRows.{form-small}
 
 -- What a line leaves has small forms by any rows of 32-bit counts.
@@ -58,39 +61,52 @@ module _ {s rows lines old forms : List ℕ} {j : ℕ} (h : Formed s rows lines 
       go i (yes p) f = rw p (r .here)
       go i (no p) f = r .others i p ∙ f p
 
--- The forms of the lowering lines of kind k below j are written, and no others.
-pub record KindFormed (s rows lines : List ℕ) (k : ℕ) (old forms : List ℕ) (j : ℕ) : Type 0 where
+-- The forms of the lines before a place of a list are written, and no others.
+pub record ListFormed (s rows list old forms : List ℕ) (place : ℕ) : Type 0 where
+  pub within : place ≤ length list
   pub kept : length forms ≡ length old
   pub small : Under (2 ^ 63) forms
-  pub done : (i : ℕ) → i < j → LowersIn lines i → kindIn lines i ≡ k → LineForm s rows forms i
-  pub others : (i : ℕ) → ¬ (kindIn lines i ≡ k) → rowIn forms i ≡ rowIn old i
+  pub done : (x : ℕ) → x < place → LineForm s rows forms (at list x)
+  pub others : (j : ℕ) → ((x : ℕ) → x < place → ¬ (at list x ≡ j)) → rowIn forms j ≡ rowIn old j
 
-module _ {s rows lines : List ℕ} {k : ℕ} {old forms : List ℕ} {j : ℕ} (h : KindFormed s rows lines k old forms j) where
-  pub kind-formed-skip : (LowersIn lines j → kindIn lines j ≡ k → ⊥) → KindFormed s rows lines k old forms (j + 1)
-  kind-formed-skip n = record { kept = h .kept; small = h .small; done = λ i l. go i l (ℕ-discrete i j); others = h .others }
-    where
-      go : (i : ℕ) → i < j + 1 → Dec (i ≡ j) → LowersIn lines i → kindIn lines i ≡ k → LineForm s rows forms i
-      go i l (yes p) = λ a b. absurd (n (rw p at a) (rw p at b))
-      go i l (no p) = h .done i (omega arith)
+pub list-formed-none : {s rows list old : List ℕ} → Under (2 ^ 63) old → ListFormed s rows list old old 0
+list-formed-none u = record { within = omega arith; kept = refl; small = u; done = λ x l. absurd (omega arith); others = λ j _. refl }
 
-  pub kind-formed-more : {new : List ℕ} → kindIn lines j ≡ k → RowSet (formIn (kindCount s) rows (lineOf s j .left)) j forms new → length new ≡ length forms
-      → Under (2 ^ 63) new → KindFormed s rows lines k old new (j + 1)
-  kind-formed-more {new} q r e u =
+module _ {s rows list old forms : List ℕ} {place : ℕ} (h : ListFormed s rows list old forms place) where
+  pub list-formed-more : {new : List ℕ} → place < length list → RowSet (formIn (kindCount s) rows (lineOf s (at list place) .left)) (at list place) forms new → length new ≡ length forms
+      → Under (2 ^ 63) new → ListFormed s rows list old new (place + 1)
+  list-formed-more {new} b r e u =
       record {
+        within = omega arith;
         kept = e ∙ h .kept;
         small = u;
-        done = λ i l. go i l (ℕ-discrete i j);
-        others = λ i n. r .others i (λ p. n (rw p q)) ∙ h .others i n;
+        done = λ x l. go x l (ℕ-discrete x place) (ℕ-discrete (at list x) (at list place));
+        others = λ j n. r .others j (λ p. n place (omega arith) (sym p)) ∙ h .others j (λ x l. n x (omega arith));
       }
     where
-      go : (i : ℕ) → i < j + 1 → Dec (i ≡ j) → LowersIn lines i → kindIn lines i ≡ k → LineForm s rows new i
-      go i l (yes p) = λ a b. rw p (r .here)
-      go i l (no p) = λ a b. r .others i p ∙ h .done i (omega arith) a b
+      go : (x : ℕ) → x < place + 1 → Dec (x ≡ place) → Dec (at list x ≡ at list place) → LineForm s rows new (at list x)
+      go x l _ (yes p) = rw p (r .here)
+      go x l (yes q) (no p) = absurd (p (ap (at list) q))
+      go x l (no q) (no p) = r .others (at list x) p ∙ h .done x (omega arith)
+
+  pub list-formed : length list ≤ place → ListForms s rows list old forms
+  list-formed l =
+      record {
+        forms-are = λ j a. rw (a .2) at (h .done (a .0) (omega (arith, a .1)));
+        others = λ j n. h .others j (λ x b p. n (x, omega (arith, h .within), p));
+        small = h .small;
+      }
+
+-- The list holds the lines of kind k that lower the norm.
+pub list-kind : {s rows lines list old forms : List ℕ} {k : ℕ} → linesIn lines ≡ lineCount s → Lists (UsableIn lines (unit k)) list → ListForms s rows list old forms
+    → KindForms s rows lines k old forms
+list-kind {lines = lines} {k = k} e own h =
+    record {
+      forms-are = λ j b a q. h .forms-are j (own .entries j .1 ((omega (arith, e), a), rw q (omega (arith, unit-same k))));
+      others = λ j n. h .others j (λ w. n (unit-some k (kindIn lines j) (own .entries j .0 w .1)));
+      small = h .small;
+    }
 
 -- All lines are done.
-module _ {s : List ℕ} {c : Card} (R : Reads s c) {rows old forms : List ℕ} {j : ℕ} (l : c .lines ≤ j) where
-  pub all-formed : {lines : List ℕ} → Formed s rows lines old forms j → AllForms s rows forms
-  all-formed h = record { forms-are = λ i b. h .done i (omega (arith, lines-are R)); small = h .small }
-
-  pub all-kind-formed : {lines : List ℕ} {k : ℕ} → KindFormed s rows lines k old forms j → KindForms s rows lines k old forms
-  all-kind-formed h = record { forms-are = λ i b. h .done i (omega (arith, lines-are R)); others = h .others; small = h .small }
+pub all-formed : {s : List ℕ} {c : Card} → Reads s c → {rows lines old forms : List ℕ} {j : ℕ} → c .lines ≤ j → Formed s rows lines old forms j → AllForms s rows forms
+all-formed R l h = record { forms-are = λ i b. h .done i (omega (arith, lines-are R)); small = h .small }

@@ -13,22 +13,22 @@ use Rattle.model.specs.Field.{at}
 use Rattle.model.specs.Norm.{kindNorm, norm}
 use Rattle.model.specs.Sheet.{lineCount, lineOf, cardOf}
 use Rattle.norms.specs.Norms.{lowersNorm}
-use Rattle.tables.specs.Lines.{kindIn, codeIn, LowersIn}
+use Rattle.tables.specs.Lines.{linesIn, kindIn, codeIn, LowersIn}
 use Rattle.tables.proofs.Tables.{zero-counts}
 use Rattle.rows.specs.Stage.{LowersAt, LinesAre}
 
--- The lines below j are in the table, and the rest of it is zeros.
+-- The lines below j of n are in the table, and the marks of the others are 0.
 pub record Filled (s : List ℕ) (n j : ℕ) (table : List ℕ) : Type 0 where
   pub within : j ≤ n
   pub few : n ≤ 256
   pub long : length table ≡ 768
-  pub kinds : (i : ℕ) → i < j → at table (3 * i) ≡ lineOf s i .kind
-  pub codes : (i : ℕ) → i < j → at table (3 * i + 1) ≡ lineOf s i .code
-  pub marks : (i : ℕ) → i < j → (at table (3 * i + 2) ≡ 1) ↔ LowersAt s i
-  pub rest : (x : ℕ) → 3 * j ≤ x → at table x ≡ 0
+  pub kinds : (i : ℕ) → i < j → at table i ≡ lineOf s i .kind
+  pub codes : (i : ℕ) → i < j → at table (n + i) ≡ lineOf s i .code
+  pub marks : (i : ℕ) → i < j → (at table (2 * n + i) ≡ 1) ↔ LowersAt s i
+  pub rest : (i : ℕ) → j ≤ i → at table (2 * n + i) ≡ 0
 
 pub filled-none : {s : List ℕ} {n : ℕ} → n ≤ 256 → Filled s n 0 (replicate 768 0)
-filled-none f =
+filled-none {s} {n} f =
     record {
       within = omega arith;
       few = f;
@@ -36,13 +36,13 @@ filled-none f =
       kinds = λ i h. absurd (omega arith);
       codes = λ i h. absurd (omega arith);
       marks = λ i h. absurd (omega arith);
-      rest = λ x _. zero-counts 768 x;
+      rest = λ i _. zero-counts 768 (2 * n + i);
     }
 
 -- A line more, of which the table has three bytes.
-module _ {s : List ℕ} {n j : ℕ} {table : List ℕ} (h : Filled s n j table) (l : j < n) {new : List ℕ} (long : length new ≡ 768) (same : (x : ℕ) → x < 3 * j → at new x ≡ at table x)
-    (kind : at new (3 * j) ≡ lineOf s j .kind) (code : at new (3 * j + 1) ≡ lineOf s j .code) (mark : (at new (3 * j + 2) ≡ 1) ↔ LowersAt s j)
-    (rest : (x : ℕ) → 3 * j + 3 ≤ x → at new x ≡ 0) where
+module _ {s : List ℕ} {n j : ℕ} {table : List ℕ} (h : Filled s n j table) (l : j < n) {new : List ℕ} (long : length new ≡ 768)
+    (same : (x : ℕ) → ¬ (x ≡ j) → ¬ (x ≡ n + j) → ¬ (x ≡ 2 * n + j) → at new x ≡ at table x)
+    (kind : at new j ≡ lineOf s j .kind) (code : at new (n + j) ≡ lineOf s j .code) (mark : (at new (2 * n + j) ≡ 1) ↔ LowersAt s j) where
   pub filled-more : Filled s n (j + 1) new
   filled-more =
       record {
@@ -52,53 +52,51 @@ module _ {s : List ℕ} {n j : ℕ} {table : List ℕ} (h : Filled s n j table) 
         kinds = λ i p. kinds i p (ℕ-discrete i j);
         codes = λ i p. codes i p (ℕ-discrete i j);
         marks = λ i p. marks i p (ℕ-discrete i j);
-        rest = λ x p. rest x (omega arith);
+        rest = λ i p. same (2 * n + i) (λ e. omega arith) (λ e. omega arith) (λ e. omega arith) ∙ h .rest i (omega arith);
       }
     where
-      kinds : (i : ℕ) → i < j + 1 → Dec (i ≡ j) → at new (3 * i) ≡ lineOf s i .kind
+      kinds : (i : ℕ) → i < j + 1 → Dec (i ≡ j) → at new i ≡ lineOf s i .kind
       kinds i p (yes e) = rw e kind
-      kinds i p (no d) = same (3 * i) (omega arith) ∙ h .kinds i (omega arith)
+      kinds i p (no d) = same i d (λ e. omega arith) (λ e. omega arith) ∙ h .kinds i (omega arith)
 
-      codes : (i : ℕ) → i < j + 1 → Dec (i ≡ j) → at new (3 * i + 1) ≡ lineOf s i .code
+      codes : (i : ℕ) → i < j + 1 → Dec (i ≡ j) → at new (n + i) ≡ lineOf s i .code
       codes i p (yes e) = rw e code
-      codes i p (no d) = same (3 * i + 1) (omega arith) ∙ h .codes i (omega arith)
+      codes i p (no d) = same (n + i) (λ e. omega arith) (λ e. d (omega arith)) (λ e. omega arith) ∙ h .codes i (omega arith)
 
-      marks : (i : ℕ) → i < j + 1 → Dec (i ≡ j) → (at new (3 * i + 2) ≡ 1) ↔ LowersAt s i
+      marks : (i : ℕ) → i < j + 1 → Dec (i ≡ j) → (at new (2 * n + i) ≡ 1) ↔ LowersAt s i
       marks i p (yes e) = rw e mark
-      marks i p (no d) = rw (same (3 * i + 2) (omega arith)) (h .marks i (omega arith))
+      marks i p (no d) = rw (same (2 * n + i) (λ e. omega arith) (λ e. omega arith) (λ e. d (omega arith))) (h .marks i (omega arith))
 
 -- The bytes of a line that does not lower the norm, and of one that does.
 module _ {s : List ℕ} {n j : ℕ} {table : List ℕ} (h : Filled s n j table) (l : j < n) (k c : ℕ) (kind : k ≡ lineOf s j .kind) (code : c ≡ lineOf s j .code) where
   abbrev two : List ℕ
-  two = set (set table (3 * j) k) (3 * j + 1) c
+  two = set (set table j k) (n + j) c
 
-  two-long : length (set (set table (3 * j) k) (3 * j + 1) c) ≡ 768
-  two-long = length-set (set table (3 * j) k) (3 * j + 1) c ∙ length-set table (3 * j) k ∙ h .long
+  two-long : length (set (set table j k) (n + j) c) ≡ 768
+  two-long = length-set (set table j k) (n + j) c ∙ length-set table j k ∙ h .long
 
-  two-other : (x : ℕ) → ¬ (x ≡ 3 * j) → ¬ (x ≡ 3 * j + 1) → at (set (set table (3 * j) k) (3 * j + 1) c) x ≡ at table x
-  two-other x a b = getD-set-other (set table (3 * j) k) (3 * j + 1) x c 0 b ∙ getD-set-other table (3 * j) x k 0 a
+  two-other : (x : ℕ) → ¬ (x ≡ j) → ¬ (x ≡ n + j) → at (set (set table j k) (n + j) c) x ≡ at table x
+  two-other x a b = getD-set-other (set table j k) (n + j) x c 0 b ∙ getD-set-other table j x k 0 a
 
-  two-kind : at (set (set table (3 * j) k) (3 * j + 1) c) (3 * j) ≡ lineOf s j .kind
-  two-kind = getD-set-other (set table (3 * j) k) (3 * j + 1) (3 * j) c 0 (λ e. omega arith) ∙ getD-set-same table (3 * j) k 0 (omega (arith, h .long, h .few)) ∙ kind
+  two-kind : at (set (set table j k) (n + j) c) j ≡ lineOf s j .kind
+  two-kind = getD-set-other (set table j k) (n + j) j c 0 (λ e. omega arith) ∙ getD-set-same table j k 0 (omega (arith, h .long, h .few)) ∙ kind
 
-  two-code : at (set (set table (3 * j) k) (3 * j + 1) c) (3 * j + 1) ≡ lineOf s j .code
-  two-code = getD-set-same (set table (3 * j) k) (3 * j + 1) c 0 (omega (arith, h .long, h .few, length-set table (3 * j) k)) ∙ code
+  two-code : at (set (set table j k) (n + j) c) (n + j) ≡ lineOf s j .code
+  two-code = getD-set-same (set table j k) (n + j) c 0 (omega (arith, h .long, h .few, length-set table j k)) ∙ code
 
-  pub filled-two : (LowersAt s j → ⊥) → Filled s n (j + 1) (set (set table (3 * j) k) (3 * j + 1) c)
+  pub filled-two : (LowersAt s j → ⊥) → Filled s n (j + 1) (set (set table j k) (n + j) c)
   filled-two not =
-      filled-more h l two-long (λ x p. two-other x (λ e. omega arith) (λ e. omega arith)) two-kind two-code
-      ((λ e. absurd (omega (arith, e, two-other (3 * j + 2) (λ e. omega arith) (λ e. omega arith), h .rest (3 * j + 2) (omega arith)))), (λ w. absurd (not w)))
-      (λ x p. two-other x (λ e. omega arith) (λ e. omega arith) ∙ h .rest x (omega arith))
+      filled-more h l two-long (λ x a b _. two-other x a b) two-kind two-code
+      ((λ e. absurd (omega (arith, e, two-other (2 * n + j) (λ e. omega arith) (λ e. omega arith), h .rest j (omega arith)))), (λ w. absurd (not w)))
 
-  pub filled-three : LowersAt s j → Filled s n (j + 1) (set (set (set table (3 * j) k) (3 * j + 1) c) (3 * j + 2) 1)
+  pub filled-three : LowersAt s j → Filled s n (j + 1) (set (set (set table j k) (n + j) c) (2 * n + j) 1)
   filled-three w =
-      filled-more h l (length-set two (3 * j + 2) 1 ∙ two-long) (λ x p. other x (λ e. omega arith) ∙ two-other x (λ e. omega arith) (λ e. omega arith))
-      (other (3 * j) (λ e. omega arith) ∙ two-kind) (other (3 * j + 1) (λ e. omega arith) ∙ two-code)
-      ((λ _. w), (λ _. getD-set-same two (3 * j + 2) 1 0 (omega (arith, two-long, h .few))))
-      (λ x p. other x (λ e. omega arith) ∙ two-other x (λ e. omega arith) (λ e. omega arith) ∙ h .rest x (omega arith))
+      filled-more h l (length-set two (2 * n + j) 1 ∙ two-long) (λ x a b d. other x d ∙ two-other x a b)
+      (other j (λ e. omega arith) ∙ two-kind) (other (n + j) (λ e. omega arith) ∙ two-code)
+      ((λ _. w), (λ _. getD-set-same two (2 * n + j) 1 0 (omega (arith, two-long, h .few))))
     where
-      other : (x : ℕ) → ¬ (x ≡ 3 * j + 2) → at (set (set (set table (3 * j) k) (3 * j + 1) c) (3 * j + 2) 1) x ≡ at (set (set table (3 * j) k) (3 * j + 1) c) x
-      other x d = getD-set-other (set (set table (3 * j) k) (3 * j + 1) c) (3 * j + 2) x 1 0 d
+      other : (x : ℕ) → ¬ (x ≡ 2 * n + j) → at (set (set (set table j k) (n + j) c) (2 * n + j) 1) x ≡ at (set (set table j k) (n + j) c) x
+      other x d = getD-set-other (set (set table j k) (n + j) c) (2 * n + j) x 1 0 d
 
 -- Whether a line lowers the norm, as the test says it.
 pub lowers-tells : {r : Bool} (s : List ℕ) (j : ℕ) → j < lineCount s → r ≡ lowersNorm s j → (r ≡ true) ↔ LowersAt s j
@@ -113,8 +111,17 @@ pub filled-all : {s : List ℕ} {n j : ℕ} {table : List ℕ} → n ≡ lineCou
 unfolding kindIn codeIn LowersIn
 filled-all {s} {n} {j} {table} e h l =
     record {
-      long = omega (arith, length-take-le (3 * n) table (omega (arith, h .long, h .few)));
-      kind-is = λ i p. getD-take (3 * n) table (3 * i) 0 (omega arith) ∙ h .kinds i (omega arith);
-      code-is = λ i p. getD-take (3 * n) table (3 * i + 1) 0 (omega arith) ∙ h .codes i (omega arith);
-      lowers-is = λ i p. rw (getD-take (3 * n) table (3 * i + 2) 0 (omega arith)) (h .marks i (omega arith));
+      long = count;
+      kind-is = λ i p. getD-take (3 * n) table i 0 (omega arith) ∙ h .kinds i (omega arith);
+      code-is = λ i p. rw count-is (getD-take (3 * n) table (n + i) 0 (omega arith) ∙ h .codes i (omega arith));
+      lowers-is = λ i p. rw (count-is, getD-take (3 * n) table (2 * n + i) 0 (omega arith)) (h .marks i (omega arith));
     }
+  where
+    whole : length (take (3 * n) table) ≡ 3 * n
+    whole = length-take-le (3 * n) table (omega (arith, h .long, h .few))
+
+    count-is : linesIn (take (3 * n) table) ≡ n
+    count-is = omega (arith, whole)
+
+    count : linesIn (take (3 * n) table) ≡ lineCount s
+    count = count-is ∙ e

@@ -14,12 +14,15 @@ use Rattle.model.specs.Limits.{mostKinds}
 use Rattle.model.specs.Refusal.{Accepted}
 use Rattle.model.specs.Sheet.{lineOf, cardOf}
 use Rattle.theory.specs.Terms.{Earlier}
+use Rattle.theory.proofs.Field.{unit-same}
+use Rattle.theory.proofs.Base.{unit-some}
 use Rattle.theory.proofs.Sheets.{certified}
 use Rattle.tables.specs.Table.{rowIn, withRow, IsCandidate}
 use Rattle.tables.specs.Lines.{linesIn, kindIn}
+use Rattle.tables.specs.Match.{Lists, UsableIn}
 use Rattle.tables.specs.Class.{Passes}
 use Rattle.rows.specs.Stage.{ToldAt, lineKind, LowersAt}
-use Rattle.rows.specs.Forms.{OthersKept}
+use Rattle.rows.specs.Forms.{OthersKept, RowSet}
 use Rattle.rows.specs.Row.{LowersKind, Suits, ToldIn}
 use Rattle.rows.specs.StageRows.{StageGiven, RowSought}
 use Rattle.tables.proofs.Answers.{not-both}
@@ -27,6 +30,14 @@ use Rattle.tables.proofs.Stores.{with-row, with-others}
 use Rattle.rows.proofs.Forms.{earlier-not}
 use Rattle.rows.proofs.Candidates.{Product, TellsNone, no-line-tells}
 use Rattle.rows.proofs.RowTests.{ll, lk, told-is, suits-product, suits-form, none-suited, product-narrow, passes-iff}
+
+-- The first of a kind's own lines is one, and there is one.
+module _ (lines : List ℕ) {own : List ℕ} {k : ℕ} (L : Lists (UsableIn lines (unit k)) own) where
+  pub own-first : 0 < length own → LowersKind lines k (at own 0)
+  own-first h = let u = L .entries (at own 0) .0 (0, h, refl) in (u .0, unit-some k (kindIn lines (at own 0)) (u .1))
+
+  pub own-some : ((l : ℕ) × LowersKind lines k l) → 0 < length own
+  own-some w = omega (arith, L .entries (w .0) .1 (w .1 .0, rw (w .1 .1) (omega (arith, unit-same k))) .1)
 
 -- The lines before line m are tried: none of them tells the row, and all rows of the table but k's are as they were.
 pub record Searched (lines classes forms : List ℕ) (k l : ℕ) (old rows : List ℕ) (m : ℕ) : Type 0 where
@@ -135,12 +146,12 @@ module _ {lines classes forms : List ℕ} {k l : ℕ} {old rows : List ℕ} {m :
 
 -- All lines are tried, and the kind is set as its own row.
 module _ {lines classes forms : List ℕ} {k l : ℕ} {old rows : List ℕ} {m : ℕ} (H : Searched lines classes forms k l old rows m) (lw : LowersKind lines k l) (all : linesIn lines ≤ m)
-    (token : List ℕ) {new : List ℕ} (one : at token ≡ unit k) (wide : length token ≡ mostKinds) (room : k * mostKinds + mostKinds ≤ length rows) (e : new ≡ withRow rows k token) where
+    {new : List ℕ} (set : RowSet (unit k) k rows new) where
   pub searched-all : OthersKept k old new
-  searched-all i d = rw e (with-others rows token k wide room i d) ∙ H .others i d
+  searched-all i d = set .others i d ∙ H .others i d
 
   pub searched-atom : (s : List ℕ) (t : ℕ) → StageGiven s t lines classes → RowSought s t k old forms → rowIn new k ≡ stageRow (cardOf s) (suc t) k
   searched-atom s t G K =
       let now = H .sought s t G K in
-      rw e (with-row rows token k wide room) ∙ one
+      set .here
       ∙ sym (no-line-tells s (G .accepted) t k (K .earlier-set .within) l (ll G now lw) (lk G now lw) (λ x. λ w. H .none s t G K x (omega (arith, w .0, G .lines-are .long)) w))

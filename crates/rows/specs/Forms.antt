@@ -7,6 +7,7 @@ use Rattle.model.specs.Field.{Field}
 use Rattle.model.specs.Sheet.{kindCount, lineCount, lineOf}
 use Rattle.tables.specs.Table.{Under, rowIn, formIn}
 use Rattle.tables.specs.Lines.{kindIn, LowersIn}
+use Rattle.tables.specs.Match.{Among}
 
 -- A table of forms for all the lines that a sheet may have. Every count is so small that sums with a row's or a candidate's fit 64 bits.
 pub record FormTable (forms : List ℕ) : Type 0 where
@@ -35,6 +36,12 @@ module _ (s rows : List ℕ) where
   pub record AllForms (forms : List ℕ) : Type 0 where
     pub forms-are : (j : ℕ) → j < lineCount s → LineForm forms j
     pub small : Under (2 ^ 63) forms
+
+  -- So is the row of each line of a list, and the rows of other lines are as before.
+  pub record ListForms (list old new : List ℕ) : Type 0 where
+    pub forms-are : (j : ℕ) → Among list j → LineForm new j
+    pub others : (j : ℕ) → ¬ Among list j → rowIn new j ≡ rowIn old j
+    pub small : Under (2 ^ 63) new
 
   -- So are the rows of the lines of kind k that lower the norm, and the rows of other kinds' lines are as before.
   pub record KindForms (lines : List ℕ) (k : ℕ) (old new : List ℕ) : Type 0 where

@@ -6,20 +6,20 @@ ghost use lib.ListN.{take};
 ghost use Rattle.norms.specs.Norms.{Accepts};
 ghost use Rattle.rows.specs.Stage.{LinesAre};
 
-// The table of the lines: three bytes to a line, so that its first bytes, three times the card's lines, hold them. It has room for the most lines.
+// The table of the lines: its first bytes, three times the card's lines, hold them. It has room for the most lines.
 pub fn line_table(sheet: &[u8], card: Card, norms: [u32; 32]) -> [u8; 768]
     requires { ⌜ Accepts (now sheet) card norms ⌝ }
     ensures { λ r. ⌜ LinesAre (now (sheet .entry)) (take (3 * card .lines) r) ⌝ }
 {
     let lines = card.lines;
+    let marks = 2 * lines;
     let mut table = [0u8; 768];
     let mut line = 0;
     while line < lines {
-        let start = 3 * line;
-        table[start] = card.line_kind(sheet, line) as u8;
-        table[start + 1] = card.line_code(sheet, line) as u8;
+        table[line] = card.line_kind(sheet, line) as u8;
+        table[lines + line] = card.line_code(sheet, line) as u8;
         if lowers(sheet, card, &norms, line) {
-            table[start + 2] = 1;
+            table[marks + line] = 1;
         }
         line += 1;
     }

@@ -16,33 +16,16 @@ ghost use mathlib.Core.Logic.{_↔_};
 ghost use Prim.Native.Nat.{ℕ, suc, _^_, _≤_, _<_};
 ghost use lib.ListN.{length};
 ghost use Rattle.model.specs.Base.{stageRow};
+ghost use Rattle.model.specs.Field.{unit};
 ghost use Rattle.model.specs.Limits.{mostKinds};
 ghost use Rattle.model.specs.Sheet.{cardOf};
 ghost use Rattle.tables.specs.Table.{Under, rowIn, IsCandidate};
 ghost use Rattle.tables.specs.Lines.{linesIn, kindIn, LineTable};
-ghost use Rattle.tables.specs.Match.{MatchTables};
+ghost use Rattle.tables.specs.Match.{Lists, MatchTables, UsableIn};
 ghost use Rattle.tables.specs.Class.{KindMarks};
-ghost use Rattle.rows.specs.Forms.{OthersKept};
-ghost use Rattle.rows.specs.Row.{LowersKind, Suits};
-ghost use Rattle.rows.specs.StageRows.{StageGiven, RowsBefore, RowSought};
-
-// A line of a kind that lowers the norm; there is one.
-fn lowering_line(lines: &[u8], kind: usize) -> usize
-    requires { ⌜ ((l : ℕ) × LowersKind (now lines) kind l) ⌝ }
-    ensures { λ r. ⌜ LowersKind (now (lines .entry)) kind r ⌝ }
-{
-    let count = lines.len() / 3;
-    let mut line = 0;
-    while line < count {
-        if kind_of(lines, line) == kind {
-            if lowers(lines, line) {
-                return line;
-            }
-        }
-        line += 1;
-    }
-    line
-}
+ghost use Rattle.rows.specs.Forms.{OthersKept, RowSet};
+ghost use Rattle.rows.specs.Row.{Suits};
+ghost use Rattle.rows.specs.StageRows.{StageGiven, RowSought};
 
 // Whether the other line has the own line's class, lowers the norm, reads the own line's code, and is of an atom.
 fn suits(lines: &[u8], classes: &[u8], rows: &[u32], own: usize, other: usize) -> bool
@@ -73,63 +56,47 @@ fn told(lines: &[u8], forms: &[u64], own: usize, other: usize) -> RowCandidate
     candidate(form_of(forms, own), form_of(forms, other), kind)
 }
 
-// Sets the row of a kind, of those that its lines tell: each candidate is set in the table and tested there. Where none passes, the kind is its own row.
-fn told_row(
+// Makes a kind its own row.
+pub fn set_atom(rows: &mut [u32], kind: usize)
+    requires { ⌜ (length (now rows) ≡ 1024) × (kind < mostKinds) ⌝ }
+    ensures { λ _. ⌜ RowSet (unit kind) kind (now (rows .entry)) (now (rows .exit)) ⌝ }
+{
+    let token = one_token(kind);
+    set_row(rows, kind, &token);
+}
+
+// Sets the row of a kind, of those that the first of its own lowering lines tells: each candidate is set in the table and tested there. Where none passes, the kind is its own row.
+pub fn told_row(
     lines: &[u8],
     classes: &[u8],
     marks: &[bool],
     rows: &mut [u32],
     forms: &[u64],
+    own: &[u8],
     kind: usize,
 )
     requires { ⌜ MatchTables (now lines) (now rows) (now forms) ⌝ }
     requires { ⌜ (kind < mostKinds) × (linesIn (now lines) ≤ length (now classes)) ⌝ }
     requires { ⌜ KindMarks (now lines) (now classes) (now marks) ⌝ }
-    requires { ⌜ ((l : ℕ) × LowersKind (now lines) kind l) ⌝ }
+    requires { ⌜ Lists (UsableIn (now lines) (unit kind)) (now own) × (0 < length (now own)) ⌝ }
     ensures { λ _. ⌜ OthersKept kind (now (rows .entry)) (now (rows .exit)) ⌝ }
     ensures { λ _. ⌜ ((s : List ℕ) (t : ℕ) → StageGiven s t (now (lines .entry)) (now (classes .entry)) → RowSought s t kind (now (rows .entry)) (now (forms .entry)) → rowIn (now (rows .exit)) kind ≡ stageRow (cardOf s) (suc t) kind) ⌝ }
 {
     let count = lines.len() / 3;
-    let own = lowering_line(lines, kind);
+    let line = own[0] as usize;
     let mut other = 0;
     while other < count {
-        if suits(lines, classes, rows, own, other) {
-            let tried = told(lines, forms, own, other);
+        if suits(lines, classes, rows, line, other) {
+            let tried = told(lines, forms, line, other);
             if tried.found {
                 let counts = tried.counts;
                 set_row(rows, kind, &counts);
-                if passes(lines, marks, rows, forms, kind) {
+                if passes(lines, marks, rows, forms, own, kind) {
                     return;
                 }
             }
         }
         other += 1;
     }
-    let token = one_token(kind);
-    set_row(rows, kind, &token);
-}
-
-// Sets the row of a kind. An atom of the stage before stays an atom.
-pub fn set_kind(
-    lines: &[u8],
-    previous: &[u32],
-    classes: &[u8],
-    marks: &[bool],
-    rows: &mut [u32],
-    forms: &[u64],
-    kind: usize,
-)
-    requires { ⌜ MatchTables (now lines) (now rows) (now forms) ⌝ }
-    requires { ⌜ (kind < mostKinds) × (linesIn (now lines) ≤ length (now classes)) × (length (now previous) ≡ 1024) ⌝ }
-    requires { ⌜ KindMarks (now lines) (now classes) (now marks) ⌝ }
-    requires { ⌜ ((l : ℕ) × LowersKind (now lines) kind l) ⌝ }
-    ensures { λ _. ⌜ OthersKept kind (now (rows .entry)) (now (rows .exit)) ⌝ }
-    ensures { λ _. ⌜ ((s : List ℕ) (t : ℕ) → StageGiven s t (now (lines .entry)) (now (classes .entry)) → RowsBefore s t (now (previous .entry)) → RowSought s t kind (now (rows .entry)) (now (forms .entry)) → rowIn (now (rows .exit)) kind ≡ stageRow (cardOf s) (suc t) kind) ⌝ }
-{
-    if is_atom(previous, kind) {
-        let token = one_token(kind);
-        set_row(rows, kind, &token);
-        return;
-    }
-    told_row(lines, classes, marks, rows, forms, kind);
+    set_atom(rows, kind);
 }

@@ -91,10 +91,10 @@ module _ (P : ℕ → Type 0) (xs : List ℕ) where
   among-all {i} h f j a = rw (a .2) at (f (a .0) (omega (arith, a .1)))
 
 -- Each line of either of two lists has a match in the other just when so do the usable lines that they list.
-pub lists-matched : {r : Bool} {own its : List ℕ} {token row : Field} (lines rows forms : List ℕ) (k : ℕ) → token ≡ unit k → row ≡ rowIn rows k
-    → Lists (UsableIn lines token) own → Lists (UsableIn lines row) its
+pub lists-matched : {r : Bool} {own its : List ℕ} {row : Field} (lines rows forms : List ℕ) (k : ℕ) → row ≡ rowIn rows k
+    → Lists (UsableIn lines (unit k)) own → Lists (UsableIn lines row) its
     → (r ≡ true) ↔ AllMatched (MatchIn lines rows forms) (Among own) (Among its) → (r ≡ true) ↔ Answered lines rows forms k
-lists-matched {own = own} {its = its} lines rows forms k e d p q t =
+lists-matched {own = own} {its = its} lines rows forms k d p q t =
     let same = match-equivalence (kindIn lines) (codeIn lines) (rowIn rows) (rowIn forms) in
-    let w : AllMatched (MatchIn lines rows forms) (Among own) (Among its) ↔ Answered lines rows forms k = all-agrees same same (rw e at (p .entries)) (rw d at (q .entries)) (λ i j _ _. ((λ m. m), (λ m. m))) in
+    let w : AllMatched (MatchIn lines rows forms) (Among own) (Among its) ↔ Answered lines rows forms k = all-agrees same same (p .entries) (rw d at (q .entries)) (λ i j _ _. ((λ m. m), (λ m. m))) in
     (λ h. w .0 (t .0 h), λ h. t .1 (w .1 h))

@@ -1,4 +1,4 @@
--- The lines of a sheet as one table of bytes, three to a line: its kind, its code, and 1 where it lowers the norm, else 0.
+-- The lines of a sheet as one table of bytes: the kinds of the lines, then their codes, then of each line 1 where it lowers the norm, else 0.
 use mathlib.Core.List.{List}
 use mathlib.Core.Path.{_≡_}
 use Prim.Native.Nat.{ℕ, _+_, _*_, _/_, _≤_, _<_}
@@ -12,15 +12,15 @@ linesIn lines = length lines / 3
 
 -- The kind of a line.
 unfoldable pub kindIn : List ℕ → ℕ → ℕ
-kindIn lines j = at lines (3 * j)
+kindIn lines j = at lines j
 
 -- The code of a line.
 unfoldable pub codeIn : List ℕ → ℕ → ℕ
-codeIn lines j = at lines (3 * j + 1)
+codeIn lines j = at lines (linesIn lines + j)
 
 -- The line lowers the norm.
 unfoldable pub LowersIn : List ℕ → ℕ → Type 0
-LowersIn lines j = at lines (3 * j + 2) ≡ 1
+LowersIn lines j = at lines (2 * linesIn lines + j) ≡ 1
 
 -- The table is whole: at most 256 lines, each of one of the 32 kinds that there can be.
 pub record LineTable (lines : List ℕ) : Type 0 where

@@ -1,4 +1,4 @@
-// The lines of a sheet as one table of bytes, three to a line: its kind, its code, and 1 where it lowers the norm.
+// The lines of a sheet as one table of bytes: the kinds of the lines, then their codes, then of each line 1 where it lowers the norm, else 0.
 ghost use mathlib.Core.Path.{_≡_};
 ghost use mathlib.Core.Bool.{true};
 ghost use mathlib.Core.Logic.{_↔_};
@@ -10,7 +10,7 @@ pub fn kind_of(lines: &[u8], line: usize) -> usize
     requires { ⌜ line < linesIn (now lines) ⌝ }
     ensures { λ r. ⌜ r ≡ kindIn (now (lines .entry)) line ⌝ }
 {
-    lines[3 * line] as usize
+    lines[line] as usize
 }
 
 // The code of a line.
@@ -18,7 +18,8 @@ pub fn code_of(lines: &[u8], line: usize) -> usize
     requires { ⌜ line < linesIn (now lines) ⌝ }
     ensures { λ r. ⌜ r ≡ codeIn (now (lines .entry)) line ⌝ }
 {
-    lines[3 * line + 1] as usize
+    let codes = lines.len() / 3;
+    lines[codes + line] as usize
 }
 
 // Whether a line lowers the norm.
@@ -26,5 +27,6 @@ pub fn lowers(lines: &[u8], line: usize) -> bool
     requires { ⌜ line < linesIn (now lines) ⌝ }
     ensures { λ r. ⌜ (r ≡ true) ↔ LowersIn (now (lines .entry)) line ⌝ }
 {
-    lines[3 * line + 2] == 1
+    let marks = 2 * (lines.len() / 3);
+    lines[marks + line] == 1
 }

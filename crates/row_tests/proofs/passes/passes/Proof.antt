@@ -11,22 +11,22 @@ row-of-requires c κs = search needs
 
 uses-alike-requires : tie.Need-uses-alike-requires
 uses-alike-requires c κs =
-    let start = c .before .before .before .before .before in
-    (start .pre .1 .1, start .pre .1 .0, omega (arith, lent-length (start .args .rows .now) (start .args .kind) (omega (arith, start .pre .0 .rows-long, start .pre .1 .0)) (c .row-of .ensures)))
+    let start = c .before .before .before .before .before .before in
+    (start .pre .1 .0 .1, start .pre .1 .0 .0, omega (arith, lent-length (start .args .rows .now) (start .args .kind) (omega (arith, start .pre .0 .rows-long, start .pre .1 .0 .0)) (c .row-of .ensures)))
 
 all-answered-requires : tie.Need-all-answered-requires
 all-answered-requires c κs = search needs
 
 returns : tie.Need-returns
 returns c =
-    let start = c .before .before .before .before .before .before .before .before in
+    let start = c .before .before .before .before .before .before .before .before .before in
     λ classes K.
     let uses = uses-row (start .args .rows .now) (start .args .lines .now) classes (start .args .kind) (c .before .before .before .row-of .ensures) (c .before .before .uses-alike .ensures _ classes K) in
     passes-tells (uses .0 (c .before .if1 .taken)) (c .all-answered .ensures)
 
 returns-2 : tie.Need-returns-2
 returns-2 c =
-    let start = c .before .before .before .before .before .before .before in
+    let start = c .before .before .before .before .before .before .before .before in
     λ classes K.
     let uses = uses-row (start .args .rows .now) (start .args .lines .now) classes (start .args .kind) (c .before .before .row-of .ensures) (c .before .uses-alike .ensures _ classes K) in
     tells-other (λ w. told-not uses (c .if1 .left) (w .uses))

@@ -1,77 +1,59 @@
--- The forms of the kind's lowering lines before the one at hand are written.
+-- The kind's own lines are listed, and their forms are written.
 use borrow.Author.Needs.{needs}
-use Prim.Native.Nat.{_-_}
-use mathlib.Core.Path.{refl, sym, _∙_}
-use mathlib.Core.Logic.{⊎-elim}
+use mathlib.Core.Path.{sym, _∙_}
 use native.Mathlib.Omega.{arith}
-use Rattle.tables.proofs.Tables.{told-not}
-use Rattle.rows.proofs.LineForms.{KindFormed, kind-formed-skip, kind-formed-more, all-kind-formed}
+use lib.Seq.{length-take-le}
+use Rattle.sheet.proofs.Laws.{lines-are}
+use Rattle.rows.proofs.LineForms.{list-kind}
 use Rattle.rows.proofs.line_forms.kind_forms.Statement.{statement}
 use Rattle.rows.proofs.line_forms.kind_forms.Tie as tie
 
-abbrev Inv-loop : tie.InvT-loop
-Inv-loop sheet card lines rows forms₀ kind count line₀ forms line = KindFormed sheet rows lines kind forms₀ forms line
+one-token-requires : tie.Need-one-token-requires
+one-token-requires c κs = search needs
 
-abbrev μ-loop : tie.MeasureT-loop
-μ-loop sheet card lines rows forms₀ kind count line₀ forms line = count - line
+slice-aggregate-usable-lines : tie.Need-slice-aggregate-usable-lines
+slice-aggregate-usable-lines c = search needs
 
-loop-holds : tie.Need-loop-holds Inv-loop μ-loop
-loop-holds c =
-    let start = c .before .before .before .before in
-    record { kept = refl; small = start .pre .1 .1 .1 .1; done = λ i l. absurd (omega arith); others = λ i n. refl }
+usable-lines-requires : tie.Need-usable-lines-requires
+usable-lines-requires c κs = search needs
 
-kind-of-requires : tie.Need-kind-of-requires Inv-loop μ-loop
-kind-of-requires c κs =
-    let start = c .before .before .before .before .before .before in
-    omega (arith, start .pre .1 .0, c .loop-test .taken)
+slice-reshare-prefix-list-forms : tie.Need-slice-reshare-prefix-list-forms
+slice-reshare-prefix-list-forms c = search needs
 
-lowers-requires : tie.Need-lowers-requires Inv-loop μ-loop
-lowers-requires c κs =
-    let start = c .before .before .before .before .before .before .before .before in
-    omega (arith, start .pre .1 .0, c .before .before .loop-test .taken)
+slice-aggregate-list-forms : tie.Need-slice-aggregate-list-forms
+slice-aggregate-list-forms c = sym (length-take-le _ _ (slice-reshare-prefix-list-forms (c .before)))
 
-line-form-requires : tie.Need-line-form-requires Inv-loop μ-loop
-line-form-requires c κs =
-    let start = c .before .before .before .before .before .before .before .before .before .before .before in
-    let at-loop = c .before .before .before .before .before .before in
-    let at-loop-test = c .before .before .before .before .before in
-    (start .pre .0, ((start .pre .1 .1 .0 .0, at-loop .loop .inv .kept ∙ start .pre .1 .1 .0 .1), (start .pre .1 .1 .1 .0, (at-loop-test .loop-test .taken, at-loop .loop .inv .small))))
+list-forms-requires : tie.Need-list-forms-requires
+list-forms-requires c κs =
+    let start = c .before .before .before .before .before .before .before .before .before .before .before .before .before in
+    let at-usable-lines = c .before .before .before .before in
+    (start .pre .0, ((start .pre .1 .1 .0 .0, start .pre .1 .1 .0 .1), (start .pre .1 .1 .1 .0, (λ j a. omega (arith, at-usable-lines .usable-lines .ensures .1 .entries j .0 a .0 .0, start .pre .1 .0 .1), start .pre .1 .1 .1 .1))))
 
-add-line : tie.Need-add-line Inv-loop μ-loop
-add-line c = omega arith
+same-length : tie.Need-same-length
+same-length c = search needs
 
-loop-less : tie.Need-loop-less Inv-loop μ-loop
-loop-less c = search needs
+same-length-2 : tie.Need-same-length-2
+same-length-2 c = search needs
 
-loop-again : tie.Need-loop-again Inv-loop μ-loop
-loop-again c =
-    let h = c .before .before .before .loop .inv in
-    let kind = c .before .kind-of .ensures in
-    ⊎-elim
-    (λ w. rw (w .7) (kind-formed-more h (sym kind ∙ w .0 .taken) (w .4 .ensures .0) (w .4 .kept .1 .1 .1 .0) (w .4 .ensures .1)))
-    (⊎-elim (λ w. rw (w .3) (kind-formed-skip h (λ a _. told-not (w .1 .ensures) (w .2 .left) a))) (λ w. rw (w .1) (kind-formed-skip h (λ _ e. w .0 .left (kind ∙ e)))))
-    (c .if1 .came)
-
-same-length : tie.Need-same-length Inv-loop μ-loop
-same-length c = c .before .loop .inv .kept
-
-returns : tie.Need-returns Inv-loop μ-loop
+returns : tie.Need-returns
 returns c =
-    let start = c .before .before .before .before .before .before in
-    all-kind-formed (start .pre .0) (c .loop-test .left) (c .before .loop .inv)
+    let start = c .before .before .before .before .before .before .before .before .before .before .before .before .before .before .before .before in
+    let at-one-token = c .before .before .before .before .before .before .before .before .before .before in
+    let at-usable-lines = c .before .before .before .before .before .before .before in
+    let found = at-usable-lines .usable-lines .ensures in
+    let own = rw (at-one-token .one-token .ensures) at (found .1) in
+    ((found .0, own), list-kind (start .pre .1 .0 .1 ∙ lines-are (start .pre .0)) own (c .before .before .list-forms .ensures))
 
 pub kind-forms-spec : {M : Type 1} → statement M
 kind-forms-spec =
     tie.close
     (tie.spec
-    Inv-loop
-    μ-loop
-    loop-holds
-    kind-of-requires
-    lowers-requires
-    line-form-requires
-    add-line
-    loop-less
-    loop-again
+    one-token-requires
+    slice-aggregate-usable-lines
+    usable-lines-requires
+    slice-reshare-prefix-list-forms
+    slice-aggregate-list-forms
+    list-forms-requires
     same-length
+    same-length-2
     returns)

@@ -10,16 +10,16 @@ use Rattle.rows.proofs.line_table.line_table.Statement.{statement}
 use Rattle.rows.proofs.line_table.line_table.Tie as tie
 
 abbrev Inv-loop : tie.InvT-loop
-Inv-loop sheet card norms lines table₀ line₀ table line = Filled sheet lines line table
+Inv-loop sheet card norms lines marks table₀ line₀ table line = Filled sheet lines line table
 
 abbrev μ-loop : tie.MeasureT-loop
-μ-loop sheet card norms lines table₀ line₀ table line = lines - line
+μ-loop sheet card norms lines marks table₀ line₀ table line = lines - line
+
+mul-marks : tie.Need-mul-marks Inv-loop μ-loop
+mul-marks c = search (needs, lines-most (c .before .pre .reads))
 
 loop-holds : tie.Need-loop-holds Inv-loop μ-loop
 loop-holds c = filled-none (lines-most (c .before .pre .reads))
-
-mul-start : tie.Need-mul-start Inv-loop μ-loop
-mul-start c = search needs
 
 line-kind-requires : tie.Need-line-kind-requires Inv-loop μ-loop
 line-kind-requires c κs = search needs
@@ -84,8 +84,8 @@ line-table-spec =
     (tie.spec
     Inv-loop
     μ-loop
+    mul-marks
     loop-holds
-    mul-start
     line-kind-requires
     cast-table
     array-write-table

@@ -5,8 +5,8 @@ use borrow.Author.Needs.{needs}
 use Rattle.tables.proofs.lines.lowers.Statement.{statement}
 use Rattle.tables.proofs.lines.lowers.Tie as tie
 
-mul-result : tie.Need-mul-result
-mul-result c = search needs
+mul-marks : tie.Need-mul-marks
+mul-marks c = search needs
 
 add-result : tie.Need-add-result
 add-result c = search needs
@@ -19,4 +19,4 @@ unfolding LowersIn
 returns c = (λ e. eqb-true _ _ e, λ e. eq-eqb _ _ e)
 
 pub lowers-spec : {M : Type 1} → statement M
-lowers-spec = tie.close (tie.spec mul-result add-result shared-slice-read-result returns)
+lowers-spec = tie.close (tie.spec mul-marks add-result shared-slice-read-result returns)
