@@ -14,6 +14,6 @@ abbrev pub shortCodeBy : Finding → ℕ
 shortCodeBy clear = codeOf 12 0
 shortCodeBy (refusal number place) = codeOf number place
 
--- The same of Walk.
+-- What Walk returns where an array has no room: the refusal of its other checks, else that of a short buffer.
 abbrev pub shortWalk : List ℕ → ℕ → ℕ → ℕ → ℕ → ℕ
 shortWalk s i j limit d = shortCodeBy (firstOf (walkChecks s i j limit d))

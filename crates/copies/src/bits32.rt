@@ -17,7 +17,7 @@ pub fn write_u32(values: &[u32], buffer: &mut [u32])
     }
 }
 
-// The same values in 64 bits each, at most one for each kind of a sheet: they are the first of the array.
+// The values as numbers of 64 bits, at most one for each kind of a sheet: they are the first of the array.
 pub fn widen_u32(values: &[u32]) -> [u64; 32]
     requires { ⌜ length (now values) ≤ mostKinds ⌝ }
     ensures { λ r. ⌜ take (length (now (values .entry))) r ≡ now (values .entry) ⌝ }

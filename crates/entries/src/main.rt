@@ -2,7 +2,7 @@
 use text::put_bytes;
 use text::put_labelled;
 ghost use mathlib.Core.Path.{_≡_};
-ghost use Prim.Native.Nat.{_+_, _*_, _≤_, _<_};
+ghost use Prim.Native.Nat.{ℕ, _+_, _*_, _≤_, _<_};
 ghost use lib.ListN.{length};
 ghost use Rattle.text.specs.Appended.{Appended};
 ghost use Rattle.entries.specs.Table.{entriesOf, entryLine, entryLines, rowTexts, tableText};
@@ -16,10 +16,10 @@ fn first_row() -> [u64; 17]
     row
 }
 
-// The entries for so many kinds become those for one kind more: "the entry for k - 1 and t plus, for t above 0, the entry for k and t - 1". The contract alone names the number of kinds.
-fn next_row(row: &mut [u64; 17], kinds: usize)
-    requires { ⌜ (now row ≡ entriesOf kinds) × (kinds < 32) ⌝ }
-    ensures { λ _. ⌜ now (row .exit) ≡ entriesOf (kinds + 1) ⌝ }
+// The entries for k kinds become those for one kind more: "the entry for k - 1 and t plus, for t above 0, the entry for k and t - 1".
+fn next_row(row: &mut [u64; 17])
+    requires { ⌜ ((k : ℕ) × (k < 32) × (now row ≡ entriesOf k)) ⌝ }
+    ensures { λ _. ⌜ ((k : ℕ) → now (row .entry) ≡ entriesOf k → now (row .exit) ≡ entriesOf (k + 1)) ⌝ }
 {
     let mut t = 1;
     while t < 17 {
@@ -58,9 +58,9 @@ fn put_rows(out: &mut [u8], at: usize) -> usize
 {
     let mut row = first_row();
     let mut next = put_row(out, at, &row);
-    let mut k = 0;
+    let mut k = 0usize;
     while k < 32 {
-        next_row(&mut row, k);
+        next_row(&mut row);
         next = put_row(out, next, &row);
         k += 1;
     }

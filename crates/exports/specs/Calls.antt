@@ -55,7 +55,7 @@ unfoldable pub ofDesks : List ℕ → Answer (List ℕ) → Answer (List ℕ)
 ofDesks session (refused number place) = refused number place
 ofDesks session (given values) = elim (ltb (length session) desks) [ true ↦ refused 12 0 | false ↦ given values ]
 
--- What the desks have left stands there afterwards.
+-- Walk, on a session that is lent as an array: what the desks have left stands there afterwards.
 unfoldable pub walkCall : List ℕ → ℕ → ℕ → ℕ → ℕ → List ℕ → List ℕ → Reply (List ℕ)
 walkCall s i j limit d session array =
     let w = walkOf s i j limit d (lentSession session) in

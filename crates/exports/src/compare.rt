@@ -7,7 +7,7 @@ use arrays::values::reply_same;
 use filer::Verdict;
 use filer::compare::compare;
 
-// Any bytes, and any two field numbers.
+// Compare, of any bytes and any two field numbers.
 #[no_mangle]
 pub extern "C" fn limbatue_compare(
     sheet: &[u8],

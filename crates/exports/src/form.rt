@@ -5,7 +5,7 @@ use arrays::reply::refusal_code;
 use filer::Forming;
 use filer::form::prime_form;
 
-// Any bytes, any field number and a buffer of any length.
+// Prime form, of any bytes, any field number and a buffer of any length.
 #[no_mangle]
 pub extern "C" fn limbatue_prime_form(sheet: &[u8], field: usize, counts: &mut [u64]) -> u32
     ensures { λ r. ⌜ r ≡ formCall (now (sheet .entry)) field (now (counts .entry)) .code ⌝ }

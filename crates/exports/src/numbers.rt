@@ -6,7 +6,7 @@ use arrays::values::reply_card;
 use validation::checks::Checked;
 use validation::checks::check_sheet;
 
-// Any bytes.
+// The numbers of any bytes that pass 1 to 8.
 #[no_mangle]
 pub extern "C" fn limbatue_numbers(sheet: &[u8], answer: &mut [u64]) -> u32
     ensures { λ r. ⌜ r ≡ numbersCall (now (sheet .entry)) (now (answer .entry)) .code ⌝ }

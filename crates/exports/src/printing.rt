@@ -6,7 +6,7 @@ use arrays::values::reply_value;
 use page::Writing;
 use page::write_page;
 
-// Any bytes, and a buffer of any length.
+// The page, of any bytes and a buffer of any length.
 #[no_mangle]
 pub extern "C" fn limbatue_page(sheet: &[u8], out: &mut [u8], answer: &mut [u64]) -> u32
     ensures { λ r. ⌜ r ≡ pageCall (now (sheet .entry)) (now (out .entry)) (now (answer .entry)) .code ⌝ }

@@ -6,7 +6,7 @@ use arrays::values::reply_row;
 use filer::RowCheck;
 use filer::row::row_check;
 
-// A table of any length, any n and any kind.
+// Row's check, of a table of any length, any n and any kind.
 #[no_mangle]
 pub extern "C" fn limbatue_row_check(
     table: &[u32],

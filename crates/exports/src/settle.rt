@@ -8,7 +8,7 @@ use filer::Settling;
 use filer::settle::settle_sheet;
 use validation::checks::Checked;
 
-// What a call returns that has no room for its answer: a refusal of the sheet, else 12. Nothing is settled.
+// What Settle returns where the answer array has no room: a refusal of the sheet, else 12. Nothing is settled.
 fn short_code(sheet: &[u8]) -> u32
     ensures { λ r. ⌜ r ≡ shortCode (now (sheet .entry)) ⌝ }
 {
@@ -20,7 +20,7 @@ fn short_code(sheet: &[u8]) -> u32
     }
 }
 
-// Any bytes, and a table of any length.
+// Settle, of any bytes and a table of any length.
 #[no_mangle]
 pub extern "C" fn limbatue_settle(sheet: &[u8], table: &mut [u32], answer: &mut [u64]) -> u32
     ensures { λ r. ⌜ r ≡ settleCall (now (sheet .entry)) (now (table .entry)) (now (answer .entry)) .code ⌝ }

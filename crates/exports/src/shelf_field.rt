@@ -5,7 +5,7 @@ use arrays::reply::refusal_code;
 use numbering::ShelfField;
 use numbering::field::shelf_field;
 
-// Any bytes, any size, any number and a buffer of any length.
+// Shelf field, of any bytes, any size, any number and a buffer of any length.
 #[no_mangle]
 pub extern "C" fn limbatue_shelf_field(
     sheet: &[u8],

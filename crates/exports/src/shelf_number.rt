@@ -6,7 +6,7 @@ use arrays::values::reply_shelved;
 use numbering::ShelfNumber;
 use numbering::number::shelf_number;
 
-// Any bytes, and any field number.
+// Shelf number, of any bytes and any field number.
 #[no_mangle]
 pub extern "C" fn limbatue_shelf_number(sheet: &[u8], field: usize, answer: &mut [u64]) -> u32
     ensures { λ r. ⌜ r ≡ shelfNumberCall (now (sheet .entry)) field (now (answer .entry)) .code ⌝ }

@@ -6,7 +6,7 @@ use arrays::values::reply_value;
 use squads::Squads;
 use squads::squads;
 
-// What is returned where the answer array has no room: a refusal of the other checks, else 12. The remainder goes to a buffer of its own.
+// What Squads returns where the answer array has no room: a refusal of the other checks, else 12. The remainder goes to a buffer of its own.
 fn short_squads(sheet: &[u8], whole: usize, squad: usize) -> u32
     ensures { λ r. ⌜ r ≡ shortSquads (now (sheet .entry)) whole squad ⌝ }
 {
@@ -17,7 +17,7 @@ fn short_squads(sheet: &[u8], whole: usize, squad: usize) -> u32
     }
 }
 
-// Any bytes, any two field numbers and arrays of any length.
+// Squads, of any bytes, any two field numbers and arrays of any length.
 #[no_mangle]
 pub extern "C" fn limbatue_squads(
     sheet: &[u8],

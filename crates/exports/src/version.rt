@@ -8,7 +8,7 @@ pub const MINOR: u32 = 6;
 
 pub const PATCH: u32 = 0;
 
-// As one number, so that a later version has a greater one.
+// The version as one number, so that a later version has a greater one.
 #[no_mangle]
 pub extern "C" fn limbatue_version() -> u32
     ensures { λ r. ⌜ r ≡ version ⌝ }

@@ -9,7 +9,7 @@ use walker::Answer;
 use walker::DESKS;
 use walker::walk;
 
-// Any bytes, any two field numbers, any round limit, any desk and arrays of any length.
+// Walk, of any bytes, any two field numbers, any round limit, any desk and arrays of any length.
 #[no_mangle]
 pub extern "C" fn limbatue_walk(
     sheet: &[u8],

@@ -4,14 +4,12 @@ use mathlib.Core.Path.{_≡_, sym, _∙_, ap}
 use Prim.Native.Nat.{ℕ, _*_, _^_, _≤_, _<_}
 use native.Mathlib.Omega.{arith}
 use lib.ListN.{length, take}
-use Rattle.model.specs.Finite.{listFrom}
-use Rattle.model.specs.Field.{at}
 use Rattle.model.specs.Norm.{kindNorm}
 use Rattle.model.specs.Base.{settledStage, roundsAt}
 use Rattle.model.specs.Sheet.{kindCount, fieldCount, cardOf, fieldOf}
 use Rattle.model.specs.Refusal.{Finding, clear, refusal, firstOf, acceptChecks, Accepted}
 use Rattle.theory.specs.Widths.{Bytes}
-use Rattle.model.specs.Answer.{refused, given, same, different, settleOf, compareOf, formOf, written}
+use Rattle.model.specs.Answer.{refused, given, same, different, settleOf, compareOf, primeForm, formOf, written}
 use Rattle.sheet.specs.declared.reader.Card.{Card}
 use Rattle.validation.specs.Fields.{withFields}
 use Rattle.validation.specs.declared.checks.Checked.the-variants.{Passed, Refused}
@@ -21,14 +19,12 @@ use Rattle.acceptance.specs.Acceptance.{acceptanceOf}
 use Rattle.acceptance.specs.declared.accept.Acceptance.{Acceptance}
 use Rattle.acceptance.proofs.Acceptances.{accepts, refused as found-refused}
 use Rattle.stages.specs.declared.settle.Settled.{Settled}
-use Rattle.tables.specs.Table.{formIn}
 use Rattle.stages.specs.Settle.{IsSettled}
-use Rattle.stages.specs.Parting.{partedBy, FieldsFit}
-use Rattle.stages.proofs.Outcomes.{settled-fit, prime-form, compare-different, compare-same}
+use Rattle.stages.specs.Parting.{partedBy}
+use Rattle.stages.proofs.Outcomes.{compare-different, compare-same}
 use Rattle.filer.specs.declared.settlement.Settlement.{Settlement}
 use Rattle.filer.specs.Settlement.{IsSettlement, tableIn}
 use Rattle.theory.proofs.Told.{gives}
-use Rattle.theory.proofs.Writing.{first-counts}
 use Rattle.filer.proofs.Calls.{settle-refused, compare-refused, form-refused, table-short, no-field, buffer-short, settle-given, form-given, rounds-fit}
 
 -- The core function's answer, from the check of the sheet.
@@ -114,9 +110,6 @@ module _ {s : List ℕ} {x : Settlement} (X : IsSettlement s x) where
         compare-different-called r q = ap (λ (n : ℕ). given (different d n)) q ∙ sym parted
 
     -- Prime form.
-    pub forms-fit : Bytes s → FieldsFit s (x .settled .base .rows)
-    forms-fit bytes = settled-fit s ok (x .settled .base .rows) (was-settled .base-is) bytes
-
     module _ (i : ℕ) (buffer : List ℕ) where
       pub form-no-field : c .fields ≤ i → (refused 11 0 ≡ formOf s i buffer .answer) × (buffer ≡ formOf s i buffer .lent)
       form-no-field h = gives (no-field s ok i buffer (rw fields at h))
@@ -125,9 +118,8 @@ module _ {s : List ℕ} {x : Settlement} (X : IsSettlement s x) where
         pub form-short : length buffer < c .kinds → (refused 12 0 ≡ formOf s i buffer .answer) × (buffer ≡ formOf s i buffer .lent)
         form-short l = gives (buffer-short s ok i buffer (rw fields at h) (rw kinds at l))
 
-        pub form-writes : (form after : List ℕ) → c .kinds ≤ length buffer → c .kinds ≤ length form → at form ≡ formIn (kindCount s) (x .settled .base .rows) (fieldOf s i)
-            → after ≡ written (take (c .kinds) form) buffer → (given tt ≡ formOf s i buffer .answer) × (after ≡ formOf s i buffer .lent)
-        form-writes form after l m f w =
-            let first = first-counts form (c .kinds) m ∙ ap (λ (n : ℕ). listFrom (at form) 0 n) kinds in
-            let g = gives (form-given s ok i (take (c .kinds) form) buffer (rw fields at h) (rw kinds at l) (first ∙ prime-form s ok (x .settled .base .rows) (was-settled .base-is) i form f)) in
+        pub form-writes : (form after : List ℕ) → c .kinds ≤ length buffer → take (kindCount s) form ≡ primeForm s i → after ≡ written (take (c .kinds) form) buffer
+            → (given tt ≡ formOf s i buffer .answer) × (after ≡ formOf s i buffer .lent)
+        form-writes form after l f w =
+            let g = gives (form-given s ok i (take (c .kinds) form) buffer (rw fields at h) (rw kinds at l) (rw kinds f)) in
             (g .0, w ∙ g .1)

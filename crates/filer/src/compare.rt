@@ -18,14 +18,14 @@ use validation::checks::Checked;
 use validation::fields::check_fields;
 use weights::fields::field_norm;
 
-// Any bytes, and any two field numbers.
+// Compare, of any bytes and any two field numbers.
 pub fn compare(sheet: &[u8], first: usize, second: usize) -> Verdict
     ensures { λ r. ⌜ verdictOf r ≡ compareOf (now (sheet .entry)) first second ⌝ }
 {
     compare_settled(sheet, settle_once(sheet), first, second)
 }
 
-// The same of a sheet that was settled.
+// Compare, of a sheet that was checked and settled, and any two field numbers.
 pub fn compare_settled(sheet: &[u8], settlement: Settlement, first: usize, second: usize) -> Verdict
     requires { ⌜ IsSettlement (now sheet) settlement ⌝ }
     ensures { λ r. ⌜ verdictOf r ≡ compareOf (now (sheet .entry)) first second ⌝ }

@@ -1,12 +1,13 @@
 // Prime form: "n counts of 64 bits to a lent buffer".
 ghost use mathlib.Core.Path.{_≡_};
 ghost use Prim.Native.Nat.{_<_};
-ghost use Rattle.model.specs.Field.{at};
-ghost use Rattle.model.specs.Sheet.{kindCount, fieldOf};
-ghost use Rattle.model.specs.Answer.{formOf};
+ghost use lib.ListN.{take};
+ghost use Rattle.model.specs.Base.{settledStage};
+ghost use Rattle.model.specs.Sheet.{kindCount, cardOf};
+ghost use Rattle.model.specs.Refusal.{Accepted};
+ghost use Rattle.model.specs.Answer.{primeForm, formOf};
 ghost use Rattle.sheet.specs.Reader.{Reads};
-ghost use Rattle.tables.specs.Table.{formIn};
-ghost use Rattle.stages.specs.Parting.{FieldsFit};
+ghost use Rattle.rows.specs.Stage.{BaseAt};
 ghost use Rattle.filer.specs.Answers.{formingOf};
 ghost use Rattle.filer.specs.Settlement.{IsSettlement};
 use crate::answers::Forming;
@@ -18,7 +19,7 @@ use stages::parting::field_form;
 use tables::table::Base;
 use validation::checks::Checked;
 
-// Any bytes, any field number and a buffer of any length; a refusal leaves the buffer as it was.
+// Prime form, of any bytes, any field number and a buffer of any length; a refusal leaves the buffer as it was.
 pub fn prime_form(sheet: &[u8], field: usize, buffer: &mut [u64]) -> Forming
     ensures { λ r. ⌜ formingOf r ≡ formOf (now (sheet .entry)) field (now (buffer .entry)) .answer ⌝ }
     ensures { λ r. ⌜ now (buffer .exit) ≡ formOf (now (sheet .entry)) field (now (buffer .entry)) .lent ⌝ }
@@ -26,7 +27,7 @@ pub fn prime_form(sheet: &[u8], field: usize, buffer: &mut [u64]) -> Forming
     form_settled(sheet, settle_once(sheet), field, buffer)
 }
 
-// The same of a sheet that was settled.
+// Prime form, of a sheet that was checked and settled, any field number and a buffer of any length.
 pub fn form_settled(
     sheet: &[u8],
     settlement: Settlement,
@@ -57,19 +58,19 @@ pub fn form_settled(
             }
             let settled = settlement.settled;
             let base = settled.base;
-            let form = form_by(sheet, card, base, field);
+            let form = prime_counts(sheet, card, base, field);
             write_u64(&form[..n], buffer);
             Forming::Written
         }
     }
 }
 
-// The decomposition of a field by the rows of a base.
-pub fn form_by(sheet: &[u8], card: Card, base: Base, field: usize) -> [u64; 32]
-    requires { ⌜ Reads (now sheet) card ⌝ }
+// The prime form of a field, by the final base: the first n counts of the array.
+pub fn prime_counts(sheet: &[u8], card: Card, base: Base, field: usize) -> [u64; 32]
+    requires { ⌜ Reads (now sheet) card × Accepted (now sheet) ⌝ }
+    requires { ⌜ BaseAt (now sheet) (settledStage (cardOf (now sheet))) (base .rows) ⌝ }
     requires { ⌜ field < card .fields ⌝ }
-    requires { ⌜ FieldsFit (now sheet) (base .rows) ⌝ }
-    ensures { λ r. ⌜ at r ≡ formIn (kindCount (now (sheet .entry))) (base .rows) (fieldOf (now (sheet .entry)) field) ⌝ }
+    ensures { λ r. ⌜ take (kindCount (now (sheet .entry))) r ≡ primeForm (now (sheet .entry)) field ⌝ }
 {
     let rows = base.rows;
     field_form(sheet, card, &rows, field)

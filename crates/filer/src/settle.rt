@@ -10,7 +10,7 @@ use crate::answers::Settling;
 use crate::settlement::settle_once;
 use validation::checks::Checked;
 
-// Any bytes, and a table of any length; a refusal leaves the table as it was.
+// Settle, of any bytes and a table of any length; a refusal leaves the table as it was.
 pub fn settle_sheet(sheet: &[u8], table: &mut [u32]) -> Settling
     ensures { λ r. ⌜ settlingOf r ≡ settleOf (now (sheet .entry)) (now (table .entry)) .answer ⌝ }
     ensures { λ r. ⌜ now (table .exit) ≡ settleOf (now (sheet .entry)) (now (table .entry)) .lent ⌝ }

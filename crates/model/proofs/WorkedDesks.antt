@@ -20,7 +20,7 @@ session a b c d e f g h = record { left = a ∷ b ∷ c ∷ d ∷ e ∷ f ∷ g 
 abbrev asks : List ℕ → ℕ → WalkCall
 asks s d = record { sheet = s; first = 0; second = 1; limit = 2; desk = d }
 
--- The same of fields, a limit and a desk that are wrong.
+-- A walk of fields that a sheet does not have, with a limit over 8, by a desk.
 abbrev wrong : List ℕ → ℕ → WalkCall
 wrong s d = record { sheet = s; first = 2; second = 2; limit = 9; desk = d }
 

@@ -14,7 +14,7 @@ pub record WalkCall : Type 0 where
   pub limit : ℕ
   pub desk : ℕ
 
--- What it comes to on a session.
+-- What a walk that is asked for comes to on a session.
 abbrev pub walkBy : WalkCall → Session → Walked
 walkBy x v = walkOf (x .sheet) (x .first) (x .second) (x .limit) (x .desk) v
 

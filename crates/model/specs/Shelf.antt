@@ -42,7 +42,7 @@ fieldIn ks t x = getD (listed ks t) x none
 abbrev pub lastFirst : Card → List ℕ
 lastFirst c = reverse (liveKinds c)
 
--- The same of a card: its fields of t tokens, the number of a field at its size, and the field of a size and a number.
+-- Of a card: its fields of t tokens, the number of a field at its size, and the field of a size and a number.
 abbrev pub shelf : Card → ℕ → List Field
 shelf c t = listed (lastFirst c) t
 

@@ -29,6 +29,6 @@ pub record FollowsFrom (s : List ℕ) (from : ℕ) (t : List ℕ) : Type 0 where
   pub long : Long t
   pub entry : (i c : ℕ) → from ≤ i → i ≤ lineCount s → c < mostCodes → at t (i * mostCodes + c) ≡ nextOf (hasCode c) (lineOf s) i (lineCount s)
 
--- The same in all rows.
+-- In all rows of the table stands, at each position and code, the first line from the position up that has the code, and the number of lines where there is none.
 abbrev pub Follows : List ℕ → List ℕ → Type 0
 Follows s t = FollowsFrom s 0 t

@@ -70,7 +70,7 @@ module _ {s : List ℕ} {c : Card} {norms : List ℕ} (A : Accepts s c norms) wh
   pub norm-fits : (a : Field) → ((k : ℕ) → a k ≤ 65535) → weigh (c .kinds) (at norms) a < 2 ^ 64
   norm-fits a h = counts-fit (c .kinds) (at norms) a (kinds-most (A .reads)) (λ k. omega (arith, norm-most k)) h
 
-  -- So does the norm of a line's part of the sheet's bytes, and it is the norm of what the line leaves.
+  -- The norm of a line's part of the sheet's bytes fits 64 bits, and is the norm of what the line leaves.
   module _ (j : ℕ) (xs : List ℕ) (part : xs ≡ lineCounts s j) where
     pub part-fits : ((k : ℕ) → byte s k < 256) → weigh (length xs) (at norms) (at xs) < 2 ^ 64
     part-fits bytes =

@@ -46,11 +46,11 @@ pub record Promises : Type 0 where
   pub number-answers : (s : List ℕ) (i : ℕ) (answer : ShelfNumber) → numberAnswer answer ≡ shelfNumberOf s i → NumberAnswers s i answer
   pub field-answers : (s : List ℕ) (t x : ℕ) (buffer : List ℕ) (answer : ShelfField) (after : List ℕ)
       → fieldAnswer answer ≡ shelfFieldOf s t x buffer .answer → after ≡ shelfFieldOf s t x buffer .lent → FieldAnswers s t x buffer answer after
-  -- "At each size, field to number and number to field are each other's inverse": the size and the number that a field was given find that field;
+  -- "At each size, field to number and number to field are each other's inverse": the size and the number that a field was given find that field.
   pub number-field : (s : List ℕ) (i t x : ℕ) (number : ShelfNumber) (buffer : List ℕ) (field : ShelfField) (after : List ℕ)
       → numberAnswer number ≡ shelfNumberOf s i → fieldAnswer field ≡ shelfFieldOf s t x buffer .answer → after ≡ shelfFieldOf s t x buffer .lent
       → number ≡ Given t x → kindCount s ≤ length buffer → (field ≡ Written) × (at (take (kindCount s) after) ≡ fieldOf s i)
-  -- and the field found by a size and a number, wherever it stands on the sheet, is given that size and that number.
+  -- "each other's inverse": the field found by a size and a number, wherever it stands on the sheet, is given that size and that number.
   pub field-number : (s : List ℕ) (i t x : ℕ) (number : ShelfNumber) (buffer : List ℕ) (field : ShelfField) (after : List ℕ)
       → numberAnswer number ≡ shelfNumberOf s i → fieldAnswer field ≡ shelfFieldOf s t x buffer .answer → after ≡ shelfFieldOf s t x buffer .lent
       → field ≡ Written → i < fieldCount s → at (take (kindCount s) after) ≡ fieldOf s i → number ≡ Given t x

@@ -8,7 +8,7 @@ use Rattle.listing.specs.Lengths.{mostHead, mostKindLine, mostFieldLine}
 abbrev pub mostKind : ℕ
 mostKind = mostKindLine mostKinds
 
--- The line of a field, with as many counts.
+-- The line of a field, with a count for every kind that a sheet may have.
 abbrev pub mostField : ℕ
 mostField = mostFieldLine mostKinds
 
@@ -16,7 +16,7 @@ mostField = mostFieldLine mostKinds
 abbrev pub mostStart : ℕ
 mostStart = letters "pair 0 " + mostDigits + letters " "
 
--- What the line ends with: no word of a verdict is longer than `different S R`.
+-- What a pair's line ends with: no word of a verdict is longer than `different S R`.
 abbrev pub mostWord : ℕ
 mostWord = letters "different " + mostDigits + letters " " + mostDigits + letters "\n"
 

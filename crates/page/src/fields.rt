@@ -33,7 +33,7 @@ fn put_settled_field(
     put_field(out, at, field, &form[..n])
 }
 
-// The lines of all its fields.
+// The lines of all fields of a settled sheet.
 pub fn put_fields(
     out: &mut [u8],
     at: usize,

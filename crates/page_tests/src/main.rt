@@ -1,4 +1,4 @@
-// pages NAME ..: the page of each stored sheet NAME.sheet against NAME.page, and the filer's verdicts against a second player of the round game.
+// page_tests NAME ..: the page of each stored sheet NAME.sheet against NAME.page, and the filer's verdicts against a second player of the round game.
 
 // The stored pages.
 mod stored;

@@ -31,7 +31,7 @@ impl Count {
     }
 }
 
-// One more; the greatest number stays.
+// A count and one more; the greatest number stays.
 fn one_more(count: u64) -> u64 {
     if count < 18446744073709551615 {
         count + 1

@@ -11,7 +11,7 @@ use Rattle.queries.specs.Verb.{verbOf}
 use Rattle.queries.specs.declared.table.Verb.{Verb}
 use Rattle.queries.specs.declared.table.Verb.the-variants.{Settle, Row, Compare, Form, Walk, Number, Field, Squads, Other}
 
--- Each verb, with its numbers.
+-- What the call of each verb, with its numbers, comes to.
 unfoldable pub verbTold : List ℕ → Verb → List ℕ → Told
 verbTold s Settle = settleTold s
 verbTold s Row = rowTold s
@@ -23,7 +23,7 @@ verbTold s Field = fieldTold s
 verbTold s Squads = squadsTold s
 verbTold s Other = λ _. noCall
 
--- The same, where the words after the verb say numbers; otherwise it is no call.
+-- What a verb and the words after it come to: its call, where these words say numbers; otherwise it is no call.
 unfoldable pub saidTold : List ℕ → Verb → Said → Told
 saidTold s verb (numbers xs) = verbTold s verb xs
 saidTold s verb nothing = noCall
@@ -32,11 +32,11 @@ saidTold s verb nothing = noCall
 abbrev pub mostNumbers : ℕ
 mostNumbers = 5
 
--- The words: a verb, and then numbers of 64 bits.
+-- What words come to: a verb, and then numbers of 64 bits.
 unfoldable pub wordsTold : List ℕ → List (List ℕ) → Told
 wordsTold s [] = noCall
 wordsTold s (verb ∷ more) = saidTold s (verbOf verb) (numbersOf mostNumbers more)
 
--- The call that a text of words asks for, of a sheet's bytes.
+-- What a text of words comes to, of a sheet's bytes: the call that it asks for.
 unfoldable pub queryOf : List ℕ → List ℕ → Told
 queryOf s text = wordsTold s (wordsOf text)

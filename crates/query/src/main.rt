@@ -30,7 +30,7 @@ fn answer(sheet: &[u8], words: &[u8]) {
     }
 }
 
-// The same, of the sheet on standard input.
+// Reads the sheet on standard input, and makes the call that the words ask for.
 fn query(words: &[u8]) {
     let mut sheet = [0u8; console::INPUT];
     match console::read_sheet(&mut sheet) {

@@ -48,7 +48,7 @@ fn row_expands(marks: &[bool], rows: &[u32], kind: usize) -> bool
     uses_alike(marks, kind, row_of(rows, kind))
 }
 
-// Whether each of this many kinds and its row do: "every row must".
+// Whether each of this many kinds and its row may use lines of the same classes: "every row must".
 pub fn rows_expand(lines: &[u8], classes: &[u8], rows: &[u32], kinds: usize) -> bool
     requires { ⌜ LineTable (now lines) × (linesIn (now lines) ≤ length (now classes)) ⌝ }
     requires { ⌜ (length (now rows) ≡ 1024) × (kinds ≤ mostKinds) ⌝ }

@@ -106,7 +106,7 @@ module _ (c : Card) (F : Found (c .lines) (c .kinds) (kindNorm c)) (k : ℕ) (h 
       let e : norm c (unit k) ≡ norm c b = weigh-unit (c .kinds) (kindNorm c) k h ∙ sym (P .norms) in
       ((λ x. r .0 (t .1 (e, x))), (λ x. t .0 (r .1 x) .1))
 
-  -- The same at a later stage, from the stage before.
+  -- The test of a candidate at a later stage, from the stage before.
   pub row-next : (q : ℕ) (b : Field) → Product c (suc q) k b
       → (Equal c (kindNorm c) F q (unit k) b × Expands (On c) (Equal c (kindNorm c) F q) (unit k) b × Expands (Lowers c (kindNorm c)) (Equal c (kindNorm c) F (suc q)) (unit k) b)
       ↔ (stageRow c (suc (suc q)) k ≡ b)
@@ -144,7 +144,7 @@ TellsNone s q k i j =
     LowersAt s j → lineOf s j .code ≡ lineOf s i .code → Earlier (cardOf s) (lineOf s j .kind) k → stageRow (cardOf s) (suc q) (lineOf s j .kind) ≡ unit (lineOf s j .kind)
     → (b : Field) → ToldAt (cardOf s) q (lineOf s i) (lineOf s j) b → ¬ (stageRow (cardOf s) (suc q) k ≡ b)
 
--- The same of an accepted sheet, with its lines by number.
+-- What lines tell of an accepted sheet, with its lines by number.
 module _ (s : List ℕ) (ok : Accepted s) (q k : ℕ) (h : k < kindCount s) where
   pub lines-product : (i j : ℕ) → LowersAt s i → LowersAt s j → lineOf s i .kind ≡ k → Earlier (cardOf s) (lineOf s j .kind) k
       → stageRow (cardOf s) (suc q) (lineOf s j .kind) ≡ unit (lineOf s j .kind) → (b : Field) → ToldAt (cardOf s) q (lineOf s i) (lineOf s j) b → Product (cardOf s) q k b

@@ -41,7 +41,7 @@ module _ (c : Card) (F : Found (c .lines) (c .kinds) (kindNorm c)) (l m : Line) 
       let t = test-next c (kindNorm c) F (l .left ⊕ unit (m .kind)) (m .left ⊕ unit (l .kind)) (with-kinds c F l m o p) (with-kinds c F m l p o) q .0 e in
       (x .0, sym (with-form c F l m o p q) ∙ t .0 ∙ with-form c F m l p o q)
 
--- So bounds of the classes at a stage are bounds at the next. Line 0 is a bound for every line at every stage.
+-- Bounds of the classes at a stage are bounds at the next. Line 0 is a bound for every line at every stage.
 pub bounds-next : (s : List ℕ) → Accepted s → (q : ℕ) (bounds : List ℕ) → BoundsAt s q bounds → BoundsAt s (suc q) bounds
 bounds-next s ok q bounds f j h =
     let b = f j h in

@@ -86,7 +86,7 @@ module _ (c : Card) (F : Found (c .lines) (c .kinds) (kindNorm c)) (q k : ℕ) (
   lowering-matched =
       expands-matched (Lowers c (kindNorm c)) (Equal c (kindNorm c) F q) (MatchBy c q row) (match-equivalence (λ l. l .kind) (λ l. l .code) row (leftForm c q)) (λ l m w. w .0) (unit k) b leave-equal
 
--- The same of an accepted sheet, with its lines by number.
+-- Norm-reducing expansion of a kind and a product, as matches of lines, of an accepted sheet with its lines by number.
 module _ (s : List ℕ) (ok : Accepted s) (q k : ℕ) (b : Field) (P : Product (cardOf s) q k b) (row : ℕ → Field) (own : row k ≡ b) (atoms : (j : ℕ) → 0 < b j → row j ≡ unit j) where
   pub lines-lowering : Expands (Lowers (cardOf s) (kindNorm (cardOf s))) (Equal (cardOf s) (kindNorm (cardOf s)) (certified s ok) q) (unit k) b
       ↔ AllMatched (λ i j. MatchBy (cardOf s) q row (lineOf s i) (lineOf s j)) (UsableAt s (unit k)) (UsableAt s b)

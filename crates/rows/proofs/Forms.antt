@@ -98,7 +98,7 @@ module _ (c : Card) (F : Found (c .lines) (c .kinds) (kindNorm c)) where
     unfolding formAt
     form-table rows a h j = form-rows (c .kinds) rows (stageRow c (suc q)) a h j
 
-    -- So for what a lowering line of kind k, or of an earlier kind, leaves, the rows of the kinds earlier than k are enough.
+    -- The form of what a lowering line of kind k, or of an earlier kind, leaves: the rows of the kinds earlier than k are enough.
     pub form-earlier : (k : ℕ) (rows : ℕ → Field) → ((j : ℕ) → j < c .kinds → Earlier c j k → rows j ≡ stageRow c (suc q) j)
         → (l : Line) → Lowers c (kindNorm c) l → (l .kind ≡ k) ⊎ Earlier c (l .kind) k → (j : ℕ) → weigh (c .kinds) (λ i. rows i j) (l .left) ≡ stageForm c (suc q) (l .left) j
     form-earlier k rows f l o e = form-table rows (l .left) (λ i h p. f i h (lowers-earlier k l o e i p .1))
@@ -126,7 +126,7 @@ module _ (c : Card) (F : Found (c .lines) (c .kinds) (kindNorm c)) where
         go (inl p) = inl (p .0)
         go (inr p) = inr p
 
-    -- So a row holds kinds of the card alone, and atoms alone.
+    -- A row holds kinds of the card alone, and atoms alone.
     pub row-kinds : (k : ℕ) → k < c .kinds → OfKinds c (stageRow c (suc q) k)
     row-kinds k h j i = go (row-sort k h)
       where
@@ -196,7 +196,7 @@ module _ (c : Card) (F : Found (c .lines) (c .kinds) (kindNorm c)) where
         form-within N (level N q) (past N fin) (level-base N fin q) (rank N k) a (omega (arith, past-whole N fin k h)) (within c F k h a f) .0 j
         (rw (ap (λ (x : Field). x j) (theirs c (kindNorm c) F q a)) at i))
 
-    -- So no count of a form passes the field's norm, and none of a row its kind's.
+    -- No count of a form passes the field's norm, and none of a row its kind's.
     pub form-count : (a : Field) → OfKinds c a → (j : ℕ) → stageForm c (suc q) a j ≤ norm c a
     form-count a u j = omega (arith, count-most (stageForm c (suc q) a) (form-kinds a u) j, form-norm a u)
 

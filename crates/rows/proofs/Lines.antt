@@ -20,7 +20,7 @@ module _ (s : List ℕ) where
   unfolding cardOf
   line-on j h = let e : 0 + j ≡ j = omega arith in rw (ap (lineOf s) e) at (from-mem (lineOf s) 0 (lineCount s) j h)
 
-  -- The same of those that lower the norm; and there are no others.
+  -- Every numbered line that lowers the norm is a lowering line of the card, and the card has no others.
   pub line-lowers : (j : ℕ) → LowersAt s j → Lowers (cardOf s) (kindNorm (cardOf s)) (lineOf s j)
   line-lowers j h = (line-on j (h .0), h .1)
 

@@ -28,22 +28,22 @@ module _ (s rows : List ℕ) where
   abbrev pub LineForm : List ℕ → ℕ → Type 0
   LineForm forms j = rowIn forms j ≡ formIn (kindCount s) rows (lineOf s j .left)
 
-  -- So is each row of a line that lowers the norm.
+  -- The rows of the lines that lower the norm are the decompositions of what these lines leave.
   abbrev pub LoweringForms : List ℕ → List ℕ → Type 0
   LoweringForms lines forms = (j : ℕ) → j < lineCount s → LowersIn lines j → LineForm forms j
 
-  -- So is the row of every line.
+  -- The rows of all lines are the decompositions of what these lines leave.
   pub record AllForms (forms : List ℕ) : Type 0 where
     pub forms-are : (j : ℕ) → j < lineCount s → LineForm forms j
     pub small : Under (2 ^ 63) forms
 
-  -- So is the row of each line of a list, and the rows of other lines are as before.
+  -- The rows of the lines of a list are the decompositions of what these lines leave, and the rows of other lines are as before.
   pub record ListForms (list old new : List ℕ) : Type 0 where
     pub forms-are : (j : ℕ) → Among list j → LineForm new j
     pub others : (j : ℕ) → ¬ Among list j → rowIn new j ≡ rowIn old j
     pub small : Under (2 ^ 63) new
 
-  -- So are the rows of the lines of kind k that lower the norm, and the rows of other kinds' lines are as before.
+  -- The rows of the lines of kind k that lower the norm are the decompositions of what these lines leave, and the rows of other kinds' lines are as before.
   pub record KindForms (lines : List ℕ) (k : ℕ) (old new : List ℕ) : Type 0 where
     pub forms-are : (j : ℕ) → j < lineCount s → LowersIn lines j → kindIn lines j ≡ k → LineForm new j
     pub others : (j : ℕ) → ¬ (kindIn lines j ≡ k) → rowIn new j ≡ rowIn old j

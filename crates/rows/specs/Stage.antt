@@ -21,15 +21,15 @@ Told kind form l m b = b ⊕ form m ≡ unit (kind m) ⊕ form l
 abbrev pub leftForm : Card → ℕ → Line → Field
 leftForm c q l = stageForm c (suc q) (l .left)
 
--- The same of what two lines of a card tell, by the forms of the stage.
+-- b is the candidate that two lines of a card tell, by the forms of stage q + 1.
 abbrev pub ToldAt : Card → ℕ → Line → Line → Field → Type 0
 ToldAt c q = Told (λ l. l .kind) (leftForm c q)
 
--- Two lines of a card match, by any rows of the kinds and the forms of the stage.
+-- Two lines of a card match, by any rows of the kinds and the forms of stage q + 1.
 abbrev pub MatchBy : Card → ℕ → (ℕ → Field) → Line → Line → Type 0
 MatchBy c q row = Match (λ l. l .kind) (λ l. l .code) row (leftForm c q)
 
--- They match by the rows of the stage: wherever two fields of equal forms may use them, they read one code and leave equal forms.
+-- Two lines of a card match at stage q + 1, by its rows and forms: wherever two fields of equal forms may use them, they read one code and leave equal forms.
 abbrev pub MatchAt : Card → ℕ → Line → Line → Type 0
 MatchAt c q = MatchBy c q (stageRow c (suc q))
 
@@ -42,11 +42,11 @@ module _ (s : List ℕ) where
   abbrev pub LowersAt : ℕ → Type 0
   LowersAt j = (j < lineCount s) × (norm (cardOf s) (lineOf s j .left) < kindNorm (cardOf s) (lineOf s j .kind))
 
-  -- Such a line that the field may use.
+  -- Line j is one of the sheet's that lowers the norm and that the field may use.
   abbrev pub UsableAt : Field → ℕ → Type 0
   UsableAt = Usable LowersAt lineKind
 
-  -- Lines i and j of the sheet match at the stage.
+  -- Lines i and j of the sheet match at stage q + 1.
   abbrev pub LinesMatch : ℕ → ℕ → ℕ → Type 0
   LinesMatch q i j = MatchAt (cardOf s) q (lineOf s i) (lineOf s j)
 

@@ -99,7 +99,7 @@ module _ (kinds : List ℕ) (a : Field) (size : ℕ) where
   unfolding total
   numbered-end number left H = let z : left ≡ 0 = sym (H .tokens-left) in omega (arith, rw z at (H .sum), number-end a)
 
-  -- So 64 bits hold it, and every number on the way.
+  -- 64 bits hold the number of a field, and so every number on the way to it.
   pub numbered-fits : InOrder kinds → size ≤ mostTokens → List·Memᴰ a (listed (reverse kinds) size) → numberIn (reverse kinds) size a < 2 ^ 64
   numbered-fits sorted h m =
       let e : length (reverse kinds) ≡ length kinds = length-reverse kinds in

@@ -2,17 +2,17 @@
 ghost use mathlib.Core.Path.{_≡_};
 ghost use Prim.Native.Nat.{_≤_, _<_};
 ghost use lib.Dec.{eqb};
-ghost use lib.ListN.{length, take};
+ghost use lib.ListN.{length};
 ghost use Rattle.model.specs.Field.{tokens};
 ghost use Rattle.model.specs.Base.{settledStage};
 ghost use Rattle.model.specs.Sheet.{kindCount, cardOf, fieldOf};
 ghost use Rattle.model.specs.Refusal.{Accepted};
-ghost use Rattle.model.specs.Answer.{written, primeForm, squadCount, remainderForm, squadsOf};
+ghost use Rattle.model.specs.Answer.{written, squadCount, remainderForm, squadsOf};
 ghost use Rattle.sheet.specs.Reader.{Reads};
 ghost use Rattle.rows.specs.Stage.{BaseAt};
 ghost use Rattle.squads.specs.Answers.{squadsAnswer};
 use crate::answers::Squads;
-use filer::form::form_by;
+use filer::form::prime_counts;
 use filer::settlement::settle_once;
 use quotients::divide::divide;
 use sheet::Card;
@@ -21,7 +21,7 @@ use validation::checks::Checked;
 use validation::fields::check_fields;
 use weights::fields::field_tokens;
 
-// Any bytes, any two field numbers and a buffer of any length; a refusal leaves the buffer as it was. The sheet is settled once.
+// Squads, of any bytes, any two field numbers and a buffer of any length; a refusal leaves the buffer as it was. The sheet is settled once.
 pub fn squads(sheet: &[u8], whole: usize, squad: usize, remainder: &mut [u64]) -> Squads
     ensures { λ r. ⌜ squadsAnswer r ≡ squadsOf (now (sheet .entry)) whole squad (now (remainder .entry)) .answer ⌝ }
     ensures { λ r. ⌜ now (remainder .exit) ≡ squadsOf (now (sheet .entry)) whole squad (now (remainder .entry)) .lent ⌝ }
@@ -42,7 +42,7 @@ pub fn squads(sheet: &[u8], whole: usize, squad: usize, remainder: &mut [u64]) -
     }
 }
 
-// The same of two fields of a sheet that was accepted, by its final base.
+// Squads, of two fields of a sheet that was accepted, by its final base.
 fn squads_accepted(
     sheet: &[u8],
     card: Card,
@@ -80,16 +80,6 @@ fn is_empty(sheet: &[u8], card: Card, field: usize) -> bool
     ensures { λ r. ⌜ r ≡ eqb (tokens (kindCount (now (sheet .entry))) (fieldOf (now (sheet .entry)) field)) 0 ⌝ }
 {
     field_tokens(card.kinds, card.field(sheet, field)) == 0
-}
-
-// The prime form of a field: the first n counts of the array.
-fn prime_counts(sheet: &[u8], card: Card, base: Base, field: usize) -> [u64; 32]
-    requires { ⌜ Reads (now sheet) card × Accepted (now sheet) ⌝ }
-    requires { ⌜ BaseAt (now sheet) (settledStage (cardOf (now sheet))) (base .rows) ⌝ }
-    requires { ⌜ field < card .fields ⌝ }
-    ensures { λ r. ⌜ take (kindCount (now (sheet .entry))) r ≡ primeForm (now (sheet .entry)) field ⌝ }
-{
-    form_by(sheet, card, base, field)
 }
 
 // How often the squad's prime form goes into the whole's; what is left goes to the front of the buffer.

@@ -34,7 +34,7 @@ module _ (since rows : List ℕ) (stage k : ℕ) where
   unfolding rowBefore
   before-old n = rw (ne-eqb (at since k) stage n, rowBefore)
 
-  -- So many tokens of it are added to a sum.
+  -- What stands for so many tokens of a kind at the stage before is added to a sum.
   pub added-new : {row : List ℕ} (count : ℕ) (sum new : List ℕ) → at since k ≡ stage → row ≡ rowPart rows k → at new ≡ at sum ⊕ times count (at row)
       → at new ≡ at sum ⊕ times count (rowBefore since rows stage k)
   added-new count sum new e r a = rw (before-new e) (row-added count sum new rows k r a)
@@ -227,7 +227,7 @@ module _ (s : List ℕ) (ok : Accepted s) where
         go (yes e) = before-new since rows (suc (suc q)) k e ∙ K .before k q h e .1
         go (no n) = before-old since rows (suc (suc q)) k n ∙ sym (old (at since k) refl n)
 
-    -- So the form at the stage before is found.
+    -- The form at the stage before, from that at a stage and what is kept.
     pub before-form : kindCount s ≤ mostKinds → (a : Field) → OfKinds (cardOf s) a
         → formBefore since rows (suc (suc q)) (stageForm (cardOf s) (suc (suc q)) a) ≡ stageForm (cardOf s) (suc q) a
     unfolding formBefore cardOf

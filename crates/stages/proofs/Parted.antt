@@ -172,6 +172,6 @@ module _ {s : List ℕ} {i j : ℕ} {since rows first second : List ℕ} where
           same = λ q u v. same-before s (p .accepted) i j (t - 1) (omega arith) (sym (f .0) ∙ sym e ∙ x ∙ d ∙ f .1) q u (omega arith);
         }
 
-  -- So is stage 1, before which there is none.
+  -- Where the forms differ at stage 1, before which there is none, it is the least stage at which they do.
   pub part-first : (top : ℕ) → 1 ≤ top → FormsPart s 1 i j since rows first second → LeastPart s top i j 1
   part-first top l p = record { from = omega arith; most = l; differ = p .differ; same = λ q h u. absurd (omega arith) }

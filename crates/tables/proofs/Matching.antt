@@ -53,7 +53,7 @@ module _ {A : Type 0} {M N : A → A → Type 0} {P P′ Q Q′ : A → Type 0} 
   each-agrees : ((i : A) → P i ↔ P′ i) → ((j : A) → Q j ↔ Q′ j) → ((i j : A) → P i → Q j → M i j → N i j) → EachMatched M P Q → EachMatched N P′ Q′
   each-agrees p q m f i h = let w = f i (p i .1 h) in (w .0, q (w .0) .0 (w .1), m i (w .0) (p i .1 h) (w .1) (w .2))
 
--- So for lines of two sets that have matches among each other.
+-- Lines of two sets that have matches among each other by one relation have them by another that agrees with it on those lines.
 module _ {A : Type 0} {M N : A → A → Type 0} {P P′ Q Q′ : A → Type 0} (E : Equivalence M) (F : Equivalence N) (p : (i : A) → P i ↔ P′ i) (q : (j : A) → Q j ↔ Q′ j)
     (m : (i j : A) → P i → Q j → M i j ↔ N i j) where
   there : AllMatched M P Q → AllMatched N P′ Q′

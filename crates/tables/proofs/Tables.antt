@@ -266,7 +266,7 @@ zero-under n p j = rw (zero-counts n j) p
 pub zero-row : (n k : ℕ) → rowIn (replicate n 0) k ≡ none
 zero-row n k = row-same _ k (λ j _. zero-counts n (k * mostKinds + j)) (λ j _. refl)
 
--- So it tells no atom.
+-- By a table of zeros no kind is an atom.
 pub zero-atoms : (n m : ℕ) → Atoms (replicate n 0) m
 zero-atoms n m k _ one = absurd (omega (arith, at-kind (zero-row n k) k, one))
 

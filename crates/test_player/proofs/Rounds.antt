@@ -31,7 +31,7 @@ module _ (xs : List Line) (a b : Field) (v r : ℕ) where
   pub rounds-start : (limit : ℕ) → tried xs a b v r (limit - 0) ≡ tried xs a b v r limit
   rounds-start limit = let z : limit - 0 ≡ limit = omega arith in ap (tried xs a b v r) z
 
-  -- The same up to a limit; what all come to is `whole`.
+  -- The numbers of rounds after r up to a limit; what all of them come to is `whole`.
   module _ {limit : ℕ} {whole : Tried} (from : tried xs a b v r (limit - r) ≡ whole) where
     pub rounds-end : limit ≤ r → Held r ≡ whole
     rounds-end h = sym (tried-none (limit - r) (omega arith)) ∙ from

@@ -20,7 +20,7 @@ number-small x h = let e : x % 10 ≡ x = omega arith in decimals x .one-digit h
 pub number-more : (x : ℕ) → 10 ≤ x → number x ≡ number (x / 10) ++ ((48 + x % 10) ∷ [])
 number-more x h = decimals x .more-digits h
 
--- So it has one digit, or one more; in any case some.
+-- A number has one digit, or one more than without its last; in any case some.
 pub length-small : (x : ℕ) → x < 10 → length (number x) ≡ 1
 length-small x h = ap length (number-small x h)
 

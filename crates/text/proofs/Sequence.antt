@@ -36,7 +36,7 @@ module _ (f : ℕ → List ℕ) where
       reads-as (m * (i + 1)) (concat (listFrom f a (i + 1))) (then p q) (omega arith)
       (ap (λ (n : ℕ). concat (listFrom f a i) ++ f n) h ∙ texts-more a i ∙ ap (λ (n : ℕ). concat (listFrom f a n)) (sym (add-one i)))
 
-  -- The same where the loop counts from 1 up: text j comes after the j - 1 before it.
+  -- One more is appended, where the loop counts from 1 up: text j comes after the j - 1 before it.
   pub later-text : {m k start : ℕ} {b c d : List ℕ} {i : ℕ} (j : ℕ) → 1 ≤ j → Appended (m * (j - 1)) b start (concat (listFrom f 1 (j - 1))) c i → Appended m c i (f j) d k
       → Appended (m * (j + 1 - 1)) b start (concat (listFrom f 1 (j + 1 - 1))) d k
   later-text j h p q =

@@ -51,7 +51,7 @@ module _ (v : ℕ) (p : Seen) where
 pub cut-none : (v : ℕ) (h : Bool) → cut v (record { holds = h; count = 0 }) ≡ outcome h v
 cut-none v h = let z : v - 0 ≡ v = omega arith in under v (record { holds = h; count = 0 }) (omega arith) ∙ ap (outcome h) z
 
--- So many pairs are examined first.
+-- A count with so many pairs examined before it.
 pub cut-more : (v n : ℕ) (q : Seen) → n ≤ v → cut v (more n q) ≡ cut (v - n) q
 cut-more v n q h = go (decLt (v - n) (q .count))
   where
@@ -70,7 +70,7 @@ follow false (holds left) q = holds left
 follow false (fails left) q = cut left q
 follow false spent q = spent
 
--- The same where the first part is known.
+-- One part after another, where what the first comes to is known.
 pub followed : (h : Bool) {whole part known : Counted} (q : Seen) → whole ≡ follow h part q → known ≡ part → follow h known q ≡ whole
 followed h q e d = ap (λ (x : Counted). follow h x q) d ∙ sym e
 

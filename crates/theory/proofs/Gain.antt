@@ -44,7 +44,7 @@ norm-one : (c : Card) (a : Field) (x y : ℕ) → IsNorm c a x → IsNorm c a y 
 unfolding IsNorm
 norm-one c a x y p q = omega (arith, p .1 y (q .0), q .1 x (p .0))
 
--- And a card has one g.
+-- A card has one g.
 gain-less : (c : Card) (g h : ℕ) → IsGain c g → IsGain c h → g ≤ h
 gain-less c g h G H = go (G .reached)
   where

@@ -64,7 +64,7 @@ sim-plus L R Q S a b c d f g s t l o h = go (decLt 0 (a (l .kind)))
         let r = t l o u in
         reply-map L Q S r (λ q. omega arith) (λ q. rw (fire-right l a c u, fire-right (r .line) b d (r .can)) (g _ _ q))
 
--- The same of both sides at once.
+-- Expansion, of both sides at once, carried from one relation to another.
 module _ {ℓ κ} (L : Line → Type 0) (R : Field → Field → Type ℓ) (Q : Field → Field → Type κ) where
   pub expands-map : (a b : Field)
       → ((l m : Line) → L l → 0 < a (l .kind) → L m → 0 < b (m .kind) → R (fire l a) (fire m b) → Q (fire l a) (fire m b))

@@ -87,7 +87,7 @@ early-total s e =
     let c5 = cons-none 5 0 _ _ (c4 .1) in
     total-most s (from-outside 1 mostKinds (kindCount s) (c2 .0) .1) (from-less mostLines (lineCount s) (c4 .0)) (from-less mostFields (fieldCount s) (c5 .0))
 
--- So longer input is refused, at the latest by 6 at place 3.
+-- Input longer than any sheet is refused, at the latest by 6 at place 3.
 long-header : (s : List ℕ) → mostInput ≤ length s → firstOf (headerChecks s) ≡ then (firstOf (early s)) (refusal 6 3)
 long-header s h = ap firstOf (header-is s) ∙ last-applies (early s) 6 3 (differ (length s) (totalOf s)) (λ e. apart-differ (length s) (totalOf s) (omega (arith, early-total s e)))
 

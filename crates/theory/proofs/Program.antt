@@ -76,7 +76,7 @@ module _ (c : Card) (w : ℕ → ℕ) (F : Found (c .lines) (c .kinds) w) where
       i : level N q a b ↔ (form N (level N q) (past N fin) (level-base N fin q) a ≡ form N (level N q) (past N fin) (level-base N fin q) b)
       i = form-iff N (level N q) (past N fin) (level-base N fin q) (level-cong N q) (level-low N fin q) a b (within a u) (within b v)
 
-  -- So expansion in a stage is expansion in equal forms, by all lines or by those that lower the norm.
+  -- Expansion in a stage is expansion in equal forms, by all lines or by those that lower the norm.
   module _ (L : Line → Type 0) (in-card : (l : Line) → L l → On c l) (q : ℕ) (a b : Field) (u : OfKinds c a) (v : OfKinds c b) where
     abbrev Related : Field → Field → Type 0
     Related x y = T (stage c w (suc q) x y)

@@ -76,7 +76,7 @@ module _ (n : ℕ) (whole squad : Field) where
   unfolding timesIn
   times-most = greatest-most (goesIn n whole squad) (tokens n whole)
 
-  -- So many, and what is left, are the whole.
+  -- As many squads as go in, and what is left, are the whole.
   pub remainder-exact : (k : ℕ) → k < n → times-in * squad k + remainder n whole squad k ≡ whole k
   unfolding remainder
   remainder-exact k h = omega (arith, times-fit k h)

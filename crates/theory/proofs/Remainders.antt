@@ -19,7 +19,7 @@ itself L a = (Alike {ℓ}, steps, alike a)
     steps : Bisimulation L (Alike {ℓ})
     steps _ _ (alike x) = (sim-refl L (Alike {ℓ}) alike x, sim-refl L (flip (Alike {ℓ})) alike x)
 
--- The same first part, and second parts that R relates.
+-- Two fields with one first part, and second parts that R relates.
 data Exchanged {ℓ} (R : Field → Field → Type ℓ) : Field → Field → Type ℓ where
   exchanged : (y z x : Field) → R x z → Exchanged R (y ⊕ z) (y ⊕ x)
 

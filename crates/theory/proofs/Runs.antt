@@ -76,7 +76,7 @@ module _ {A : Type 0} {p : A → Bool} {h : Bool} {one : A → Seen} {run : List
       unfolding listFrom
       run-end l = let z : to - from ≡ 0 = omega arith in sym (empty v) ∙ rw z refl
 
-      -- The first of them, and then the others.
+      -- The first member, and then the others.
       pub run-first : from < to → cut v (part from to) ≡ follow h (cut v (run (f from ∷ []))) (part (from + 1) to)
       unfolding listFrom
       run-first l =
@@ -86,7 +86,7 @@ module _ {A : Type 0} {p : A → Bool} {h : Bool} {one : A → Seen} {run : List
           ∙ ap (λ (i : ℕ). cut v (run (f from ∷ listFrom f i (to - (from + 1))))) z
           ∙ appended (f from ∷ []) (listFrom f (from + 1) (to - (from + 1))) v
 
-      -- Those up to a middle, and then the others.
+      -- The members up to a middle, and then the others.
       pub run-halves : (middle : ℕ) → from ≤ middle → middle ≤ to → cut v (part from to) ≡ follow h (cut v (part from middle)) (part middle to)
       run-halves middle a b =
           let d : to - from ≡ middle - from + (to - middle) = omega arith in

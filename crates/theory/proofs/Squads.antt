@@ -132,7 +132,7 @@ module _ (s : List ℕ) (ok : Accepted s) where
     form-kind : (n k : ℕ) → 0 < at (primeForm s n) k → k < kindCount s
     form-kind n k h = omega (arith, prime-parts (fieldOf s n) (field-kinds s n) k (omega (arith, form-at n k)) .0, kinds-is s ok)
 
-    -- So many squads' forms and what is written are the whole's form.
+    -- As many squads' forms as were counted, and what is written, are the whole's form.
     exact : (k : ℕ) → count * at (primeForm s j) k + left k ≡ at (primeForm s i) k
     unfolding squadCount remainderForm
     exact k = go (decLt k (kindCount s)) (decLt 0 (at (primeForm s j) k)) (decLt 0 (at (primeForm s i) k))

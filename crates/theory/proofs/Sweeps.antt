@@ -213,7 +213,7 @@ module _ (c : Card) where
               let f = falls d i (t .0 .0) in
               omega (arith, t .1, soon-yes (suc d) (value (suc (suc d)) k) i (f .0, omega (arith, f .1, t .0 .1)))
 
-  -- So n sweeps improve all that can be.
+  -- Of n kinds, n sweeps improve all that can be.
   pub done : (k : ℕ) → ¬ Changed (c .kinds) k
   unfolding count
   done k h =

@@ -15,7 +15,7 @@ pub record Day (calls : List WalkCall) (v : Session) (d : ℕ) : Type 0 where
   pub own-answers : answersOf (madeBy d (day calls v)) ≡ answersOf (day (callsBy d calls) v)
   pub own-draws : drawsOf (madeBy d (day calls v)) ≡ drawsOf (day (callsBy d calls) v)
   pub own-left : at (leftAfter v (day calls v) .left) d ≡ at (leftAfter v (day (callsBy d calls) v) .left) d
-  -- Nor does it matter what the other desks were given: two days on which the desk makes the same calls from the same allowance are alike for it.
+  -- What the other desks ask and were given does not matter: two days on which the desk makes the same calls from the same allowance are alike for it.
   pub only-own : (others : List WalkCall) (u : Session) → callsBy d calls ≡ callsBy d others → at (v .left) d ≡ at (u .left) d
       → (answersOf (madeBy d (day calls v)) ≡ answersOf (madeBy d (day others u))) × (drawsOf (madeBy d (day calls v)) ≡ drawsOf (madeBy d (day others u)))
       × (at (leftAfter v (day calls v) .left) d ≡ at (leftAfter u (day others u) .left) d)

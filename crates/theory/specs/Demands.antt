@@ -47,7 +47,7 @@ pub record Demand1 (s : List ℕ) : Type 0 where
   pub compare-refused : (i j k p : ℕ) → firstOf (compareChecks s i j) ≡ refusal k p → compareOf s i j ≡ refused k p
   pub form-refused : (i : ℕ) (buffer : List ℕ) (k p : ℕ) → firstOf (formChecks s i (length buffer)) ≡ refusal k p
       → formOf s i buffer ≡ record { answer = refused k p; lent = buffer }
-  -- Walk (with request 4 of document 02): the same of a desk that there is not. "16 a desk over 7, place 0, before the header is looked at": whatever the bytes, the fields and the limit are.
+  -- Walk: every sheet, field number, round limit and (request 4 of document 02) desk that is refused gets the first number that applies, and nothing changes. "16 a desk over 7, place 0, before the header is looked at": whatever the bytes, the fields and the limit are.
   pub walk-refused : (i j limit d : ℕ) (v : Session) (k p : ℕ) → firstOf (walkChecks s i j limit d) ≡ refusal k p
       → walkOf s i j limit d v ≡ record { answer = refused k p; drawn = 0; after = v }
   pub walk-desk : (i j limit d : ℕ) → lastDesk < d → firstOf (walkChecks s i j limit d) ≡ refusal 16 0

@@ -12,7 +12,7 @@ pub record Reply {ℓ} (L : Line → Type 0) (R : Field → Field → Type ℓ) 
   pub same : line .code ≡ c
   pub rel : R x (fire line b)
 
--- Each read of the first side by a line of L has such a reply of the second.
+-- Each read of the first side by a line of L has a reply of the second, of the same code and with the results related.
 abbrev pub Simulates {ℓ} : (Line → Type 0) → (Field → Field → Type ℓ) → Field → Field → Type ℓ
 Simulates L R a b = (l : Line) → L l → 0 < a (l .kind) → Reply L R (l .code) (fire l a) b
 
@@ -31,7 +31,7 @@ Bisimulation L R = (a b : Field) → R a b → Expands L R a b
 unfoldable pub Bisimilar {ℓ} : (Line → Type 0) → Field → Field → Type (ℓ + 1)
 Bisimilar L a b = (R : Field → Field → Type ℓ) × Bisimulation L R × R a b
 
--- The same as document 000 has it: a step is a read of some code, and a bisimulation answers every step of either side.
+-- A bisimulation as document 000 has it: a step is a read of some code, and a bisimulation answers every step of either side.
 pub record Step (L : Line → Type 0) (a : Field) (c : ℕ) (x : Field) : Type 0 where
   pub line : Line
   pub on : L line

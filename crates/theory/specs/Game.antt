@@ -45,7 +45,8 @@ module _ (c : Card) where
     by-first : {a b : Field} (l : Line) → On c l → 0 < a (l .kind) → ((m : Line) → Replies l m b → Parting (fire l a) (fire m b)) → Parting a b
     by-second : {a b : Field} (l : Line) → On c l → 0 < b (l .kind) → ((m : Line) → Replies l m a → Parting (fire m a) (fire l b)) → Parting a b
 
-  -- The same within r rounds. "A challenge without a reply ends the game and counts as its last round."
+  -- A choice of challenges, each made in view of the replies so far, that parts the pair within r rounds whatever the replies. "A challenge without a reply ends the game and
+  -- counts as its last round."
   unfoldable pub Parted : ℕ → Field → Field → Type 0
   Parted zero a b = ⊥
   Parted (suc r) a b = Beats (Parted r) a b ⊎ Beats (flip (Parted r)) b a

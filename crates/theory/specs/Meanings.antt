@@ -107,7 +107,7 @@ pub record Decimal (x : ℕ) : Type 0 where
 pub record Pages {ℓ} (s : List ℕ) : Type (ℓ + 1) where
   -- That the program reads no more than "12,821 bytes" changes no page.
   pub whole : printed s ≡ pageOf s
-  -- They are one more than the longest sheet has; longer input is refused, by the header's checks.
+  -- "12,821 bytes" are one more than the longest sheet has; longer input is refused, by the header's checks.
   pub longest : mostInput ≡ linesOffset + mostLines * (2 + mostKinds) + 2 * mostKinds * mostFields + 1
   pub too-long : mostInput ≤ length s → (k : ℕ) × (p : ℕ) × (firstOf (headerChecks s) ≡ refusal k p) × (printed s ≡ refusedLine k p)
   -- The row that the page shows, and its word prime, which is given to the prime kinds alone.

@@ -29,7 +29,7 @@ pub record Shelves (c : Card) (t : ℕ) : Type 0 where
   pub field-number : (a : Field) → OfKinds c a → tokens (c .kinds) a ≡ t → shelfField c t (shelfNumber c a) ≡ a
   pub number-under : (a : Field) → OfKinds c a → tokens (c .kinds) a ≡ t → shelfNumber c a < entry (liveCount c) t
   pub used : (x : ℕ) → x < entry (liveCount c) t → OfKinds c (shelfField c t x) × (tokens (c .kinds) (shelfField c t x) ≡ t)
-  -- So "counts of 16 bits" hold a field of at most 16 tokens.
+  -- No count is over the tokens, so that "counts of 16 bits" hold a field of at most 16 tokens.
   pub small : (x : ℕ) → x < entry (liveCount c) t → (k : ℕ) → shelfField c t x k ≤ t
 
 -- The entries for "k from 0 to 32 kinds and t from 0 to 16 tokens": 64 bits hold each, and 48 do.

@@ -30,7 +30,7 @@ mostReported = mostFieldNorm + 1 + (mostKinds - 1) * (mostLeftNorm + 1)
 pub record Widths (s : List ℕ) : Type 0 where
   pub left-count : (l : Line) → On (cardOf s) l → (k : ℕ) → l .left k ≤ 255
   pub field-count : (i k : ℕ) → fieldOf s i k ≤ 65535
-  -- So after r rounds of the walk no count passes 65,535 + 255 × r.
+  -- A line adds at most 255 to a count, so that after r rounds of the walk no count passes 65,535 + 255 × r.
   pub fire-count : (l : Line) → On (cardOf s) l → (a : Field) (m k : ℕ) → a k ≤ m → fire l a k ≤ m + 255
   pub kind-norm : (k : ℕ) → k < kindCount s → kindNorm (cardOf s) k ≤ normLimit
   pub left-norm : (l : Line) → On (cardOf s) l → norm (cardOf s) (l .left) ≤ mostLeftNorm
@@ -43,5 +43,5 @@ pub record Widths (s : List ℕ) : Type 0 where
   pub written-count : (i k : ℕ) → at (primeForm s i) k ≤ norm (cardOf s) (fieldOf s i)
   pub stage-most : settledStage (cardOf s) ≤ mostKinds
   pub verdict-most : (i j t r : ℕ) → i < fieldCount s → j < fieldCount s → compareOf s i j ≡ given (different t r) → (t ≤ mostKinds) × (r ≤ mostReported)
-  -- So a "table of 32-bit counts" holds the rows, and "counts of 64 bits" everything else.
+  -- A "table of 32-bit counts" holds the rows, and "counts of 64 bits" everything else.
   pub narrow : (normLimit < 2 ^ 32) × (mostReported < 2 ^ 64)

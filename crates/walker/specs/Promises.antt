@@ -75,7 +75,7 @@ pub record DayMeans (before : Session) (ms : List (Made Walked)) (d : ℕ) : Typ
   -- what it has left are the same.
   pub own : (alone : List (Made Walked)) → InTurn before alone → callsOf alone ≡ callsBy d (callsOf ms)
       → (answersOf (madeBy d ms) ≡ answersOf alone) × (drawsOf (madeBy d ms) ≡ drawsOf alone) × (at (leftAfter before ms .left) d ≡ at (leftAfter before alone .left) d)
-  -- So they are of any day on which the desk makes the same calls from the same allowance, whatever the other desks ask and were given.
+  -- The desk's answers, its draws and what it has left are the same on any day on which the desk makes the same calls from the same allowance, whatever the other desks ask and were given.
   pub only-own : (other : Session) (ns : List (Made Walked)) → InTurn other ns → callsBy d (callsOf ms) ≡ callsBy d (callsOf ns) → at (before .left) d ≡ at (other .left) d
       → (answersOf (madeBy d ms) ≡ answersOf (madeBy d ns)) × (drawsOf (madeBy d ms) ≡ drawsOf (madeBy d ns)) × (at (leftAfter before ms .left) d ≡ at (leftAfter other ns .left) d)
 

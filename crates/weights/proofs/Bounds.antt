@@ -10,6 +10,6 @@ module _ (n : ℕ) (w : ℕ → ℕ) (a : Field) (few : n ≤ mostKinds) (cut : 
   pub bytes-fit : ((k : ℕ) → a k ≤ 255) → weigh n w a < 2 ^ 64
   bytes-fit h = omega (arith, weigh-within n mostKinds 255 (suc normLimit) w a few (λ k _. h k) (λ k _. cut k))
 
-  -- So do those of "n counts of two bytes".
+  -- The values of "n counts of two bytes", though each is cut one past the limit, fit 64 bits.
   pub counts-fit : ((k : ℕ) → a k ≤ 65535) → weigh n w a < 2 ^ 64
   counts-fit h = omega (arith, weigh-within n mostKinds 65535 (suc normLimit) w a few (λ k _. h k) (λ k _. cut k))

@@ -63,7 +63,7 @@ ended : (most v : ℕ) → v ≤ most → sayFrom most v [] ≡ Number v
 unfolding sayFrom all valueFrom
 ended most v k = rw (le-leb v most k, sayFrom) refl
 
--- So far the bytes before i came to v.
+-- The bytes before i came to v.
 pub record Reading (most : ℕ) (word : List ℕ) (v i : ℕ) : Type 0 where
   pub within : i ≤ length word
   pub small : v ≤ most

@@ -141,7 +141,7 @@ unfolding saidFirst
 first-more [] x said = refl
 first-more (y ∷ xs) x said = ap (saidAfter (Number y)) (first-more xs x said)
 
--- So far the words before a position said the first numbers of an array.
+-- The words before a position said the first numbers of an array.
 pub record Counting (most : ℕ) (text values : List ℕ) (at count : ℕ) : Type 0 where
   pub within : at ≤ length text
   pub room : count ≤ most

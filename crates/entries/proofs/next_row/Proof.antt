@@ -1,18 +1,20 @@
--- `next_row`: the entries for fewer than t tokens are new.
-use Prim.Native.Nat.{_≤_, _-_}
+-- `next_row`: the entries for fewer than t tokens are new, of every number of kinds whose entries the row began with.
+use mathlib.Core.Path.{_≡_}
+use Prim.Native.Nat.{ℕ, _≤_, _-_}
 use native.Mathlib.Omega.{arith}
+use Rattle.entries.specs.Table.{entriesOf}
 use Rattle.entries.proofs.Rows.{Partly, none-new, sum-fits, one-new, all-new}
 use Rattle.entries.proofs.next_row.Statement.{statement}
 use Rattle.entries.proofs.next_row.Tie as tie
 
 abbrev Inv-loop : tie.InvT-loop
-Inv-loop row₀ k t₀ row t = (1 ≤ t) × (t ≤ 17) × Partly k t row
+Inv-loop row₀ t₀ row t = (1 ≤ t) × (t ≤ 17) × ((k : ℕ) → row₀ ≡ entriesOf k → Partly k t row)
 
 abbrev μ-loop : tie.MeasureT-loop
-μ-loop row₀ k t₀ row t = 17 - t
+μ-loop row₀ t₀ row t = 17 - t
 
 loop-holds : tie.Need-loop-holds Inv-loop μ-loop
-loop-holds c = (omega arith, omega arith, none-new (c .args .kinds) (c .pre .0))
+loop-holds c = (omega arith, omega arith, λ k. none-new k)
 
 mul-row : tie.Need-mul-row Inv-loop μ-loop
 mul-row c = omega arith
@@ -32,7 +34,8 @@ element-copy-out-row-2 c = omega arith
 add-row : tie.Need-add-row Inv-loop μ-loop
 add-row c =
     let loop = c .before .before .before in
-    omega (arith, sum-fits (loop .before .args .kinds) (loop .loop .t) (loop .loop .inv .2) (omega arith) (omega arith) (omega arith))
+    let start = loop .before in
+    omega (arith, sum-fits (start .pre .0) (loop .loop .t) (loop .loop .inv .2 (start .pre .0) (start .pre .2)) (omega arith) (omega arith) (start .pre .1))
 
 mul-row-3 : tie.Need-mul-row-3 Inv-loop μ-loop
 mul-row-3 c = omega arith
@@ -49,10 +52,10 @@ loop-less c = omega arith
 loop-again : tie.Need-loop-again Inv-loop μ-loop
 loop-again c =
     let loop = c .before .before .before in
-    (omega arith, omega arith, one-new (loop .before .args .kinds) (loop .loop .t) (loop .loop .inv .2) (omega arith) (omega arith))
+    (omega arith, omega arith, λ k e. one-new k (loop .loop .t) (loop .loop .inv .2 k e) (omega arith) (omega arith))
 
 returns : tie.Need-returns Inv-loop μ-loop
-returns c = all-new (c .before .before .args .kinds) (c .before .loop .t) (c .before .loop .inv .2) (omega arith)
+returns c = λ k e. all-new k (c .before .loop .t) (c .before .loop .inv .2 k e) (omega arith)
 
 pub next-row-spec : {M : Type 1} → statement M
 next-row-spec =

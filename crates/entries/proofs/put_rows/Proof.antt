@@ -34,19 +34,20 @@ loop-holds c =
     (omega arith, first .before .before .before .first-row .ensures, no-text rowText 442 1 (first .put-row .last .0) (first .put-row .result))
 
 next-row-requires : tie.Need-next-row-requires Inv-loop μ-loop
-next-row-requires c κs = (c .before .before .loop .inv .1, omega arith)
+next-row-requires c κs = let loop = c .before .before .loop in (loop .k, omega arith, loop .inv .1)
 
 slice-aggregate-put-row-2 : tie.Need-slice-aggregate-put-row-2 Inv-loop μ-loop
 slice-aggregate-put-row-2 c =
     let loop = c .before .before .before .before .before .loop in
-    sym (seventeen (loop .k + 1) (c .before .before .next-row .ensures))
+    sym (seventeen (loop .k + 1) (c .before .before .next-row .ensures (loop .k) (loop .inv .1)))
 
 put-row-requires-2 : tie.Need-put-row-requires-2 Inv-loop μ-loop
 put-row-requires-2 c κs =
     let loop = c .before .before .before .before .before in
     let first = loop .before .before .before in
+    let row = c .before .before .next-row .ensures (loop .loop .k) (loop .loop .inv .1) in
     let others = loop .loop .inv .2 in
-    omega (arith, seventeen 0 (first .before .before .before .first-row .ensures), seventeen (loop .loop .k + 1) (c .before .before .next-row .ensures), first .put-row .ensures .ends, first .put-row .ensures .size, first .put-row .ensures .within, others .ends, others .size, others .within)
+    omega (arith, seventeen 0 (first .before .before .before .first-row .ensures), seventeen (loop .loop .k + 1) row, first .put-row .ensures .ends, first .put-row .ensures .size, first .put-row .ensures .within, others .ends, others .size, others .within)
 
 add-k : tie.Need-add-k Inv-loop μ-loop
 add-k c = omega arith
@@ -57,7 +58,7 @@ loop-less c = omega arith
 loop-again : tie.Need-loop-again Inv-loop μ-loop
 loop-again c =
     let loop = c .before .before .before .before .before .before .before .before in
-    let row = c .before .before .before .before .before .next-row .ensures in
+    let row = c .before .before .before .before .before .next-row .ensures (loop .loop .k) (loop .loop .inv .1) in
     (omega arith, row, next-text rowText 1 (loop .loop .k) (loop .loop .inv .2) (row-lines (loop .loop .k + 1) row (c .before .before .put-row2 .ensures)) (omega arith))
 
 same-length : tie.Need-same-length Inv-loop μ-loop

@@ -5,12 +5,11 @@ use mathlib.Core.Path.{_≡_, sym}
 use Prim.Native.Nat.{_≤_}
 use lib.ListN.{length}
 use lib.Seq.{length-take-le}
-use Rattle.theory.specs.Widths.{Bytes}
 use Rattle.sheet.specs.Reader.{Reads}
 use Rattle.sheet.specs.declared.reader.Card.{Card}
 use Rattle.validation.specs.declared.checks.Checked.the-variants.{Passed}
 use Rattle.sheet.proofs.Laws.{kinds-most}
-use Rattle.filer.proofs.Settlements.{was-accepted, form-refuses, form-no-field, form-short, forms-fit, form-writes}
+use Rattle.filer.proofs.Settlements.{was-accepted, form-refuses, form-no-field, form-short, was-settled, form-writes}
 use Rattle.filer.proofs.form.form_settled.Statement.{statement}
 use Rattle.filer.proofs.form.form_settled.Tie as tie
 
@@ -26,16 +25,11 @@ passed c = c .before .checked2 .given .1
 read : (c : tie.After-known-told2) → Reads (start c .args .sheet .now) (card c)
 read c = was-accepted (start c .pre) (card c) (passed c) .reads
 
-bytes : (c : tie.After-known-told2) → Bytes (start c .args .sheet .now)
-bytes c =
-    let shared-slice-known = c .before .before .before .before .shared-slice-known in
-    λ k. omega (arith, shared-slice-known .given k)
-
 -- The form has a count for each kind of the card.
-long : (c : tie.After-form-by) → let after-known-told2 = c .before .before .before .before .before in card after-known-told2 .kinds ≤ length (c .form-by .result)
+long : (c : tie.After-prime-counts) → let after-known-told2 = c .before .before .before .before .before in card after-known-told2 .kinds ≤ length (c .prime-counts .result)
 long c =
     let after-known-told2 = c .before .before .before .before .before in
-    let e : length (c .form-by .result) ≡ 32 = search needs in
+    let e : length (c .prime-counts .result) ≡ 32 = search needs in
     omega (arith, kinds-most (read after-known-told2))
 
 enum-known-checked : tie.Need-enum-known-checked
@@ -50,10 +44,11 @@ returns c = form-no-field (start (c .before) .pre) _ (passed (c .before)) _ _ (c
 returns-2 : tie.Need-returns-2
 returns-2 c = form-short (start (c .before .before) .pre) _ (passed (c .before .before)) _ _ (c .before .if1 .left) (c .if2 .taken)
 
-form-by-requires : tie.Need-form-by-requires
-form-by-requires c κs =
+prime-counts-requires : tie.Need-prime-counts-requires
+prime-counts-requires c κs =
     let after-known-told2 = c .before .before .before .before in
-    (read after-known-told2, (c .before .before .before .if1 .left, forms-fit (start after-known-told2 .pre) _ (passed after-known-told2) (bytes after-known-told2)))
+    let settlement = start after-known-told2 .pre in
+    ((read after-known-told2, was-accepted settlement _ (passed after-known-told2) .accepted), (was-settled settlement _ (passed after-known-told2) .base-is, c .before .before .before .if1 .left))
 
 array-share-prefix-form : tie.Need-array-share-prefix-form
 array-share-prefix-form c = long c
@@ -65,7 +60,7 @@ write-u64-requires : tie.Need-write-u64-requires
 write-u64-requires c κs =
     let after-known-told2 = c .before .before .before .before .before .before .before in
     let if2 = c .before .before .before .before .before .if2 in
-    omega (arith, length-take-le (card after-known-told2 .kinds) (c .before .before .form-by .result) (long (c .before .before)), if2 .left)
+    omega (arith, length-take-le (card after-known-told2 .kinds) (c .before .before .prime-counts .result) (long (c .before .before)), if2 .left)
 
 returns-3 : tie.Need-returns-3
 returns-3 c =
@@ -80,8 +75,8 @@ returns-4 c =
     let after-known-told2 = c .before .before .before .before .before .before .before .before .before .before in
     let if1 = c .before .before .before .before .before .before .before .before .before .if1 in
     let if2 = c .before .before .before .before .before .before .before .before .if2 in
-    let after-form-by = c .before .before .before .before .before in
-    form-writes (start after-known-told2 .pre) _ (passed after-known-told2) _ _ (if1 .left) _ _ (if2 .left) (long after-form-by) (after-form-by .form-by .ensures) (c .before .before .write-u64 .ensures)
+    let after-prime-counts = c .before .before .before .before .before in
+    form-writes (start after-known-told2 .pre) _ (passed after-known-told2) _ _ (if1 .left) _ _ (if2 .left) (after-prime-counts .prime-counts .ensures) (c .before .before .write-u64 .ensures)
 
 pub form-settled-spec : {M : Type 1} → statement M
 form-settled-spec =
@@ -91,7 +86,7 @@ form-settled-spec =
     enum-known-checked-2
     returns
     returns-2
-    form-by-requires
+    prime-counts-requires
     array-share-prefix-form
     slice-aggregate-write-u64
     write-u64-requires

@@ -72,7 +72,7 @@ slice-aggregate-widen-u16 c = sym (length-take-le _ _ (few (c .before)))
 widen-u16-requires : tie.Need-widen-u16-requires
 widen-u16-requires c κs = omega (arith, few (c .before), slice-aggregate-widen-u16 c)
 
--- So does that of the same counts of 64 bits.
+-- The array of the counts as numbers of 64 bits has room for the card's kinds.
 wide-few : (c : tie.After-put-counts-line-arg) → c .before .before .before .of-header .result .kinds ≤ length (c .before .widen-u16 .result)
 wide-few c = omega (arith, few (c .before .before .before))
 
