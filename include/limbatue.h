@@ -1,4 +1,4 @@
-/* limbatue.h: race cards, fields and their prime forms. The verified library, version 0.6.0, for C99, C++11 and whatever calls C.
+/* limbatue.h: race cards, fields and their prime forms. The verified library, version 0.7.0, for C99, C++11 and whatever calls C.
  *
  * Link liblimbatue.a. Where it is installed, `pkg-config --cflags --libs limbatue` prints the options; in the repository, tools/archive proves it and writes
  * target/lib/liblimbatue.a. It is for Linux on x86-64, for programs and shared libraries alike. docs/SHEET.md tells what the bytes of a sheet are.
@@ -14,7 +14,12 @@
  * state, nothing is allocated, and nothing is called but memcpy and memset: every call is reentrant. Every call ends by itself. Of the stack it takes what is told
  * below.
  *
- * REFUSALS. The checks run in this order, and the first that applies is returned; 7 and 8 line by line, 9 for all kinds before 10 for any. P is the place.
+ * REACHED KINDS. A kind is reached where some field of the sheet holds it, or a line of a reached kind leaves it; every other kind is out. Norms, rows, stages,
+ * the rounds of Compare and shelf numbers go by the reached kinds alone. The row of a kind that is out is all 0, and its count in every prime form and shelf
+ * field is 0. The walk goes by the lines as they stand.
+ *
+ * REFUSALS. The checks run in this order, and the first that applies is returned; 7 and 8 line by line; 9 and 10 of reached kinds, 9 for all before 10 for any.
+ * P is the place.
  * An answer array counts as a buffer, and so does a session.
  *
  *   number  place  sentence
@@ -51,8 +56,8 @@ extern "C" {
 #endif
 
 /* The version: 10000 x major + 100 x minor + patch. */
-#define LIMBATUE_VERSION 600
-#define LIMBATUE_VERSION_TEXT "0.6.0"
+#define LIMBATUE_VERSION 700
+#define LIMBATUE_VERSION_TEXT "0.7.0"
 
 /* Of what a call returned. */
 #define LIMBATUE_NUMBER(returned) ((returned) & 255u)
@@ -108,8 +113,8 @@ enum { LIMBATUE_TOGETHER = 0, LIMBATUE_APART = 1, LIMBATUE_SPENT = 2 };
 #define LIMBATUE_SHELF_NUMBER_ANSWER 2
 #define LIMBATUE_SQUADS_ANSWER 1
 
-/* Bytes of stack that must be left where a call is made. Taken are, as measured: settle 115,704, compare 111,624, prime form 116,040, walk 81,220 at most, page
- * 210,728, shelf number 6,296, shelf field 6,408, squads 120,328, the others under 256. Stated is each with 4,096 more, for memcpy, memset and the loader, which may be
+/* Bytes of stack that must be left where a call is made. Taken are, as measured: settle 115,976, compare 111,896, prime form 116,312, walk 81,220 at most, page
+ * 211,000, shelf number 6,712, shelf field 6,824, squads 120,600, the others under 256. Stated is each with 4,096 more, for memcpy, memset and the loader, which may be
  * asked for them at a first call, and rounded up to pages of 4,096. In the repository ./stack measures the archive again, and fails where under 4,096 are left. */
 #define LIMBATUE_VERSION_STACK 8192
 #define LIMBATUE_NUMBERS_STACK 8192
@@ -131,7 +136,8 @@ uint32_t limbatue_version(void);
  * answer[0]: the kinds, n; answer[1]: the codes; answer[2]: the lines; answer[3]: the fields. Refuses 1 to 8, and 12. */
 uint32_t limbatue_numbers(const uint8_t *sheet, size_t sheet_length, uint64_t *answer, size_t answer_length);
 
-/* Settle. Reads the sheet. Writes the final base to the table: n x n counts, row by row in kind number; a prime kind's row is itself once.
+/* Settle. Reads the sheet. Writes the final base to the table: n x n counts, row by row in kind number; a prime kind's row is itself once, and that of a kind that
+ * is out is all 0.
  * answer[0]: the settled stage. Refuses 1 to 10, and 12. */
 uint32_t limbatue_settle(const uint8_t *sheet, size_t sheet_length, uint32_t *table, size_t table_length, uint64_t *answer, size_t answer_length);
 
@@ -159,8 +165,8 @@ uint32_t limbatue_walk(const uint8_t *sheet, size_t sheet_length, size_t first, 
  * answer[0]: the length of the page. Refuses 12 alone. */
 uint32_t limbatue_page(const uint8_t *sheet, size_t sheet_length, uint8_t *page, size_t page_length, uint64_t *answer, size_t answer_length);
 
-/* Shelf number. The size of a field is its tokens in all; the fields of a size are listed with the smaller count of the last kind first, then of the one before
- * it, and so on, from number 0. Reads the sheet. Writes nothing but the answer.
+/* Shelf number. The size of a field is its tokens in all; the fields of a size, of reached kinds, are listed with the smaller count of the last of these first,
+ * then of the one before it, and so on, from number 0. Reads the sheet. Writes nothing but the answer.
  * answer[0]: the size of the field; answer[1]: its number among the fields of that size. Refuses 1 to 12, and 14. */
 uint32_t limbatue_shelf_number(const uint8_t *sheet, size_t sheet_length, size_t field, uint64_t *answer, size_t answer_length);
 

@@ -86,6 +86,13 @@ static void test_numbers(void)
     EXPECT(answer[0] == answer[3] && answer[0] % 256 == 7);
 }
 
+/* Kind 2 has no line, and field 1 holds it; field 0 is empty. */
+static void make_no_norm(void)
+{
+    make_sheet(3, 2, 2, 2);
+    put_count(1, 2, 1);
+}
+
 static void test_refused_sheets(void)
 {
     make_sheet(3, 2, 5, 4);
@@ -103,20 +110,24 @@ static void test_refused_sheets(void)
     make_sheet(3, 2, 5, 4);
     length++;
     EXPECT(REFUSED(numbers(), LIMBATUE_REFUSED_LAYOUT, 3));
-    make_sheet(3, 2, 2, 0); /* kind 2 has no line */
+    make_no_norm();
     EXPECT(REFUSED(settle(), LIMBATUE_REFUSED_NO_NORM, 2));
-    make_sheet(5, 1, 5, 0); /* 1 leaves 200 of 0, 2 leaves 200 of 1, 3 leaves 200 of 2, 4 leaves 200 of 3 */
+    make_sheet(5, 1, 5, 1); /* 1 leaves 200 of 0, 2 leaves 200 of 1, 3 leaves 200 of 2, 4 leaves 200 of 3; the field holds 4 */
     sheet[20 + 1 * 7 + 2] = sheet[20 + 2 * 7 + 3] = sheet[20 + 3 * 7 + 4] = sheet[20 + 4 * 7 + 5] = 200;
+    put_count(0, 4, 1);
     EXPECT(REFUSED(settle(), LIMBATUE_REFUSED_NORM_OVER_LIMIT, 4));
 }
 
-/* Kinds of one line each, so that each is of norm 1 and prime only where it is kind 0; fields 0 and 1 are alike, field 2 is one token larger. */
+/* Kinds of one line each, so that each is of norm 1 and prime only where it is kind 0; fields 0 and 1 are alike, field 2 is one token larger, field 3 holds one token of each kind. */
 static void make_fields(void)
 {
-    make_sheet(32, 1, 32, 3);
+    size_t kind;
+    make_sheet(32, 1, 32, 4);
     put_count(0, 0, 1);
     put_count(1, 1, 1);
     put_count(2, 0, 2);
+    for (kind = 0; kind < 32; kind++)
+        put_count(3, kind, 1);
 }
 
 static void test_filer(void)
@@ -131,8 +142,8 @@ static void test_filer(void)
     EXPECT(REFUSED(limbatue_row_check(table, LIMBATUE_TABLE_MOST, 32, 32, answer, LIMBATUE_ROW_CHECK_ANSWER), LIMBATUE_REFUSED_NUMBER, 0));
     EXPECT(compare(0, 1) == LIMBATUE_DONE && answer[0] == LIMBATUE_SAME && answer[1] == 0 && answer[2] == 0);
     EXPECT(compare(0, 2) == LIMBATUE_DONE && answer[0] == LIMBATUE_DIFFERENT && answer[1] == 0 && answer[2] == 2);
-    EXPECT(REFUSED(compare(3, 3), LIMBATUE_REFUSED_NUMBER, 0));
-    EXPECT(REFUSED(compare(2, 3), LIMBATUE_REFUSED_NUMBER, 1));
+    EXPECT(REFUSED(compare(4, 4), LIMBATUE_REFUSED_NUMBER, 0));
+    EXPECT(REFUSED(compare(2, 4), LIMBATUE_REFUSED_NUMBER, 1));
     EXPECT(REFUSED(limbatue_compare(sheet, length, 0, 1, answer, LIMBATUE_COMPARE_ANSWER - 1), LIMBATUE_REFUSED_TOO_SHORT, 0));
     EXPECT(limbatue_prime_form(sheet, length, 2, counts, LIMBATUE_COUNTS_MOST) == LIMBATUE_DONE && counts[0] == 2 && counts[31] == 0);
     EXPECT(REFUSED(limbatue_prime_form(sheet, length, 2, counts, LIMBATUE_COUNTS_MOST - 1), LIMBATUE_REFUSED_TOO_SHORT, 0));
@@ -202,12 +213,12 @@ static void test_refused_walks(void)
     open_session(5, 100, 50);
     memset(answer, 7, sizeof answer);
     for (i = 0; i < sizeof over / sizeof over[0]; i++) {
-        EXPECT(REFUSED(limbatue_walk(sheet, 0, 3, 3, 9, over[i], session, short_session, answer, 0), LIMBATUE_REFUSED_DESK, 0));
+        EXPECT(REFUSED(limbatue_walk(sheet, 0, 4, 4, 9, over[i], session, short_session, answer, 0), LIMBATUE_REFUSED_DESK, 0));
         EXPECT(REFUSED(walk(0, 1, over[i]), LIMBATUE_REFUSED_DESK, 0));
     }
-    EXPECT(REFUSED(limbatue_walk(sheet, 0, 3, 3, 9, 7, session, short_session, answer, 0), LIMBATUE_REFUSED_NO_HEADER, 0));
-    EXPECT(REFUSED(limbatue_walk(sheet, length, 3, 3, 9, 7, session, short_session, answer, 0), LIMBATUE_REFUSED_NUMBER, 0));
-    EXPECT(REFUSED(limbatue_walk(sheet, length, 0, 3, 9, 7, session, short_session, answer, 0), LIMBATUE_REFUSED_NUMBER, 1));
+    EXPECT(REFUSED(limbatue_walk(sheet, 0, 4, 4, 9, 7, session, short_session, answer, 0), LIMBATUE_REFUSED_NO_HEADER, 0));
+    EXPECT(REFUSED(limbatue_walk(sheet, length, 4, 4, 9, 7, session, short_session, answer, 0), LIMBATUE_REFUSED_NUMBER, 0));
+    EXPECT(REFUSED(limbatue_walk(sheet, length, 0, 4, 9, 7, session, short_session, answer, 0), LIMBATUE_REFUSED_NUMBER, 1));
     EXPECT(REFUSED(limbatue_walk(sheet, length, 0, 1, 9, 7, session, short_session, answer, 0), LIMBATUE_REFUSED_ROUND_LIMIT, 0));
     EXPECT(REFUSED(limbatue_walk(sheet, length, 0, 1, 8, 7, session, short_session, answer, LIMBATUE_WALK_ANSWER), LIMBATUE_REFUSED_TOO_SHORT, 0));
     EXPECT(REFUSED(limbatue_walk(sheet, length, 0, 1, 8, 5, session, short_session, answer, LIMBATUE_WALK_ANSWER), LIMBATUE_REFUSED_TOO_SHORT, 0));
@@ -215,7 +226,7 @@ static void test_refused_walks(void)
     EXPECT(REFUSED(limbatue_walk(sheet, length, 0, 1, 8, 5, session, LIMBATUE_DESKS, answer, LIMBATUE_WALK_ANSWER - 1), LIMBATUE_REFUSED_TOO_SHORT, 0));
     /* with room for everything */
     EXPECT(REFUSED(limbatue_walk(sheet, 0, 0, 1, 8, 5, session, LIMBATUE_DESKS, answer, LIMBATUE_WALK_ANSWER), LIMBATUE_REFUSED_NO_HEADER, 0));
-    EXPECT(REFUSED(walk(3, 1, 5), LIMBATUE_REFUSED_NUMBER, 0) && REFUSED(walk(0, 3, 5), LIMBATUE_REFUSED_NUMBER, 1));
+    EXPECT(REFUSED(walk(4, 1, 5), LIMBATUE_REFUSED_NUMBER, 0) && REFUSED(walk(0, 4, 5), LIMBATUE_REFUSED_NUMBER, 1));
     EXPECT(REFUSED(limbatue_walk(sheet, length, 0, 1, 9, 5, session, LIMBATUE_DESKS, answer, LIMBATUE_WALK_ANSWER), LIMBATUE_REFUSED_ROUND_LIMIT, 0));
     EXPECT(has_left(5, 100, 50) && answered(answer[3], answer[3], answer[3]) && answer[3] % 256 == 7);
 }
@@ -236,7 +247,7 @@ static void test_shelf_number(void)
     EXPECT(shelf_number(0) == LIMBATUE_DONE && answer[0] == 1 && answer[1] == 0);
     EXPECT(shelf_number(1) == LIMBATUE_DONE && answer[0] == 1 && answer[1] == 1);
     EXPECT(shelf_number(2) == LIMBATUE_DONE && answer[0] == 2 && answer[1] == 0);
-    EXPECT(REFUSED(shelf_number(3), LIMBATUE_REFUSED_NUMBER, 0));
+    EXPECT(REFUSED(shelf_number(4), LIMBATUE_REFUSED_NUMBER, 0));
     memset(answer, 7, sizeof answer);
     EXPECT(REFUSED(limbatue_shelf_number(sheet, length, 1, answer, LIMBATUE_SHELF_NUMBER_ANSWER - 1), LIMBATUE_REFUSED_TOO_SHORT, 0));
     EXPECT(answer[0] == answer[3] && answer[1] == answer[3]);
@@ -252,8 +263,8 @@ static void test_shelf_number(void)
     EXPECT(answer[0] == answer[3] && answer[1] == answer[3]);
     put_count(0, 0, 65535); /* with the 16 of kind 31, over what 16 bits hold */
     EXPECT(REFUSED(shelf_number(0), LIMBATUE_REFUSED_SIZE, 0));
-    make_sheet(3, 2, 2, 0); /* kind 2 has no line */
-    EXPECT(REFUSED(shelf_number(0), LIMBATUE_REFUSED_NO_NORM, 2));
+    make_no_norm();
+    EXPECT(REFUSED(shelf_number(0), LIMBATUE_REFUSED_NO_NORM, 2) && REFUSED(shelf_number(2), LIMBATUE_REFUSED_NO_NORM, 2));
 }
 
 static void test_shelf_field(void)
@@ -275,12 +286,14 @@ static void test_shelf_field(void)
     EXPECT(shelf_field(LIMBATUE_TOKENS_MOST, UINT64_C(1503232609097)) == LIMBATUE_DONE && shelved[0] == 0 && shelved[30] == 0 && shelved[31] == 16 && shelved[32] == kept);
     EXPECT(shelf_field(LIMBATUE_TOKENS_MOST, 1) == LIMBATUE_DONE && shelved[0] == 15 && shelved[1] == 1 && shelved[31] == 0 && shelved[32] == kept);
     EXPECT(shelf_field(0, 0) == LIMBATUE_DONE && shelved[0] == 0 && shelved[1] == 0 && shelved[32] == kept);
-    make_sheet(2, 1, 2, 0); /* of 2 tokens: 2 0, then 1 1, then 0 2 */
+    make_sheet(2, 1, 2, 1); /* of 2 tokens: 2 0, then 1 1, then 0 2 */
+    put_count(0, 0, 1);
+    put_count(0, 1, 1);
     memset(shelved, 7, sizeof shelved);
     EXPECT(shelf_field(2, 1) == LIMBATUE_DONE && shelved[0] == 1 && shelved[1] == 1 && shelved[2] == kept && shelved[31] == kept);
     EXPECT(limbatue_shelf_field(sheet, length, 2, 2, shelved, 2) == LIMBATUE_DONE && shelved[0] == 0 && shelved[1] == 2 && shelved[2] == kept);
     EXPECT(REFUSED(shelf_field(2, 3), LIMBATUE_REFUSED_SHELF_NUMBER, 0));
-    make_sheet(3, 2, 2, 0); /* kind 2 has no line */
+    make_no_norm();
     EXPECT(REFUSED(shelf_field(LIMBATUE_TOKENS_MOST + 1, 0), LIMBATUE_REFUSED_NO_NORM, 2));
 }
 
@@ -357,13 +370,42 @@ static void test_refused_squads(void)
     /* with room for everything */
     EXPECT(REFUSED(squads(4, 1), LIMBATUE_REFUSED_NUMBER, 0) && REFUSED(squads(0, 4), LIMBATUE_REFUSED_NUMBER, 1));
     EXPECT(REFUSED(squads(0, 3), LIMBATUE_REFUSED_EMPTY_SQUAD, 1) && REFUSED(squads(3, 3), LIMBATUE_REFUSED_EMPTY_SQUAD, 1));
-    make_sheet(3, 2, 2, 1); /* kind 2 has no line; field 0 is empty */
-    EXPECT(REFUSED(squads(0, 0), LIMBATUE_REFUSED_NO_NORM, 2) && REFUSED(squads(1, 1), LIMBATUE_REFUSED_NO_NORM, 2));
+    make_no_norm();
+    EXPECT(REFUSED(squads(0, 0), LIMBATUE_REFUSED_NO_NORM, 2) && REFUSED(squads(2, 2), LIMBATUE_REFUSED_NO_NORM, 2));
     make_sheet(3, 2, 3, 0); /* no field */
     EXPECT(REFUSED(squads(0, 0), LIMBATUE_REFUSED_NUMBER, 0));
     for (i = 0; i < LIMBATUE_COUNTS_MOST; i++)
         EXPECT(counts[i] == UINT64_MAX);
     EXPECT(answered(answer[3], answer[3], answer[3]) && answer[3] % 256 == 7);
+}
+
+/* Kind 1 is held, and kinds 0 and 2, the latter without a line, are out; then all three are. */
+static void test_out(void)
+{
+    const char *kinds = "kinds 3 stages 1\nkind 0 out\nkind 1 norm 1 prime\nkind 2 out\nfield 0 = 0 0 0\nfield 1 = 0 2 0\npair 0 1 different 0 1\n", *none = "kinds 3 stages 1\nkind 0 out\nkind 1 out\nkind 2 out\nfield 0 = 0 0 0\nfield 1 = 0 0 0\npair 0 1 same\n";
+    size_t i;
+    make_sheet(3, 2, 2, 2);
+    put_count(1, 1, 2);
+    memset(table, 255, sizeof table);
+    EXPECT(settle() == LIMBATUE_DONE && answer[0] == 1 && table[9] == UINT32_MAX);
+    for (i = 0; i < 9; i++)
+        EXPECT(table[i] == (i == 4));
+    EXPECT(limbatue_prime_form(sheet, length, 1, counts, 3) == LIMBATUE_DONE && counts[0] == 0 && counts[1] == 2 && counts[2] == 0);
+    EXPECT(shelf_number(1) == LIMBATUE_DONE && answer[0] == 2 && answer[1] == 0);
+    EXPECT(shelf_field(3, 0) == LIMBATUE_DONE && shelved[0] == 0 && shelved[1] == 3 && shelved[2] == 0);
+    EXPECT(REFUSED(shelf_field(3, 1), LIMBATUE_REFUSED_SHELF_NUMBER, 0));
+    EXPECT(REFUSED(limbatue_shelf_field(sheet, length, 3, 0, shelved, 2), LIMBATUE_REFUSED_TOO_SHORT, 0));
+    EXPECT(squads(1, 1) == LIMBATUE_DONE && answer[0] == 1 && counts[0] == 0 && counts[1] == 0 && counts[2] == 0);
+    EXPECT(limbatue_page(sheet, length, page, LIMBATUE_PAGE_MOST, answer, LIMBATUE_PAGE_ANSWER) == LIMBATUE_DONE && answer[0] == strlen(kinds) && memcmp(page, kinds, strlen(kinds)) == 0);
+    put_count(1, 1, 0);
+    memset(table, 255, sizeof table);
+    EXPECT(settle() == LIMBATUE_DONE && answer[0] == 1 && table[9] == UINT32_MAX);
+    for (i = 0; i < 9; i++)
+        EXPECT(table[i] == 0);
+    EXPECT(compare(0, 1) == LIMBATUE_DONE && answer[0] == LIMBATUE_SAME);
+    EXPECT(shelf_field(0, 0) == LIMBATUE_DONE && shelved[0] == 0 && shelved[1] == 0 && shelved[2] == 0);
+    EXPECT(REFUSED(shelf_field(1, 0), LIMBATUE_REFUSED_SHELF_NUMBER, 0));
+    EXPECT(limbatue_page(sheet, length, page, LIMBATUE_PAGE_MOST, answer, LIMBATUE_PAGE_ANSWER) == LIMBATUE_DONE && answer[0] == strlen(none) && memcmp(page, none, strlen(none)) == 0);
 }
 
 int main(void)
@@ -380,5 +422,6 @@ int main(void)
     test_shelf_field();
     test_squads();
     test_refused_squads();
+    test_out();
     return failures != 0;
 }

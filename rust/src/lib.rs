@@ -206,7 +206,7 @@ pub fn numbers(sheet: &[u8]) -> Result<Numbers, Refusal> {
     Ok(Numbers { kinds, codes, lines, fields })
 }
 
-/// Settles a sheet: the settled stage, and for each kind its row. Refused are 1 to 10.
+/// Settles a sheet: the settled stage, and for each kind its row. Refused are 1 to 10. A kind that no field holds and that no line leads to from those that are held is out: it needs no norm, and its row is zeros.
 ///
 /// ```
 /// let sheet = std::fs::read("testdata/page36.sheet")?;

@@ -39,9 +39,9 @@ pub enum Reason {
     LineKind,
     /// 8: a line's code is not under the number of codes. The place is the line.
     LineCode,
-    /// 9: a kind has no norm, since it can not be cleared. The place is the lowest such kind.
+    /// 9: a kind that is reached has no norm, since it can not be cleared. The place is the lowest such kind. Of a kind that is out no norm is asked.
     NoNorm,
-    /// 10: a kind's norm is over 1,000,000,000. The place is the lowest such kind.
+    /// 10: the norm of a kind that is reached is over 1,000,000,000. The place is the lowest such kind.
     NormOverLimit,
     /// 11: a field or kind number is too large. The place is 0 for the first number, 1 for the second.
     Number,

@@ -6,6 +6,8 @@ use crate::{Refusal, row};
 
 /// A settled sheet: the settled stage, and for each kind its row of counts. [`settle`](crate::settle) gives it.
 ///
+/// A kind is reached where some field of the sheet holds it, or where a line of a reached kind leaves it. Any other kind is out: its row is zeros, and nothing else depends on it.
+///
 /// ```
 /// let sheet = std::fs::read("testdata/page36.sheet")?;
 /// let settled = limbatue::settle(&sheet)?;
@@ -28,7 +30,7 @@ impl Settled {
         Settled { stage, kinds, table }
     }
 
-    /// The settled stage: the least, from 1 up, that relates no two fields but those that are the same. The page has it after `stages`.
+    /// The settled stage: the least, from 1 up, that relates no two fields of reached kinds but those that are the same. The page has it after `stages`.
     ///
     /// ```
     /// let sheet = std::fs::read("testdata/stage3.sheet")?;
@@ -53,7 +55,8 @@ impl Settled {
         self.kinds
     }
 
-    /// The row of a kind: of which prime kinds it is the product, as a count for each kind. A prime kind's row is itself once. Refused (11) is a number that is not under the number of kinds.
+    /// The row of a kind: of which prime kinds it is the product, as a count for each kind. A prime kind's row is itself once, and that of a kind that is out is zeros. Refused (11) is a number that is not under
+    /// the number of kinds.
     ///
     /// ```
     /// use limbatue::Reason;
@@ -82,7 +85,7 @@ impl Settled {
         self.table.chunks_exact(self.kinds)
     }
 
-    /// Whether a kind is prime: no product of other kinds. Refused (11) is a number that is not under the number of kinds.
+    /// Whether a kind is prime: reached, and no product of other kinds. Refused (11) is a number that is not under the number of kinds.
     ///
     /// ```
     /// let sheet = std::fs::read("testdata/page36.sheet")?;
@@ -94,6 +97,22 @@ impl Settled {
     /// ```
     pub fn is_prime(&self, kind: usize) -> Result<bool, Refusal> {
         Ok(self.row(kind)?[kind] == 1)
+    }
+
+    /// Whether a kind is out: no field of the sheet holds it, and no line leads to it from those that are held. The page has `out` for it. Refused (11) is a number that is not under the number of kinds.
+    ///
+    /// ```
+    /// let sheet = std::fs::read("testdata/part_used.sheet")?; // one of kind 3, which leaves kind 1; two of kind 1
+    /// let settled = limbatue::settle(&sheet)?;
+    /// assert!(settled.is_out(0)? && settled.is_out(2)?);
+    /// assert_eq!(settled.row(0)?, [0, 0, 0, 0]);
+    /// assert!(!settled.is_prime(0)?);
+    /// assert_eq!(settled.row(3)?, [0, 2, 0, 0]);
+    /// assert!(settled.is_out(4).is_err());
+    /// # Ok::<(), Box<dyn std::error::Error>>(())
+    /// ```
+    pub fn is_out(&self, kind: usize) -> Result<bool, Refusal> {
+        Ok(self.row(kind)?.iter().all(|&count| count == 0))
     }
 
     /// The rows one after another: the table that [`settle_into`](crate::settle_into) writes, and that [`row`](crate::row) takes.

@@ -20,8 +20,8 @@ pub struct ShelfNumber {
     pub number: u64,
 }
 
-/// The size of a field and its number among the fields of that size. These are listed with the smaller count of the last kind first, then of the one before it, and so on, from number 0. Refused are 1 to 11, and
-/// 14 where the field has over 16 tokens.
+/// The size of a field and its number among the fields of that size. These are listed with the smaller count of the last kind first, then of the one before it, and so on, from number 0; fields that have a kind
+/// that is out are not among them. Refused are 1 to 11, and 14 where the field has over 16 tokens.
 ///
 /// ```
 /// use limbatue::{Reason, ShelfNumber};
@@ -41,7 +41,8 @@ pub fn shelf_number(sheet: &[u8], field: usize) -> Result<ShelfNumber, Refusal> 
     Ok(ShelfNumber { size: answer[0] as usize, number: answer[1] })
 }
 
-/// The field of a size and a number, as a count for each kind, whether or not the sheet has it. Refused are 1 to 10, 14 where the size is over 16, and 15 where there are not so many fields of that size.
+/// The field of a size and a number, as a count for each kind, 0 for one that is out, whether or not the sheet has it. Refused are 1 to 10, 14 where the size is over 16, and 15 where there are not so many fields
+/// of that size.
 ///
 /// ```
 /// let sheet = std::fs::read("testdata/page36.sheet")?;
@@ -51,6 +52,9 @@ pub fn shelf_number(sheet: &[u8], field: usize) -> Result<ShelfNumber, Refusal> 
 /// }
 /// let refusal = limbatue::shelf_field(&sheet, 2, 3).unwrap_err();
 /// assert_eq!(refusal.to_string(), "no field of this size has so large a number");
+///
+/// let sheet = std::fs::read("testdata/part_used.sheet")?; // kinds 1 and 3 are reached, 0 and 2 are out
+/// assert_eq!(limbatue::shelf_field(&sheet, 2, 1)?, [0, 1, 0, 1]);
 /// # Ok::<(), Box<dyn std::error::Error>>(())
 /// ```
 pub fn shelf_field(sheet: &[u8], size: usize, number: u64) -> Result<Vec<u16>, Refusal> {

@@ -1,5 +1,6 @@
 //! The library against the independent implementation: every answer, every buffer, what stands before and past it, and every session after each of its walks; and what is promised of the desks
-//! of a session, over whole days, and of squads, by Compare and Prime form, on both. The comparison, the days and the squads are tried themselves too: they find each kind of difference, and each broken promise.
+//! of a session, over whole days, of squads, by Compare and Prime form, and of sheets that use a part of their card, by the sheets of that part, on both. The comparison, the days, the squads and the parts are
+//! tried themselves too: they find each kind of difference, and each broken promise.
 
 use std::collections::BTreeSet;
 use std::fmt::Debug;
@@ -15,8 +16,10 @@ use independent::generator::sample;
 use independent::joining::{Promise as Joining, try_squads};
 use independent::norm::accept;
 use independent::page::page;
-use independent::sheet::{Numbers, Refusal};
-use independent::shelf::ShelfNumber;
+use independent::parts::{Promise as Part, try_parts};
+use independent::reached::reached_kinds;
+use independent::sheet::{MOST_FIELDS, Numbers, Refusal, read};
+use independent::shelf::{ShelfNumber, number_of};
 use independent::squads::squads;
 use independent::walker::{Answer as Found, DESKS, Walked, walk_lent};
 
@@ -343,8 +346,12 @@ fn the_owned_forms_do_not_differ() {
     assert_equal("owned forms", compare_implementations(SEED + 2, 0..5_000, independent, owned_forms));
 }
 
-/// The end of the line of a kind, as a page has it.
-fn end_of_line(settled: &limbatue::Settled, kind: usize) -> String {
+/// What the page says of a kind past its number, and past its norm where it has one.
+fn said_of(settled: &limbatue::Settled, kind: usize) -> String {
+    if settled.is_out(kind).expect("a kind") {
+        assert!(!settled.is_prime(kind).expect("a kind"));
+        return "out".to_string();
+    }
     if settled.is_prime(kind).expect("a kind") {
         return "prime".to_string();
     }
@@ -354,8 +361,8 @@ fn end_of_line(settled: &limbatue::Settled, kind: usize) -> String {
 
 #[test]
 fn a_settled_sheet_says_what_its_page_says() {
-    let (mut primes, mut products) = (0, 0);
-    for number in 0..2_000 {
+    let (mut primes, mut products, mut out) = (0, 0, 0);
+    for number in 0..3_000 {
         let sheet = sample(SEED + 3, number).bytes;
         let Ok(settled) = limbatue::settle(&sheet) else { continue };
         let text = page(&sheet);
@@ -364,15 +371,24 @@ fn a_settled_sheet_says_what_its_page_says() {
         assert_eq!(lines.next(), Some(first.as_str()), "sheet {number}");
         for (kind, row) in settled.rows().enumerate() {
             let line = lines.next().expect("a line for each kind");
-            let said = line.splitn(5, ' ').nth(4).expect("kind, its number, norm, that number, and what it is");
-            assert_eq!(said, end_of_line(&settled, kind), "sheet {number} kind {kind}");
+            let said = match line.splitn(5, ' ').collect::<Vec<_>>()[..] {
+                ["kind", _, "norm", _, said] => said,
+                ["kind", _, said] => said,
+                _ => panic!("sheet {number} kind {kind}: {line}"),
+            };
+            assert_eq!(said, said_of(&settled, kind), "sheet {number} kind {kind}");
             assert_eq!(settled.row(kind), Ok(row), "sheet {number} kind {kind}");
-            if said == "prime" { primes += 1 } else { products += 1 }
+            match said {
+                "prime" => primes += 1,
+                "out" => out += 1,
+                _ => products += 1,
+            }
         }
         assert!(lines.all(|line| !line.starts_with("kind ")), "sheet {number}");
-        assert!(settled.row(settled.kinds()).is_err() && settled.is_prime(settled.kinds()).is_err());
+        let past = settled.kinds();
+        assert!(settled.row(past).is_err() && settled.is_prime(past).is_err() && settled.is_out(past).is_err());
     }
-    assert!(primes > 1_000 && products > 1_000, "{primes} {products}");
+    assert!(primes > 1_000 && products > 1_000 && out > 1_000, "{primes} {products} {out}");
 }
 
 #[test]
@@ -796,6 +812,118 @@ fn a_broken_promise_of_squads_is_found() {
         ("the other way round", the_other_way_round, &[Joining::Joined, Joining::Largest, Joining::Exact]),
     ] {
         let tried = try_squads(SEED, 0..1_000, wrong);
+        println!("{name}: {tried:?}");
+        assert!(promises.iter().eq(tried.broken.keys()), "{name}: {tried:?}");
+    }
+}
+
+/// Makes a call as if no kind were out: on the sheet with one field more, which holds each kind, where there is room for it.
+fn no_kind_is_out(call: &Call, lent: &mut Lent) -> Answer {
+    let bytes = lent.sheets[0].lent().to_vec();
+    let field_more = match (call, read(&bytes)) {
+        (Call::Page { .. } | Call::Day(_) | Call::Numbers, _) | (_, Err(_)) => None,
+        (_, Ok(card)) => (card.fields < MOST_FIELDS).then_some((card.kinds, card.fields)),
+    };
+    let Some((kinds, fields)) = field_more else { return independent(call, lent) };
+    let is_over = |field: usize| field >= fields;
+    let too_large = match *call {
+        Call::Compare { first, second } | Call::Squads { whole: first, squad: second, .. } => {
+            is_over(first) || is_over(second)
+        }
+        Call::PrimeForm { field, .. } | Call::ShelfNumber { field } => is_over(field),
+        _ => false,
+    };
+    if too_large {
+        return independent(call, lent);
+    }
+    let mut more = bytes.clone();
+    more.extend([1, 0].repeat(kinds));
+    let total = more.len() as u32;
+    more[6] += 1;
+    more[16..20].copy_from_slice(&total.to_le_bytes());
+    let mut other = Lent::new(call, &[more]);
+    let answer = independent(call, &mut other);
+    other.sheets = lent.sheets.clone();
+    *lent = other;
+    answer
+}
+
+/// Gives a kind that is out the row of a prime kind, itself once.
+fn out_is_prime(call: &Call, lent: &mut Lent) -> Answer {
+    let answer = independent(call, lent);
+    if let (Answer::Settled { .. }, Ok(normed)) = (&answer, accept(lent.sheets[0].lent())) {
+        let kinds = normed.card.kinds;
+        for kind in (0..kinds).filter(|kind| !normed.reached.contains(kind)) {
+            lent.table.lent_mut()[kind * kinds + kind] = 1;
+        }
+    }
+    answer
+}
+
+/// Counts the fields of all kinds that are listed before one, and not those of the reached kinds alone.
+fn numbered_over_all(call: &Call, lent: &mut Lent) -> Answer {
+    let answer = independent(call, lent);
+    let (Call::ShelfNumber { field }, Answer::ShelfNumber(found)) = (call, &answer) else { return answer };
+    let normed = accept(lent.sheets[0].lent()).expect("an accepted sheet");
+    let counts = normed.card.field(*field);
+    Answer::ShelfNumber(ShelfNumber { number: number_of(&counts), ..*found })
+}
+
+/// Settles a sheet that reaches no kind at stage 0.
+fn stage_0_of_nothing(call: &Call, lent: &mut Lent) -> Answer {
+    let answer = independent(call, lent);
+    match (&answer, accept(lent.sheets[0].lent())) {
+        (Answer::Settled { .. }, Ok(normed)) if normed.reached.is_empty() => Answer::Settled { stage: 0 },
+        _ => answer,
+    }
+}
+
+#[test]
+fn other_answers_of_parts_are_found() {
+    for (name, wrong) in [
+        ("no kind is out", no_kind_is_out as Implementation),
+        ("out is prime", out_is_prime),
+        ("numbered over all", numbered_over_all),
+        ("stage 0 of nothing", stage_0_of_nothing),
+    ] {
+        let comparison = compare_implementations(SEED, 0..2_000, independent, wrong);
+        println!("{name}: {} of {} calls", comparison.differences.len(), comparison.calls);
+        assert!(!comparison.differences.is_empty(), "{name}");
+    }
+}
+
+/// Where no kind is out, nothing depends on it.
+#[test]
+fn sheets_that_use_all_kinds_are_answered_as_before() {
+    let comparison = compare_implementations(SEED, 0..2_000, independent, no_kind_is_out);
+    for difference in &comparison.differences {
+        let bytes = sample(SEED, difference.number).bytes;
+        let card = read(&bytes).expect("a sheet that passes the checks of header and lines");
+        assert!(reached_kinds(&card).len() < card.kinds, "{difference:?}");
+    }
+}
+
+#[test]
+fn the_promises_of_parts_are_kept() {
+    for (name, implementation) in
+        [("independent", independent as Implementation), ("library", library), ("wrappers", wrappers)]
+    {
+        let tried = try_parts(SEED, 0..10_000, implementation);
+        println!("{name}: {tried:?}");
+        assert!(tried.broken.is_empty(), "{name}: {tried:?}");
+        assert!(tried.sheets > 2_000 && tried.nothing > 200 && tried.refused > 200, "{name}: {tried:?}");
+    }
+}
+
+#[test]
+fn a_broken_promise_of_parts_is_found() {
+    for (name, wrong, promises) in [
+        ("no kind is out", no_kind_is_out as Implementation, &[Part::Dropped, Part::Alone, Part::Nothing][..]),
+        ("out is prime", out_is_prime, &[Part::Alone, Part::Nothing]),
+        ("numbered over all", numbered_over_all, &[Part::Alone]),
+        ("stage 0 of nothing", stage_0_of_nothing, &[Part::Nothing]),
+    ] {
+        let tried = try_parts(SEED, 0..2_000, wrong);
         println!("{name}: {tried:?}");
         assert!(promises.iter().eq(tried.broken.keys()), "{name}: {tried:?}");
     }

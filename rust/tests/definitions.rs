@@ -2,12 +2,14 @@
 
 use independent::base::Refinement;
 use independent::definitions::{
-    Definitions, Field, TooLarge, fewest_reads, one_token, shelf, shelf_order, walk as walk_by_definition,
+    Definitions, Field, TooLarge, fewest_reads, is_reached, one_token, shelf, shelf_of, shelf_order,
+    walk as walk_by_definition,
 };
 use independent::filer::{Verdict, compare};
-use independent::generator::{Draft, DraftLine, FAMILIES, Size, draft};
-use independent::norm::{NormedCard, accept, kind_norms};
+use independent::generator::{Draft, DraftLine, FAMILIES, Size, draft, use_some};
+use independent::norm::{NORM_LIMIT, NormedCard, accept, kind_norms};
 use independent::random::Random;
+use independent::reached::reached_kinds;
 use independent::sheet::{MOST_FIELDS, MOST_KINDS, Refusal, read};
 use independent::shelf::{Entries, MOST_TOKENS, ShelfNumber, field_of, number_of, shelf_field, shelf_number};
 use independent::squads::squads;
@@ -23,13 +25,19 @@ const SHEETS: u64 = 12_000;
 fn tiny_sheet(number: u64) -> Vec<u8> {
     let mut random = Random::new(number);
     let family = random.choose(&FAMILIES);
-    draft(family, Size::Tiny, &mut random).bytes()
+    let mut made = draft(family, Size::Tiny, &mut random);
+    use_some(&mut made, &mut random);
+    made.bytes()
 }
 
 /// What was compared.
 #[derive(Default, Debug)]
 struct Compared {
     cards: u64,
+    /// Cards that have a kind that is out, and one that is reached.
+    part_used: u64,
+    /// Cards of which no kind is reached.
+    nothing: u64,
     /// Cards given up because the search by definitions took too long.
     too_large: u64,
     /// Cards that settle past stage 1.
@@ -59,6 +67,31 @@ fn norms_are_fewest_reads() {
     assert!(compared > SHEETS, "{compared}");
 }
 
+/// A kind is reached where reads lead from some field to one that holds it, and of these kinds alone is a norm asked.
+#[test]
+fn reached_kinds_are_those_that_reads_lead_to() {
+    let (mut out, mut refused, mut passed_over) = (0, 0, 0);
+    for number in 0..SHEETS {
+        let bytes = tiny_sheet(number);
+        let Ok(card) = read(&bytes) else { continue };
+        let reached: Vec<usize> = (0..card.kinds).filter(|&kind| is_reached(&card, kind)).collect();
+        assert_eq!(reached_kinds(&card), reached, "sheet {number}");
+        let norms = kind_norms(&card);
+        let missing = reached.iter().copied().find(|&kind| norms[kind].is_none());
+        let over = reached.iter().copied().find(|&kind| norms[kind] > Some(NORM_LIMIT));
+        let expected = missing.map(|kind| (9, kind)).or(over.map(|kind| (10, kind)));
+        let given = accept(&bytes).err().map(|refusal| (refusal.number, refusal.place as usize));
+        assert_eq!(given, expected, "sheet {number}");
+        out += card.kinds - reached.len();
+        refused += u64::from(expected.is_some());
+        passed_over += u64::from(norms.iter().position(|norm| norm.is_none()) != missing);
+    }
+    println!(
+        "kinds that are out {out}, refused {refused}, a lower kind without a norm or another is out {passed_over}"
+    );
+    assert!(out > 1_000 && refused > 500 && passed_over > 500, "{out} {refused} {passed_over}");
+}
+
 #[test]
 fn bases_and_verdicts() {
     let mut compared = Compared::default();
@@ -75,6 +108,7 @@ fn bases_and_verdicts() {
     }
     println!("{compared:?}");
     assert!(compared.cards > 3_000, "{compared:?}");
+    assert!(compared.part_used > 500 && compared.nothing > 100, "{compared:?}");
     assert!(compared.same_unequal > 1_000, "{compared:?}");
     assert!(compared.different.iter().all(|&count| count > 100), "{compared:?}");
     assert!(compared.parted > 5_000, "{compared:?}");
@@ -82,7 +116,9 @@ fn bases_and_verdicts() {
 
 /// Compares bases, settled stage, primes, verdicts and rounds on one card.
 fn compare_card(number: u64, bytes: &[u8], normed: &NormedCard, compared: &mut Compared) -> Result<(), TooLarge> {
-    let mut definitions = Definitions::new(&normed.card, MOST_NORM, 20_000).expect("norms within the search");
+    let card = read(bytes).expect("an accepted sheet");
+    let mut definitions = Definitions::new(&card, MOST_NORM, 20_000).expect("norms within the search");
+    assert_eq!(definitions.reached(), normed.reached, "sheet {number}");
     assert_eq!(definitions.norms(), normed.norms, "sheet {number}");
     assert_eq!(definitions.gain(), normed.gain(), "sheet {number}");
     let settled = definitions.settled_stage()?;
@@ -99,12 +135,14 @@ fn compare_card(number: u64, bytes: &[u8], normed: &NormedCard, compared: &mut C
         refinement.refine();
     }
     assert_eq!(refinement.stage(), settled, "sheet {number}");
-    assert!(settled as usize <= normed.card.kinds);
-    for kind in 0..normed.card.kinds {
+    assert!(settled as usize <= normed.reached.len().max(1));
+    for &kind in &normed.reached {
         assert_eq!(definitions.is_prime(settled, kind)?, refinement.base().is_atom(kind), "sheet {number} kind {kind}");
         compared.products += u64::from(!refinement.base().is_atom(kind));
     }
     compared.later_stages += u64::from(settled > 1);
+    compared.nothing += u64::from(normed.reached.is_empty());
+    compared.part_used += u64::from((1..card.kinds).contains(&normed.reached.len()));
     compare_verdicts(number, bytes, normed, settled, &mut definitions, compared)
 }
 
@@ -158,6 +196,8 @@ struct Divided {
     pairs: u64,
     /// Pairs given up because the search by definitions took too long.
     too_large: u64,
+    /// Pairs on a sheet that has a kind that is out.
+    part_used: u64,
     /// Pairs whose squad goes in twice or more.
     several: u64,
     /// Pairs whose squad goes in, and something remains.
@@ -188,7 +228,7 @@ fn squads_are_the_most_that_can_be_joined() {
         }
     }
     println!("{divided:?}");
-    assert!(divided.pairs > 10_000 && divided.several > 1_000, "{divided:?}");
+    assert!(divided.pairs > 10_000 && divided.part_used > 1_000 && divided.several > 1_000, "{divided:?}");
     assert!(divided.with_rest > 1_000 && divided.other_remainders > 1_000, "{divided:?}");
 }
 
@@ -207,6 +247,7 @@ fn tiny_multiples(number: u64) -> Vec<u8> {
     let (squad, other, rest) = (tokens(2), tokens(3), tokens(2));
     let whole = squad.iter().zip(rest).map(|(one, more)| 2 * one + more).collect();
     made.fields = vec![squad, whole, other];
+    use_some(&mut made, &mut random);
     made.bytes()
 }
 
@@ -227,18 +268,22 @@ fn divide(
         assert_eq!(given, Err(Refusal { number: 17, place: 1 }), "{context}");
         return Ok(());
     }
-    let mut definitions = Definitions::new(&normed.card, MOST_NORM, 20_000).expect("norms within the search");
+    let card = read(bytes).expect("an accepted sheet");
+    let mut definitions = Definitions::new(&card, MOST_NORM, 20_000).expect("norms within the search");
     let settled = definitions.settled_stage()?;
     let (count, found) = definitions.squads(settled, &whole, &squad)?;
     assert_eq!(given, Ok(count), "{context}");
-    let primes =
-        (0..normed.card.kinds).map(|kind| definitions.is_prime(settled, kind)).collect::<Result<Vec<_>, _>>()?;
+    let mut primes = vec![false; card.kinds];
+    for &kind in &normed.reached {
+        primes[kind] = definitions.is_prime(settled, kind)?;
+    }
     let is_prime_form = |field: &Field| field.iter().zip(&primes).all(|(&tokens, &prime)| prime || tokens == 0);
     let (forms, others): (Vec<Field>, Vec<Field>) = found.into_iter().partition(is_prime_form);
     assert_eq!(forms, [remainder.clone()], "{context}");
     for other in &others {
         assert!(definitions.stage(settled, other, &remainder)?, "{context}");
     }
+    divided.part_used += u64::from(normed.reached.len() < card.kinds);
     divided.several += u64::from(count > 1);
     divided.with_rest += u64::from(count > 0 && remainder.iter().any(|&tokens| tokens > 0));
     divided.other_remainders += others.len() as u64;
@@ -279,23 +324,35 @@ fn walks_and_their_counts() {
 #[test]
 fn a_missing_norm_comes_before_one_over_the_limit() {
     // Kind 0 leaves 255 of kind 1, which leaves 255 of kind 2, and so on up to kind 4; kind 5 has no line.
-    let mut sheet = vec![6, 0, 1, 0, 5, 0, 0, 0, 20, 0, 0, 0, 60, 0, 0, 0, 60, 0, 0, 0];
-    sheet.extend([0, 0, 0, 255, 0, 0, 0, 0, 1, 0, 0, 0, 255, 0, 0, 0, 2, 0, 0, 0, 0, 255, 0, 0]);
-    sheet.extend([3, 0, 0, 0, 0, 0, 255, 0, 4, 0, 0, 0, 0, 0, 0, 0]);
-    assert_eq!(accept(&sheet).err(), Some(Refusal { number: 9, place: 5 }));
+    let mut draft = Draft::new(6, 1);
+    for kind in 0..5 {
+        let left = (0..6).map(|other| if other == kind + 1 && other < 5 { 255 } else { 0 }).collect();
+        draft.lines.push(DraftLine { kind, code: 0, left });
+    }
+    let holding = |draft: &Draft, fields: &[Vec<u16>]| {
+        let mut held = draft.clone();
+        held.fields = fields.to_vec();
+        accept(&held.bytes()).err().map(|refusal| (refusal.number, refusal.place))
+    };
+    let [first, second, last] = [vec![1, 0, 0, 0, 0, 0], vec![0, 1, 0, 0, 0, 0], vec![0, 0, 0, 0, 0, 1]];
+    assert_eq!(holding(&draft, &[first.clone(), last.clone()]), Some((9, 5)));
+    // Of a kind that is out neither is said: kind 5 where kind 0 alone is held, and where kind 1 is, kind 0 too.
+    assert_eq!(holding(&draft, std::slice::from_ref(&first)), Some((10, 0)));
+    assert_eq!(holding(&draft, &[second.clone(), last.clone()]), Some((9, 5)));
+    assert_eq!(holding(&draft, &[second]), None);
+    assert_eq!(holding(&draft, &[vec![0; 6]]), None);
+    assert_eq!(holding(&draft, &[]), None);
     // With one more line, kind 5 leaves kind 0 and is over the limit as well; kind 0 is the lowest.
-    sheet[4] = 6;
-    sheet.extend([5, 0, 1, 0, 0, 0, 0, 0]);
-    sheet[12] = 68;
-    sheet[16] = 68;
-    assert_eq!(accept(&sheet).err(), Some(Refusal { number: 10, place: 0 }));
+    draft.lines.push(DraftLine { kind: 5, code: 0, left: vec![1, 0, 0, 0, 0, 0] });
+    assert_eq!(holding(&draft, &[last]), Some((10, 0)));
 }
 
-/// A sheet of some fields, each kind of which leaves nothing.
+/// A sheet of some fields, each kind of which leaves nothing, and of one more that holds each kind.
 fn sheet_of(kinds: usize, fields: &[Field]) -> Vec<u8> {
     let mut draft = Draft::new(kinds, 1);
     draft.lines = (0..kinds).map(|kind| DraftLine { kind, code: 0, left: vec![0; kinds] }).collect();
     draft.fields = fields.iter().map(|field| field.iter().map(|&count| count as u16).collect()).collect();
+    draft.fields.push(vec![1; kinds]);
     draft.bytes()
 }
 
@@ -309,7 +366,7 @@ fn shelf_numbers_are_places_in_the_list() {
             let listed = shelf(kinds, tokens);
             let entry = listed.len() as u64;
             assert_eq!(Entries::new(kinds, tokens).of(kinds, tokens), entry, "{kinds} kinds, {tokens} tokens");
-            for (from, fields) in (0..).step_by(MOST_FIELDS).zip(listed.chunks(MOST_FIELDS)) {
+            for (from, fields) in (0..).step_by(MOST_FIELDS - 1).zip(listed.chunks(MOST_FIELDS - 1)) {
                 let sheet = sheet_of(kinds, fields);
                 for (place, field) in fields.iter().enumerate() {
                     let number = from + place as u64;
@@ -327,6 +384,48 @@ fn shelf_numbers_are_places_in_the_list() {
             }
         }
     }
+}
+
+/// On small sheets that use a part of their card: the list of the fields of a size has those of the reached kinds alone.
+#[test]
+fn shelf_numbers_are_places_among_the_fields_of_reached_kinds() {
+    let (mut found, mut of_fields, mut nothing) = (0, 0, 0);
+    for number in 0..SHEETS {
+        let bytes = tiny_sheet(number);
+        let Ok(normed) = accept(&bytes) else { continue };
+        let card = read(&bytes).expect("an accepted sheet");
+        if normed.reached.len() == card.kinds {
+            continue;
+        }
+        nothing += u64::from(normed.reached.is_empty());
+        for tokens in 0..=3 {
+            let listed = shelf_of(&card, tokens);
+            for (place, field) in listed.iter().enumerate() {
+                let mut counts = vec![7; card.kinds];
+                assert_eq!(shelf_field(&bytes, tokens as usize, place as u64, &mut counts), Ok(()), "sheet {number}");
+                assert!(counts.iter().map(|&count| u64::from(count)).eq(field.iter().copied()), "sheet {number}");
+                found += 1;
+            }
+            let refusal =
+                shelf_field(&bytes, tokens as usize, listed.len() as u64, &mut [7; 4]).expect_err("no such field");
+            assert_eq!((refusal.number, refusal.place), (15, 0), "sheet {number}");
+        }
+        for field in 0..card.fields {
+            let counts = card.field(field);
+            let size = counts.iter().sum();
+            if size <= 5 {
+                let place =
+                    shelf_of(&card, size).iter().position(|other| *other == counts).expect("a field of the list");
+                assert_eq!(
+                    shelf_number(&bytes, field),
+                    Ok(ShelfNumber { size, number: place as u64 }),
+                    "sheet {number}"
+                );
+                of_fields += 1;
+            }
+        }
+    }
+    assert!(found > 10_000 && of_fields > 1_000 && nothing > 100, "{found} {of_fields} {nothing}");
 }
 
 /// With any number of kinds, where no list can be made: the fields of the numbers from 0 up come one after

@@ -55,7 +55,7 @@ fn table() -> Vec<Row> {
         settle("long37", 6, "3", "the bytes given are not as many as the total"),
         settle("bad_line1_kind", 7, "line", "line P: its kind is not under the number of kinds"),
         settle("bad_line1_code", 8, "line", "line P: its code is not under the number of codes"),
-        settle("no_norm_unused", 9, "kind", "kind P: it has no norm, since it can not be cleared"),
+        settle("used_through_line", 9, "kind", "kind P: it has no norm, since it can not be cleared"),
         settle("billion_and_one", 10, "kind", "kind P: its norm is over 1,000,000,000"),
         compare(2, 2, "0", "the first field or kind number is too large"),
         compare(1, 2, "1", "the second field number is too large"),

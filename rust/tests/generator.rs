@@ -4,11 +4,13 @@ use std::collections::{BTreeMap, BTreeSet};
 
 use independent::base::{Base, Refinement};
 use independent::calls::{Answer, Call, Lent, calls, compare_implementations, day, independent, sheets};
-use independent::generator::{COSTLY, Damage, FAMILIES, Family, Size, apply, draft, measured, sample};
-use independent::norm::{NORM_LIMIT, NormedCard, accept};
+use independent::generator::{COSTLY, Damage, FAMILIES, Family, Size, apply, draft, measured, sample, use_some};
+use independent::norm::{NORM_LIMIT, NormedCard, accept, kind_norms};
 use independent::page::page;
+use independent::parts::{Promise, try_parts};
 use independent::random::Random;
-use independent::sheet::{MOST_BYTES, MOST_KINDS, Refusal};
+use independent::reached::{kinds_left, lines_to, reached_kinds};
+use independent::sheet::{Card, MOST_BYTES, MOST_KINDS, Refusal, read};
 use independent::shelf::{MOST_TOKENS, tokens_of};
 use independent::walker::{Answer as Found, Walked};
 
@@ -82,6 +84,101 @@ fn every_refusal_and_every_answer_is_met() {
     }
     met("squads: of 32 bits");
     met("squads: of 64 bits");
+    // On sheets that have a kind that is out each call is answered, and refused by 9 and by 10.
+    let on_parts = |name: &str| assert!(comparison.part_used.get(name).is_some_and(|&count| count > 10), "{name}");
+    for name in ["settle: stage 1", "settle: stage 2", "settle: stage 3", "compare: same"] {
+        on_parts(name);
+    }
+    for stage in 0..=3 {
+        on_parts(&format!("compare: different {stage}"));
+    }
+    for name in ["prime form: done", "page: done", "numbers: done", "squads: 0", "squads: 1", "squads: of 16 bits"] {
+        on_parts(name);
+    }
+    for entry in ["settle", "compare", "prime form", "shelf number", "shelf field", "squads"] {
+        on_parts(&format!("{entry}: refused 9"));
+        on_parts(&format!("{entry}: refused 10"));
+    }
+    for size in 0..=16 {
+        on_parts(&format!("shelf number: size {size}"));
+        on_parts(&format!("shelf field: size {size}"));
+    }
+    for name in ["shelf number: refused 14", "shelf field: refused 15", "shelf field: refused 12", "squads: refused 17"]
+    {
+        on_parts(name);
+    }
+}
+
+/// Of what sorts a sheet is by the kinds that are out, where it passes the checks of header and lines.
+fn sorts_of_parts(card: &Card) -> BTreeSet<&'static str> {
+    let (steps, norms, reached) = (lines_to(card), kind_norms(card), reached_kinds(card));
+    let is_out = |kind: &usize| steps[*kind].is_none();
+    let out: Vec<usize> = (0..card.kinds).filter(is_out).collect();
+    let missing = |kind: &usize| norms[*kind].is_none();
+    let over = |kind: &usize| norms[*kind] > Some(NORM_LIMIT);
+    let refused = |fault: &dyn Fn(&usize) -> bool| {
+        reached.iter().any(fault) && (0..card.kinds).find(fault) != reached.iter().copied().find(fault)
+    };
+    // Whether some line of a kind that is out leaves one of which the like is said.
+    let out_leaves = |said: &dyn Fn(&usize) -> bool| {
+        card.lines.iter().any(|line| is_out(&line.kind) && kinds_left(line).any(|kind| said(&kind)))
+    };
+    let accepted = !reached.iter().any(missing) && !reached.iter().any(over);
+    let part_used = !out.is_empty() && !reached.is_empty();
+    let others = [
+        ("no kind is out", out.is_empty()),
+        ("some kinds are out, and others are reached", part_used),
+        ("there is no field", card.fields == 0),
+        ("there are fields, all of them empty", card.fields > 0 && reached.is_empty()),
+        ("a kind is reached through one line", steps.contains(&Some(1))),
+        ("a kind is reached through two lines", steps.contains(&Some(2))),
+        ("a kind is reached through three lines or more", steps.iter().any(|&step| step > Some(2))),
+        ("a kind that is out has no norm, and the sheet is accepted", accepted && part_used && out.iter().any(missing)),
+        ("one is over the limit, and the sheet is accepted", accepted && part_used && out.iter().any(over)),
+        ("all that are out have norms", accepted && part_used && out.iter().all(|kind| !missing(kind) && !over(kind))),
+        ("a kind is left by ones that are out alone", part_used && out_leaves(&is_out)),
+        ("a kind that is out leaves one that is reached", out_leaves(&|kind| !is_out(kind))),
+        ("refused by 9, and a lower kind without a norm is out", refused(&missing)),
+        ("refused by 10, and a lower kind over the limit is out", !reached.iter().any(missing) && refused(&over)),
+        (
+            "refused by 10, and a kind without a norm is out",
+            !reached.iter().any(missing) && reached.iter().any(over) && out.iter().any(missing),
+        ),
+        ("a kind that is out has a lower number than one that is reached", part_used && out.first() < reached.last()),
+        ("of 32 kinds some are out", part_used && card.kinds == MOST_KINDS),
+    ];
+    others.into_iter().filter(|&(_, there)| there).map(|(name, _)| name).collect()
+}
+
+/// What the comparison with the library meets of sheets that use a part of their card.
+#[test]
+fn parts_of_every_sort() {
+    let mut sorts: BTreeMap<&str, u64> = BTreeMap::new();
+    let mut sheets = 0;
+    for number in 0..20_000 {
+        let bytes = sample(SEED, number).bytes;
+        let Ok(card) = read(&bytes) else { continue };
+        sheets += 1;
+        for sort in sorts_of_parts(&card) {
+            *sorts.entry(sort).or_default() += 1;
+        }
+    }
+    println!("{sheets} {sorts:#?}");
+    assert!(sorts.len() == 17 && sorts.values().all(|&count| count > 20), "{sorts:#?}");
+    let [all, some] = ["no kind is out", "some kinds are out, and others are reached"].map(|sort| sorts[sort]);
+    assert!(all > sheets / 3 && some > sheets / 5, "{all} {some} {sheets}");
+}
+
+/// A sheet that uses a part of its card is answered as the sheet of that part.
+#[test]
+fn the_promises_of_parts_are_kept() {
+    let tried = try_parts(SEED, 0..20_000, independent);
+    println!("{tried:?}");
+    assert!(tried.broken.is_empty(), "{tried:?}");
+    assert!(tried.sheets > 4_000 && tried.nothing > 500 && tried.refused > 500, "{tried:?}");
+    for (promise, least) in [(Promise::Dropped, 40_000), (Promise::Alone, 20_000), (Promise::Nothing, 5_000)] {
+        assert!(tried.held[&promise] > least, "{tried:?}");
+    }
 }
 
 /// Of what sorts a call of Squads on an accepted sheet is, with the forms and the counts of its fields.
@@ -242,7 +339,7 @@ fn sheets_of_every_family_size_and_damage() {
 #[test]
 fn norms_at_the_limit_and_past_it() {
     let (mut close, mut one_less, mut equal, mut over) = (0, 0, 0, 0);
-    for number in 0..20_000 {
+    for number in 0..40_000 {
         match accept(&sample(SEED, number).bytes) {
             Err(refusal) => over += u64::from(refusal.number == 10),
             Ok(normed) => match NORM_LIMIT - normed.norms.into_iter().max().expect("a kind") {
@@ -279,7 +376,7 @@ fn settled_bases_are_bisimulations() {
         let bytes = sample(SEED + 1, number).bytes;
         let Ok(normed) = accept(&bytes) else { continue };
         let settled = Refinement::first(&normed).settle();
-        for kind in 0..normed.card.kinds {
+        for &kind in &normed.reached {
             assert!(expands(&normed, settled.base(), kind), "sheet {number} kind {kind}");
         }
         checked += 1;
@@ -316,11 +413,12 @@ fn order_and_repetition_of_lines_change_no_page() {
         let size = if number % 40 == 0 { Size::Limit } else { Size::Small };
         let family = random.choose(&FAMILIES);
         let mut made = draft(family, size, &mut random);
+        use_some(&mut made, &mut random);
         let before = page(&made.bytes());
         if before.starts_with("refused 7") || before.starts_with("refused 8") {
             continue;
         }
-        if made.lines.len() < 256 {
+        if (1..256).contains(&made.lines.len()) {
             made.lines.push(made.lines[random.below(made.lines.len())].clone());
         }
         for last in (1..made.lines.len()).rev() {

@@ -5,7 +5,8 @@ use std::path::{Path, PathBuf};
 
 use independent::filer::{Verdict, compare, row, settle};
 use independent::page::page;
-use independent::sheet::{Refusal, numbers};
+use independent::reached::reached_kinds;
+use independent::sheet::{Refusal, numbers, read};
 use independent::shelf::{shelf_field, shelf_number};
 use independent::squads::squads;
 use independent::walker::{Answer, DESKS, Session, walk, walk_lent};
@@ -20,18 +21,63 @@ fn sheet(name: &str) -> Vec<u8> {
     fs::read(stored().join(format!("{name}.sheet"))).expect(name)
 }
 
+/// The stored sheets, each with its name and its page, in the order of the names.
+fn pages() -> Vec<(String, Vec<u8>, String)> {
+    let entries = fs::read_dir(stored()).expect("testdata").map(|entry| entry.expect("an entry").path());
+    let mut pages: Vec<_> = entries
+        .filter(|path| path.extension().is_some_and(|extension| extension == "sheet"))
+        .map(|path| {
+            let name = path.file_stem().expect("a name").to_string_lossy().into_owned();
+            let page = fs::read_to_string(path.with_extension("page")).expect("a page for each sheet");
+            (name, fs::read(&path).expect("a sheet"), page)
+        })
+        .collect();
+    pages.sort();
+    pages
+}
+
 #[test]
 fn pages_agree() {
-    let mut compared = 0;
-    for entry in fs::read_dir(stored()).expect("testdata") {
-        let path = entry.expect("an entry").path();
-        if path.extension().is_some_and(|extension| extension == "sheet") {
-            let expected = fs::read_to_string(path.with_extension("page")).expect("a page for each sheet");
-            assert_eq!(page(&fs::read(&path).expect("a sheet")), expected, "{}", path.display());
-            compared += 1;
+    let pages = pages();
+    for (name, sheet, expected) in &pages {
+        assert_eq!(page(sheet), *expected, "{name}");
+    }
+    assert_eq!(pages.len(), 86);
+}
+
+/// The stored sheets that have a kind that is out. The pages of all others are those that they had before there were such.
+const PART_USED: [&str; 14] = [
+    "full_12820",
+    "no_fields",
+    "no_norm_unused",
+    "only_zero_fields",
+    "part01",
+    "part04",
+    "part05",
+    "part07",
+    "part08",
+    "part09",
+    "part10",
+    "part11",
+    "part_used",
+    "zero_fields",
+];
+
+#[test]
+fn pages_of_sheets_that_use_all_kinds_name_none_that_is_out() {
+    let mut part_used = Vec::new();
+    for (name, sheet, page) in pages() {
+        let out = |kind: &usize| page.contains(&format!("\nkind {kind} out\n"));
+        let Ok(card) = read(&sheet) else { continue };
+        let reached = reached_kinds(&card);
+        if reached.len() < card.kinds {
+            assert!((0..card.kinds).filter(out).eq((0..card.kinds).filter(|kind| !reached.contains(kind))), "{name}");
+            part_used.push(name);
+        } else {
+            assert!(!page.contains("out"), "{name}");
         }
     }
-    assert_eq!(compared, 77);
+    assert_eq!(part_used, PART_USED);
 }
 
 /// The stored walks, each by desk 0 where the others have none, and by another desk where the others have as much as any can.
@@ -80,10 +126,22 @@ fn shelf_answer(sheet: &[u8], verb: &str, numbers_given: &[u64]) -> Result<Strin
     }
 }
 
+/// The lines of two stored files: one of sheets that use all kinds, and one of sheets that have a kind that is out.
+fn lines_of(used: &str, part_used: &str, least: [usize; 2]) -> Vec<String> {
+    let texts = [used, part_used].map(|name| fs::read_to_string(stored().join(name)).expect(name));
+    for (place, text) in texts.iter().enumerate() {
+        assert!(text.lines().count() > least[place]);
+        for line in text.lines() {
+            let name = line.split(' ').next().expect("a name");
+            assert_eq!(PART_USED.contains(&name), place == 1, "{line}");
+        }
+    }
+    texts.iter().flat_map(|text| text.lines().map(str::to_owned)).collect()
+}
+
 #[test]
 fn shelf_numbers_agree() {
-    let text = fs::read_to_string(stored().join("shelf.txt")).expect("shelf.txt");
-    for line in text.lines() {
+    for line in lines_of("shelf.txt", "shelf_part_used.txt", [1_000, 300]) {
         let (call, expected) = line.split_once(" = ").expect("a call and its answer");
         let words: Vec<&str> = call.split(' ').collect();
         let numbers_given: Vec<u64> = words[2..].iter().map(|word| word.parse().expect("a number")).collect();
@@ -91,13 +149,11 @@ fn shelf_numbers_agree() {
             .unwrap_or_else(|refusal| format!("refused {} {}", refusal.number, refusal.place));
         assert_eq!(given, expected, "{line}");
     }
-    assert!(text.lines().count() > 1_000);
 }
 
 #[test]
 fn squads_agree() {
-    let text = fs::read_to_string(stored().join("squads.txt")).expect("squads.txt");
-    for line in text.lines() {
+    for line in lines_of("squads.txt", "squads_part_used.txt", [300, 100]) {
         let (call, expected) = line.split_once(" = ").expect("a call and its answer");
         let words: Vec<&str> = call.split(' ').collect();
         let [whole, squad] = [2, 3].map(|place| words[place].parse().expect("a number"));
@@ -117,7 +173,6 @@ fn squads_agree() {
         };
         assert_eq!(given, expected, "{line}");
     }
-    assert!(text.lines().count() > 300);
 }
 
 #[test]

@@ -1,5 +1,5 @@
 -- The checks of norms by the lowest kinds that fail them, and what all the checks come to.
-use mathlib.Core.Bool.{Bool}
+use mathlib.Core.Bool.{Bool, true, false}
 use mathlib.Core.List.{List, _++_}
 use mathlib.Core.Logic.{_⊎_, inl, inr}
 use mathlib.Core.Path.{_≡_, refl, sym, _∙_, ap, ap₂, fun-ext}
@@ -8,8 +8,9 @@ use native.Mathlib.Decide.{decLt, ℕ-discrete}
 use native.Mathlib.Omega.{arith}
 use borrow.Author.Tests.{eq-eqb, ne-eqb, lt-ltb, le-ltb}
 use lib.Dec.{T, eqb, ltb}
-use Rattle.model.specs.Finite.{listFrom, leastFrom}
+use Rattle.model.specs.Finite.{both, listFrom, leastFrom}
 use Rattle.model.specs.Field.{at}
+use Rattle.model.specs.Card as model
 use Rattle.model.specs.Norm.{kindNorm}
 use Rattle.model.specs.Sheet.{kindCount, cardOf}
 use Rattle.model.specs.Limits.{mostKinds, normLimit}
@@ -53,20 +54,26 @@ module _ (number : ℕ) (p : ℕ → Bool) (n : ℕ) where
   pub least-passes : (i : ℕ) → i ≡ leastFrom p 0 n → n ≤ i → firstOf (listFrom (λ k. check number k (p k)) 0 n) ≡ clear
   least-passes i e h = each-clear number p 0 n (λ j l. least-cases p 0 n .2 (0 + j) (omega arith) (omega arith))
 
--- Checks 9 and 10 by the lowest kinds.
-module _ (w : ℕ → ℕ) (n : ℕ) where
-  pub missing-stops : (i : ℕ) → i ≡ leastFrom (λ k. eqb (w k) 0) 0 n → i < n → firstOf (normChecksBy w n) ≡ refusal 9 i
-  unfolding normChecksBy
-  missing-stops i e h = first-left _ _ 9 i (least-stops 9 (λ k. eqb (w k) 0) n i e h)
+-- Checks 9 and 10 by the lowest kinds, under any marks and norms.
+module _ (r : ℕ → Bool) (w : ℕ → ℕ) (n : ℕ) where
+  missing : ℕ → Bool
+  missing k = both (r k) (eqb (w k) 0)
 
-  module _ (i : ℕ) (e : i ≡ leastFrom (λ k. eqb (w k) 0) 0 n) (h : n ≤ i) where
-    pub over-stops : (j : ℕ) → j ≡ leastFrom (λ k. ltb normLimit (w k)) 0 n → j < n → firstOf (normChecksBy w n) ≡ refusal 10 j
-    unfolding normChecksBy
-    over-stops j d l = first-right _ _ (least-passes 9 (λ k. eqb (w k) 0) n i e h) ∙ least-stops 10 (λ k. ltb normLimit (w k)) n j d l
+  over : ℕ → Bool
+  over k = ltb normLimit (w k)
 
-    pub norms-pass : (j : ℕ) → j ≡ leastFrom (λ k. ltb normLimit (w k)) 0 n → n ≤ j → firstOf (normChecksBy w n) ≡ clear
-    unfolding normChecksBy
-    norms-pass j d l = first-right _ _ (least-passes 9 (λ k. eqb (w k) 0) n i e h) ∙ least-passes 10 (λ k. ltb normLimit (w k)) n j d l
+  pub missing-stops : (i : ℕ) → i ≡ leastFrom (λ k. both (r k) (eqb (w k) 0)) 0 n → i < n → firstOf (normChecksBy r w n) ≡ refusal 9 i
+  unfolding normChecksBy missing
+  missing-stops i e h = first-left _ _ 9 i (least-stops 9 missing n i e h)
+
+  module _ (i : ℕ) (e : i ≡ leastFrom (λ k. both (r k) (eqb (w k) 0)) 0 n) (h : n ≤ i) where
+    pub over-stops : (j : ℕ) → j ≡ leastFrom (λ k. ltb normLimit (w k)) 0 n → j < n → firstOf (normChecksBy r w n) ≡ refusal 10 j
+    unfolding normChecksBy missing over
+    over-stops j d l = first-right _ _ (least-passes 9 missing n i e h) ∙ least-stops 10 over n j d l
+
+    pub norms-pass : (j : ℕ) → j ≡ leastFrom (λ k. ltb normLimit (w k)) 0 n → n ≤ j → firstOf (normChecksBy r w n) ≡ clear
+    unfolding normChecksBy missing over
+    norms-pass j d l = first-right _ _ (least-passes 9 missing n i e h) ∙ least-passes 10 over n j d l
 
 -- A norm cut one past the limit is missing just when it was, and over the limit just when it was.
 missing-cut : (x : ℕ) → eqb (min x (suc normLimit)) 0 ≡ eqb x 0
@@ -83,11 +90,20 @@ over-cut x = go (decLt normLimit x)
     go (yes h) = lt-ltb normLimit (min x (suc normLimit)) (omega arith) ∙ sym (lt-ltb normLimit x h)
     go (no h) = le-ltb normLimit (min x (suc normLimit)) (omega arith) ∙ sym (le-ltb normLimit x (omega arith))
 
-checks-cut : (w : ℕ → ℕ) (n : ℕ) → normChecksBy (λ k. min (w k) (suc normLimit)) n ≡ normChecksBy w n
+checks-cut : (r : ℕ → Bool) (w : ℕ → ℕ) (n : ℕ) → normChecksBy r (λ k. min (w k) (suc normLimit)) n ≡ normChecksBy r w n
 unfolding normChecksBy
-checks-cut w n =
-    ap₂ _++_ (ap (λ (f : ℕ → Check). listFrom f 0 n) (fun-ext (λ k. ap (check 9 k) (missing-cut (w k)))))
+checks-cut r w n =
+    ap₂ _++_ (ap (λ (f : ℕ → Check). listFrom f 0 n) (fun-ext (λ k. ap (λ b. check 9 k (both (r k) b)) (missing-cut (w k)))))
     (ap (λ (f : ℕ → Check). listFrom f 0 n) (fun-ext (λ k. ap (check 10 k) (over-cut (w k)))))
+
+-- A norm over the limit is that of a reached kind: one that is out has 0.
+over-reached : (c : model.Card) (k : ℕ) → ltb normLimit (kindNorm c k) ≡ both (model.reached c k) (ltb normLimit (kindNorm c k))
+unfolding kindNorm
+over-reached c k = go (model.reached c k) refl
+  where
+    go : (b : Bool) → model.reached c k ≡ b → ltb normLimit (kindNorm c k) ≡ both b (ltb normLimit (kindNorm c k))
+    go true e = refl
+    go false e = rw (e, kindNorm) (le-ltb normLimit 0 (omega arith))
 
 -- What all the checks come to.
 module _ (s : List ℕ) where
@@ -114,11 +130,15 @@ module _ {s : List ℕ} {c : Card} (R : Reads s c) where
   unfolding cutNorms
   cut-at = array-at mostKinds (λ k. min (kindNorm (cardOf s) k) (suc normLimit)) (λ k h. omega (arith, kind-norm-past R k (omega (arith, kinds-most R))))
 
-  by-norms : normChecksBy (at (cutNorms s)) (c .kinds) ≡ normChecks s
+  by-norms : normChecksBy (model.reached (cardOf s)) (at (cutNorms s)) (c .kinds) ≡ normChecks s
   unfolding normChecksBy normChecks
-  by-norms = ap₂ normChecksBy cut-at (kinds-are R) ∙ checks-cut (kindNorm (cardOf s)) (kindCount s)
+  by-norms =
+      ap₂ (normChecksBy (model.reached (cardOf s))) cut-at (kinds-are R)
+      ∙ checks-cut (model.reached (cardOf s)) (kindNorm (cardOf s)) (kindCount s)
+      ∙ ap (λ (f : ℕ → Check). listFrom (λ k. check 9 k (both (model.reached (cardOf s) k) (eqb (kindNorm (cardOf s) k) 0))) 0 (kindCount s) ++ listFrom f 0 (kindCount s))
+      (fun-ext (λ k. ap (check 10 k) (over-reached (cardOf s) k)))
 
-  norms-decide : firstOf (acceptChecks s) ≡ firstOf (normChecksBy (at (cutNorms s)) (c .kinds))
+  norms-decide : firstOf (acceptChecks s) ≡ firstOf (normChecksBy (model.reached (cardOf s)) (at (cutNorms s)) (c .kinds))
   norms-decide = first-right (sheetChecks s) (normChecks s) (R .passed) ∙ ap firstOf (sym by-norms)
 
   -- The norms of an accepted sheet are not cut.
@@ -130,18 +150,24 @@ module _ {s : List ℕ} {c : Card} (R : Reads s c) where
       go k (yes h) = omega (arith, limit-of s ok k h)
       go k (no h) = omega (arith, kind-norm-past R k (omega (arith, kinds-are R)))
 
-  module _ (norms : List ℕ) (cut : norms ≡ cutNorms s) where
-    found : firstOf (acceptChecks s) ≡ firstOf (normChecksBy (at norms) (c .kinds))
-    found = rw cut norms-decide
+  -- By the marks and the norms that were found.
+  module _ (marks : ℕ → Bool) (told : (k : ℕ) → marks k ≡ model.reached (cardOf s) k) (norms : List ℕ) (cut : norms ≡ cutNorms s) where
+    finding : Finding
+    finding = firstOf (normChecksBy marks (at norms) (c .kinds))
 
-    pub norms-refused : (k p : ℕ) → outcome c (firstOf (normChecksBy (at norms) (c .kinds))) ≡ Refused k p → refusedWith k p ≡ acceptanceOf s
-    norms-refused k p e = accept-refused s k p (found ∙ refused-found c (firstOf (normChecksBy (at norms) (c .kinds))) k p e)
+    found : firstOf (acceptChecks s) ≡ finding
+    unfolding finding
+    found = rw (cut, fun-ext told) norms-decide
 
-    pub norms-passed : (d : Card) → outcome c (firstOf (normChecksBy (at norms) (c .kinds))) ≡ Passed d
+    pub norms-refused : (k p : ℕ) → outcome c (firstOf (normChecksBy marks (at norms) (c .kinds))) ≡ Refused k p → refusedWith k p ≡ acceptanceOf s
+    unfolding finding
+    norms-refused k p e = accept-refused s k p (found ∙ refused-found c finding k p e)
+
+    pub norms-passed : (d : Card) → outcome c (firstOf (normChecksBy marks (at norms) (c .kinds))) ≡ Passed d
         → _≡_ {A = Acceptance} (record { checked = Passed d; norms = norms }) (acceptanceOf s)
-    unfolding Accepted acceptedWith
+    unfolding Accepted acceptedWith finding
     norms-passed d e =
-        let t = passed-found c (firstOf (normChecksBy (at norms) (c .kinds))) d e in
+        let t = passed-found c finding d e in
         let ok : Accepted s = found ∙ t .1 in
         rw (t .0 ∙ R .header, cut ∙ norms-uncut ok) (accept-clear s ok)
 

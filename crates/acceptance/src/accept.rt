@@ -1,19 +1,22 @@
-// The check of a whole sheet: refusals 1 to 8, then 9 and 10 from the norms of its kinds.
+// The check of a whole sheet: refusals 1 to 8, then 9 and 10 from the norms of its reached kinds.
+ghost use mathlib.Core.Bool.{false};
 ghost use mathlib.Core.Path.{_≡_};
 ghost use Prim.Native.Nat.{_≤_};
 ghost use lib.Dec.{eqb, ltb};
-ghost use Rattle.model.specs.Finite.{leastFrom};
+ghost use lib.ListN.{getD};
+ghost use Rattle.model.specs.Finite.{both, leastFrom};
 ghost use Rattle.model.specs.Field.{at};
 ghost use Rattle.model.specs.Limits.{mostKinds, normLimit};
 ghost use Rattle.model.specs.Refusal.{firstOf};
 ghost use Rattle.validation.specs.Outcome.{outcome};
 ghost use Rattle.acceptance.specs.Acceptance.{normChecksBy, refusedWith, acceptanceOf};
 use norms::kinds::kind_norms;
+use reach::reached_kinds;
 use sheet::Card;
 use validation::checks::Checked;
 use validation::checks::check_sheet;
 
-// What the checks 1 to 10 come to: the card and the norms of its kinds, or the refusal, with norms all 0.
+// What the checks 1 to 10 come to: the card and the norms of its reached kinds, or the refusal, with norms all 0.
 pub struct Acceptance {
     pub checked: Checked,
     pub norms: [u32; 32],
@@ -26,8 +29,9 @@ pub fn accept(sheet: &[u8]) -> Acceptance
     match check_sheet(sheet) {
         Checked::Refused { number, place } => refuse(number, place),
         Checked::Passed(card) => {
-            let norms = kind_norms(sheet, card);
-            match check_norms(card, &norms) {
+            let reached = reached_kinds(sheet, card);
+            let norms = kind_norms(sheet, card, &reached);
+            match check_norms(card, &reached, &norms) {
                 Checked::Refused { number, place } => refuse(number, place),
                 Checked::Passed(card) => Acceptance {
                     checked: Checked::Passed(card),
@@ -38,13 +42,13 @@ pub fn accept(sheet: &[u8]) -> Acceptance
     }
 }
 
-// 9 at the lowest kind that has no norm, then 10 at the lowest with one over the limit.
-fn check_norms(card: Card, norms: &[u32; 32]) -> Checked
+// 9 at the lowest reached kind that has no norm, then 10 at the lowest with one over the limit.
+fn check_norms(card: Card, reached: &[bool; 32], norms: &[u32; 32]) -> Checked
     requires { ⌜ card .kinds ≤ mostKinds ⌝ }
-    ensures { λ r. ⌜ r ≡ outcome card (firstOf (normChecksBy (at (now (norms .entry))) (card .kinds))) ⌝ }
+    ensures { λ r. ⌜ r ≡ outcome card (firstOf (normChecksBy (λ k. getD (now (reached .entry)) k false) (at (now (norms .entry))) (card .kinds))) ⌝ }
 {
     let kinds = card.kinds;
-    let missing = first_missing(norms, kinds);
+    let missing = first_missing(reached, norms, kinds);
     if missing < kinds {
         return Checked::Refused {
             number: 9,
@@ -61,15 +65,14 @@ fn check_norms(card: Card, norms: &[u32; 32]) -> Checked
     Checked::Passed(card)
 }
 
-// The lowest kind that has no norm; the number of kinds if each has one.
-fn first_missing(norms: &[u32; 32], kinds: usize) -> usize
+// The lowest reached kind that has no norm; the number of kinds if each has one.
+fn first_missing(reached: &[bool; 32], norms: &[u32; 32], kinds: usize) -> usize
     requires { ⌜ kinds ≤ mostKinds ⌝ }
-    ensures { λ r. ⌜ r ≡ leastFrom (λ k. eqb (at (now (norms .entry)) k) 0) 0 kinds ⌝ }
+    ensures { λ r. ⌜ r ≡ leastFrom (λ k. both (getD (now (reached .entry)) k false) (eqb (at (now (norms .entry)) k) 0)) 0 kinds ⌝ }
 {
     let mut k = 0;
     while k < kinds {
-        let norm = norms[k];
-        if norm == 0 {
+        if reached[k] && norms[k] == 0 {
             return k;
         }
         k += 1;

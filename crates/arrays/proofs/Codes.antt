@@ -6,7 +6,8 @@ use Prim.Native.Nat.{ℕ, zero, suc, _+_, _-_, _^_, _≤_, _<_}
 use native.Mathlib.Omega.{arith}
 use lib.Dec.{eqb, ltb}
 use lib.ListN.{length}
-use Rattle.model.specs.Finite.{concat, listFrom}
+use Rattle.model.specs.Finite.{both, concat, listFrom}
+use Rattle.model.specs.Card.{reached}
 use Rattle.model.specs.Norm.{kindNorm}
 use Rattle.model.specs.Limits.{normLimit}
 use Rattle.model.specs.Sheet.{u16At, kindCount, lineCount, lineOf, codeCount, cardOf}
@@ -94,7 +95,7 @@ module _ (s : List ℕ) (bytes : Bytes s) where
   unfolding normChecks
   norms-small =
       let m : 0 + kindCount s ≤ 65536 = omega (arith, kinds-most) in
-      small-append _ _ (small-each 9 (λ k. eqb (kindNorm (cardOf s) k) 0) 0 (kindCount s) (omega arith) m) (small-each 10 (λ k. ltb normLimit (kindNorm (cardOf s) k)) 0 (kindCount s) (omega arith) m)
+      small-append _ _ (small-each 9 (λ k. both (reached (cardOf s) k) (eqb (kindNorm (cardOf s) k) 0)) 0 (kindCount s) (omega arith) m) (small-each 10 (λ k. both (reached (cardOf s) k) (ltb normLimit (kindNorm (cardOf s) k))) 0 (kindCount s) (omega arith) m)
 
   pub accept-small : Small (firstOf (acceptChecks s))
   accept-small = small-append (sheetChecks s) (normChecks s) sheet-small norms-small

@@ -2,26 +2,27 @@
 use mathlib.Core.List.{List, []}
 use mathlib.Core.Logic.{_↔_, Iff·symm, Iff·trans, _⊎_, inl, inr}
 use mathlib.Core.Path.{_≡_, refl, sym, _∙_, ap, fun-ext}
-use Prim.Native.Nat.{ℕ, _+_, _*_, _≤_, _<_}
+use Prim.Native.Nat.{ℕ, _+_, _*_, _≤_, _<_, max}
 use native.Mathlib.Decide.{decLt}
 use native.Mathlib.Nat.{mul-le-mul-right, suc-mul}
 use native.Mathlib.Omega.{arith}
 use lib.ListN.{length, take, List·getD-append}
 use lib.Seq.{take-at}
 use Rattle.model.specs.Field.{Field, unit, at}
-use Rattle.model.specs.Card.{Live}
+use Rattle.model.specs.Card.{Reached, reachedCount}
 use Rattle.model.specs.Base.{settledStage, settledRow}
 use Rattle.theory.specs.Game.{Always, Answered}
 use Rattle.model.specs.Sheet.{kindCount, fieldCount, cardOf, fieldOf}
 use Rattle.model.specs.Limits.{Limits}
 use Rattle.model.specs.Refusal.{Accepted, clear, refusal, firstOf, settleChecks, compareChecks, formChecks}
-use Rattle.theory.specs.Terms.{Before, BaseOf, Stage, Settled as IsSettled}
+use Rattle.theory.specs.Terms.{Before, BaseOf, Stage, Prime, Settled as IsSettled}
 use Rattle.theory.specs.Meanings.{Settles}
 use Rattle.theory.specs.Demands.{Demand2, Demand3}
 use Rattle.model.specs.Answer.{refused, given, Lent, same, different, settleOf, compareOf, formOf, rowOf, rowCheckOf, tableOf, primeForm, written}
 use Rattle.theory.proofs.Lists.{length-from}
-use Rattle.theory.proofs.Field.{unit-other}
-use Rattle.theory.proofs.Sheets.{field-kinds}
+use Rattle.theory.proofs.Field.{unit-same, unit-other}
+use Rattle.theory.proofs.Sheets.{sheet-clear, tells-reached, under-kinds, field-kinds}
+use Rattle.theory.proofs.Reach.{dec-tells}
 use Rattle.theory.proofs.Answers.{demand1}
 use Rattle.theory.proofs.Demands.{demands}
 use Rattle.theory.proofs.Told.{told, found, answer-of, lent-of}
@@ -111,13 +112,17 @@ module _ (s table : List ℕ) (answer : Settling) (after : List ℕ) (e : settli
 
     -- A row of the final base has counts of the card's kinds alone.
     settled-past : (k j : ℕ) → k < kindCount s → kindCount s ≤ j → settledRow (cardOf s) k j ≡ 0
-    settled-past k j h l = go (settles .final .counts k (rw card-kinds h)) (decLt 0 (settledRow (cardOf s) k j))
+    settled-past k j h l = of-kind (dec-tells _ (tells-reached s ok k))
       where
         go : {P Q : Type 0} → ((settledRow (cardOf s) k ≡ unit k) × P) ⊎ (Before (cardOf s) k (settledRow (cardOf s) k) × Q)
             → Dec (0 < settledRow (cardOf s) k j) → settledRow (cardOf s) k j ≡ 0
         go x (no z) = omega arith
         go (inl x) (yes z) = ap (λ (f : Field). f j) (x .0) ∙ unit-other k j (λ i. omega arith)
-        go (inr x) (yes z) = absurd (omega (arith, x .0 j z .0, card-kinds))
+        go (inr x) (yes z) = absurd (omega (arith, under-kinds s j (x .0 j z .0)))
+
+        of-kind : Dec (Reached (cardOf s) k) → settledRow (cardOf s) k j ≡ 0
+        of-kind (yes v) = go (settles .final .counts k v) (decLt 0 (settledRow (cardOf s) k j))
+        of-kind (no v) = ap (λ (f : Field). f j) (settles .out-row (settledStage (cardOf s)) k v)
 
     row-handed : (k : ℕ) → k < kindCount s → rowCheckOf (kindCount s) k after ≡ clear
     row-handed k h =
@@ -138,14 +143,14 @@ module _ (s table : List ℕ) (answer : Settling) (after : List ℕ) (e : settli
 
     base-handed : BaseOf (cardOf s) (Stage (cardOf s) (settledStage (cardOf s))) (λ k. at (rowOf (kindCount s) k after))
     base-handed = record {
-      related = λ k h. rw (row-is k (rw card-kinds at h)) (settles .final .related k h);
+      related = λ k h. rw (row-is k (under-kinds s k h)) (settles .final .related k h);
       counts = λ k h. go k h (settles .final .counts k h);
     }
       where
-        same-row : (k : ℕ) → Live (cardOf s) k → at (rowOf (kindCount s) k after) ≡ settledRow (cardOf s) k
-        same-row k h = row-is k (rw card-kinds at h)
+        same-row : (k : ℕ) → Reached (cardOf s) k → at (rowOf (kindCount s) k after) ≡ settledRow (cardOf s) k
+        same-row k h = row-is k (under-kinds s k h)
 
-        go : {P : Type 0} (k : ℕ) → Live (cardOf s) k
+        go : {P : Type 0} (k : ℕ) → Reached (cardOf s) k
             → ((settledRow (cardOf s) k ≡ unit k) × P) ⊎ (Before (cardOf s) k (settledRow (cardOf s) k) × ((j : ℕ) → 0 < settledRow (cardOf s) k j → settledRow (cardOf s) j ≡ unit j))
             → ((at (rowOf (kindCount s) k after) ≡ unit k) × P) ⊎ (Before (cardOf s) k (at (rowOf (kindCount s) k after)) × ((j : ℕ) → 0 < at (rowOf (kindCount s) k after) j → at (rowOf (kindCount s) j after) ≡ unit j))
         go k h (inl x) = inl (same-row k h ∙ x .0, x .1)
@@ -155,15 +160,24 @@ module _ (s table : List ℕ) (answer : Settling) (after : List ℕ) (e : settli
             count : (j : ℕ) → 0 < at (rowOf (kindCount s) k after) j → 0 < settledRow (cardOf s) k j
             count j z = rw (ap (λ (f : Field). f j) (same-row k h)) at z
 
-    stage-means : (1 ≤ settledStage (cardOf s)) × (settledStage (cardOf s) ≤ kindCount s) × IsSettled (cardOf s) (settledStage (cardOf s))
+    stage-means : (1 ≤ settledStage (cardOf s)) × (settledStage (cardOf s) ≤ max 1 (reachedCount (cardOf s))) × IsSettled (cardOf s) (settledStage (cardOf s))
         × ((q : ℕ) → 1 ≤ q → q < settledStage (cardOf s) → ¬ IsSettled (cardOf s) q)
-    stage-means = (settles .from, omega (arith, settles .most, card-kinds), settles .settled, settles .least)
+    stage-means = (settles .from, settles .most, settles .settled, settles .least)
+
+    -- A row is itself once just when its kind is prime; a kind that is out is not, and its row is empty.
+    own-row {ℓ} : (k : ℕ) → Dec (Reached (cardOf s) k) → (settledRow (cardOf s) k ≡ unit k) ↔ Prime {ℓ} (cardOf s) k
+    own-row k (yes v) = meanings {ℓ} .primes s ok .own-row k v
+    own-row k (no v) = (
+      (λ e. absurd (omega (arith, ap (λ (f : Field). f k) (sym (settles .out-row (settledStage (cardOf s)) k v) ∙ e), unit-same k))),
+      (λ p. absurd (v (p .0))),
+    )
 
     settle-means {ℓ} : SettleMeans {ℓ} s table answer after
     settle-means = record {
       stage = λ t h. rw (stage-is t h) at stage-means;
       base = λ t h. rw (stage-is t h) at base-handed;
-      prime = λ k h. rw (row-is k h) (meanings {ℓ} .primes s ok .own-row k (rw card-kinds h));
+      out = λ k h v. row-is k h ∙ settles .out-row (settledStage (cardOf s)) k v;
+      prime = λ k h. rw (row-is k h) (own-row {ℓ} k (dec-tells _ (tells-reached s ok k)));
     }
 
 -- Row.
@@ -220,7 +234,7 @@ module _ (s : List ℕ) (i j : ℕ) (answer : Verdict) (e : verdictOf answer ≡
           same-plays = λ x. D .same-plays (is-same .0 x);
           plays-same = λ f x. is-same .1 (D .plays-same f x);
           same-holds = same-holds;
-          same-again = λ x. D .always-again (fieldOf s i) (fieldOf s j) (field-kinds s i) (field-kinds s j) (same-holds x);
+          same-again = λ x. D .always-again (fieldOf s i) (fieldOf s j) (field-kinds s (sheet-clear s ok) i) (field-kinds s (sheet-clear s ok) j) (same-holds x);
           parted-different = λ x. some-different .1 (D .parted-different x);
           different-parted = λ t r x. D .different-parted t r (is-different t r .0 x);
           different-stage = λ t r x. D .different-stage t r (is-different t r .0 x);

@@ -2,10 +2,10 @@
 use mathlib.Core.List.{List, []}
 use mathlib.Core.Logic.{_↔_, _⊎_}
 use mathlib.Core.Path.{_≡_}
-use Prim.Native.Nat.{ℕ, _+_, _-_, _*_, _≤_, _<_, min}
+use Prim.Native.Nat.{ℕ, _+_, _-_, _*_, _≤_, _<_, min, max}
 use lib.ListN.{length, take, drop}
-use Rattle.model.specs.Field.{unit, at}
-use Rattle.model.specs.Card.{On}
+use Rattle.model.specs.Field.{none, unit, at}
+use Rattle.model.specs.Card.{On, Reached, reachedCount}
 use Rattle.model.specs.Norm.{IsNorm}
 use Rattle.theory.specs.Expansion.{Expands, Bisimilar}
 use Rattle.model.specs.Base.{settledStage}
@@ -39,10 +39,13 @@ pub record SettleAnswers (s table : List ℕ) (answer : Settling) (after : List 
 
 -- What Settle gives of an accepted sheet, in a table that is large enough.
 pub record SettleMeans {ℓ} (s table : List ℕ) (answer : Settling) (after : List ℕ) : Type (ℓ + 1) where
-  -- "The settled stage is the least s from 1 up in which every related pair satisfies expansion; it is at most n."
-  pub stage : (t : ℕ) → answer ≡ Settled t → (1 ≤ t) × (t ≤ kindCount s) × IsSettled (cardOf s) t × ((q : ℕ) → 1 ≤ q → q < t → ¬ IsSettled (cardOf s) q)
+  -- "The settled stage is the least s from 1 up in which every related pair satisfies expansion; it is at most n", the number of reached kinds, or 1 where none is: "A sheet that reaches no
+  -- kind settles at stage 1."
+  pub stage : (t : ℕ) → answer ≡ Settled t → (1 ≤ t) × (t ≤ max 1 (reachedCount (cardOf s))) × IsSettled (cardOf s) t × ((q : ℕ) → 1 ≤ q → q < t → ¬ IsSettled (cardOf s) q)
   -- The rows that Row hands out of the table are "the final base", the base at that stage.
   pub base : (t : ℕ) → answer ≡ Settled t → BaseOf (cardOf s) (Stage (cardOf s) t) (λ k. at (rowOf (kindCount s) k after))
+  -- "Other kinds get a row of zeros."
+  pub out : (k : ℕ) → k < kindCount s → ¬ Reached (cardOf s) k → at (rowOf (kindCount s) k after) ≡ none
   -- "A prime kind's row is itself once."
   pub prime : (k : ℕ) → k < kindCount s → (at (rowOf (kindCount s) k after) ≡ unit k) ↔ Prime {ℓ} (cardOf s) k
 
@@ -82,10 +85,10 @@ pub record CompareGames (s : List ℕ) (i j : ℕ) (answer : Verdict) : Type 0 w
   pub same-again : answer ≡ Same → Expands (On (cardOf s)) (Always (cardOf s)) (fieldOf s i) (fieldOf s j)
   -- "They are called different exactly when some choice of challenges, each made in view of the replies so far, parts them whatever the replies,
   -- and then within the number of rounds reported, which is N + 1 + (s - 1)(g + 1), or N + 1 if s is 0: N the smaller of the two norms, s the
-  -- stage reported, never above the number of kinds, g the most that one read adds to a norm."
+  -- stage reported, never above the number of kinds, g the most that one read adds to a norm." The kinds are those that are reached.
   pub parted-different : Parting (cardOf s) (fieldOf s i) (fieldOf s j) → (t : ℕ) × (r : ℕ) × (answer ≡ Different t r)
   pub different-parted : (t r : ℕ) → answer ≡ Different t r → Parting (cardOf s) (fieldOf s i) (fieldOf s j) × Parted (cardOf s) r (fieldOf s i) (fieldOf s j)
-      × (¬ Holds (cardOf s) r (fieldOf s i) (fieldOf s j)) × (t ≤ kindCount s)
+      × (¬ Holds (cardOf s) r (fieldOf s i) (fieldOf s j)) × (t ≤ reachedCount (cardOf s))
       × ((x : ℕ) × (y : ℕ) × (g : ℕ) × IsNorm (cardOf s) (fieldOf s i) x × IsNorm (cardOf s) (fieldOf s j) y × IsGain (cardOf s) g
       × (t ≡ 0 → r ≡ min x y + 1) × (0 < t → r ≡ min x y + 1 + (t - 1) * (g + 1)))
   -- "The stage is the least that does not relate the pair."

@@ -6,7 +6,7 @@ use borrow.Author.Tests.{eq-eqb, ne-eqb}
 use Rattle.model.specs.Field.{at}
 use Rattle.model.specs.Page.{bytes, number, newline, countsOf, itself}
 use Rattle.text.specs.Count.{labelledCounts}
-use Rattle.listing.specs.Line.{headText, rowText, kindText, fieldText}
+use Rattle.listing.specs.Line.{headText, rowText, wordsText, kindText, fieldText}
 
 -- What is appended for the head, for a kind and a field.
 pub head-is : (n s : ℕ) → bytes "kinds " ++ number n ++ (bytes " stages " ++ number s) ++ bytes "\n" ≡ headText n s
@@ -23,9 +23,19 @@ module _ (k : ℕ) (row : List ℕ) where
   unfolding rowText itself
   counts-is e = rw (ne-eqb (at row k) 1 e, rowText) refl
 
-pub kind-is : (k w : ℕ) (row : List ℕ) → bytes "kind " ++ number k ++ (bytes " norm " ++ number w) ++ (bytes " " ++ (rowText k row ++ bytes "\n")) ≡ kindText k w row
-unfolding kindText newline
-kind-is k w row = simp append-assoc
+-- A kind without a norm is out; any other shows its norm and its row.
+module _ (k w : ℕ) (row : List ℕ) where
+  pub out-is : w ≡ 0 → bytes " out" ≡ wordsText k w row
+  unfolding wordsText
+  out-is e = rw (eq-eqb w 0 e, wordsText) refl
+
+  pub words-is : (w ≡ 0 → ⊥) → (bytes " norm " ++ number w) ++ (bytes " " ++ rowText k row) ≡ wordsText k w row
+  unfolding wordsText
+  words-is e = rw (ne-eqb w 0 e, wordsText) (simp append-assoc)
+
+  pub kind-is : (bytes "kind " ++ number k) ++ (wordsText k w row ++ bytes "\n") ≡ kindText k w row
+  unfolding kindText newline
+  kind-is = simp append-assoc
 
 pub field-is : (i : ℕ) (form : List ℕ) → labelledCounts (bytes "field ") i form ≡ fieldText i form
 unfolding fieldText labelledCounts

@@ -6,9 +6,13 @@ use Rattle.text.specs.Lengths.{letters, mostDigits, mostCounts, mostLabelledCou
 abbrev pub mostHead : ℕ
 mostHead = letters "kinds " + mostDigits + letters " stages " + mostDigits + letters "\n"
 
--- `kind K norm W prime` or `kind K norm W = COUNTS`: one number serves both, with room for the word and the counts.
+-- ` norm W prime`, ` norm W = COUNTS` or ` out`: one number serves all three, with room for the words and the counts.
+abbrev pub mostWords : ℕ → ℕ
+mostWords n = letters " norm " + mostDigits + letters " " + letters "prime" + mostCounts n
+
+-- `kind K`, those words, and the end of the line.
 abbrev pub mostKindLine : ℕ → ℕ
-mostKindLine n = letters "kind " + mostDigits + letters " norm " + mostDigits + letters " " + letters "prime" + letters "\n" + mostCounts n
+mostKindLine n = letters "kind " + mostDigits + mostWords n + letters "\n"
 
 -- `field I = COUNTS`.
 abbrev pub mostFieldLine : ℕ → ℕ

@@ -2,6 +2,7 @@
 use mathlib.Core.Bool.{true, false}
 use mathlib.Core.List.{List, _++_}
 use Prim.Native.Nat.{ℕ}
+use lib.Dec.{eqb}
 use Rattle.model.specs.Finite.{concat, listFrom}
 use Rattle.model.specs.Field.{at}
 use Rattle.model.specs.Answer.{rowOf, primeForm}
@@ -15,9 +16,13 @@ headText kinds stage = bytes "kinds " ++ number kinds ++ bytes " stages " ++ num
 unfoldable pub rowText : ℕ → List ℕ → List ℕ
 rowText kind row = elim (itself kind row) [ true ↦ bytes "prime" | false ↦ countsOf row ]
 
--- `kind K norm W prime` or `kind K norm W = COUNTS`.
+-- What a kind's line says after the kind, by a norm that is 0 for a kind that is out: `norm W` and what is shown of its row, or "`kind I out`".
+unfoldable pub wordsText : ℕ → ℕ → List ℕ → List ℕ
+wordsText kind norm row = elim (eqb norm 0) [ true ↦ bytes " out" | false ↦ bytes " norm " ++ number norm ++ bytes " " ++ rowText kind row ]
+
+-- `kind K norm W prime`, `kind K norm W = COUNTS` or `kind K out`.
 unfoldable pub kindText : ℕ → ℕ → List ℕ → List ℕ
-kindText kind norm row = bytes "kind " ++ number kind ++ bytes " norm " ++ number norm ++ bytes " " ++ rowText kind row ++ newline
+kindText kind norm row = bytes "kind " ++ number kind ++ wordsText kind norm row ++ newline
 
 -- `field I = COUNTS`.
 unfoldable pub fieldText : ℕ → List ℕ → List ℕ

@@ -3,6 +3,7 @@ use copies::bits32::widen_u32;
 use text::put_byte;
 use text::put_bytes;
 use text::put_counts;
+use text::put_labelled;
 use text::put_labelled_counts;
 use text::put_two_labelled;
 ghost use Prim.Native.Nat.{_+_, _≤_, _<_};
@@ -10,8 +11,8 @@ ghost use lib.ListN.{length};
 ghost use Rattle.model.specs.Limits.{mostKinds};
 ghost use Rattle.text.specs.Appended.{Appended};
 ghost use Rattle.text.specs.Lengths.{letters, mostCounts};
-ghost use Rattle.listing.specs.Lengths.{mostHead, mostKindLine, mostFieldLine};
-ghost use Rattle.listing.specs.Line.{headText, rowText, kindText, fieldText};
+ghost use Rattle.listing.specs.Lengths.{mostHead, mostWords, mostKindLine, mostFieldLine};
+ghost use Rattle.listing.specs.Line.{headText, rowText, wordsText, kindText, fieldText};
 
 // `kinds N stages S`.
 pub fn put_head(out: &mut [u8], at: usize, kinds: usize, stage: usize) -> usize
@@ -36,15 +37,28 @@ fn put_prime_or_row(out: &mut [u8], at: usize, kind: usize, row: &[u32]) -> usiz
     }
 }
 
-// `kind K norm W prime` or `kind K norm W = COUNTS`.
+// What a kind's line says after the kind: its norm and its row, or that it is out, for a kind without a norm.
+fn put_words(out: &mut [u8], at: usize, kind: usize, norm: u32, row: &[u32]) -> usize
+    requires { ⌜ (kind < length (now row)) × (length (now row) ≤ mostKinds) ⌝ }
+    requires { ⌜ at + mostWords (length (now row)) ≤ length (now out) ⌝ }
+    ensures { λ r. ⌜ Appended (mostWords (length (now (row .entry)))) (now (out .entry)) at (wordsText kind norm (now (row .entry))) (now (out .exit)) r ⌝ }
+{
+    if norm == 0 {
+        return put_bytes(out, at, b" out");
+    }
+    let space = put_labelled(out, at, b" norm ", norm as u64);
+    let shown = put_byte(out, space, b' ');
+    put_prime_or_row(out, shown, kind, row)
+}
+
+// `kind K norm W prime`, `kind K norm W = COUNTS` or `kind K out`.
 pub fn put_kind(out: &mut [u8], at: usize, kind: usize, norm: u32, row: &[u32]) -> usize
     requires { ⌜ (kind < length (now row)) × (length (now row) ≤ mostKinds) ⌝ }
     requires { ⌜ at + mostKindLine (length (now row)) ≤ length (now out) ⌝ }
     ensures { λ r. ⌜ Appended (mostKindLine (length (now (row .entry)))) (now (out .entry)) at (kindText kind norm (now (row .entry))) (now (out .exit)) r ⌝ }
 {
-    let space = put_two_labelled(out, at, b"kind ", kind as u64, b" norm ", norm as u64);
-    let shown = put_byte(out, space, b' ');
-    let last = put_prime_or_row(out, shown, kind, row);
+    let words = put_labelled(out, at, b"kind ", kind as u64);
+    let last = put_words(out, words, kind, norm, row);
     put_byte(out, last, b'\n')
 }
 

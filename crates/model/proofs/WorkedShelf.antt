@@ -5,7 +5,8 @@ use Prim.Native.Nat.{ℕ}
 use native.Mathlib.Decide.{ℕ-discrete}
 use Rattle.model.specs.Finite.{any, all, keep, pick, concat, listFrom, below}
 use Rattle.model.specs.Field.{bit, unit, weigh}
-use Rattle.model.specs.Norm.{ready, best, sweeps, kindNorm}
+use Rattle.model.specs.Card.{reaches, reached, reachedKinds}
+use Rattle.model.specs.Norm.{ready, best, sweeps, cardNorm, kindNorm}
 use Rattle.model.specs.Shelf.{entry, listed, agree, placeOf, shelfNumber, shelfField}
 use Rattle.model.specs.Sheet.{fieldsOffset, totalOf, counts, lineOf, cardOf, fieldOf}
 use Rattle.model.specs.Refusal.{firstOf, headerChecks, lineChecks, normChecks, sheetChecks, shelfNumberChecks, shelfFieldChecks}
@@ -55,6 +56,13 @@ triple =
 abbrev bare : List ℕ
 bare = sheetOf 1 1 [] ((1 ∷ []) ∷ [])
 
+-- 0 a -> 2; 2 a -> none. Three of kind 0 and two of kind 2: kind 1 is out, and kind 0 has the greater norm. And one kind without lines, with an empty field: no kind is reached.
+abbrev partUsed : List ℕ
+partUsed = sheetOf 3 1 ((0 ∷ 0 ∷ 0 ∷ 0 ∷ 1 ∷ []) ∷ (2 ∷ 0 ∷ 0 ∷ 0 ∷ 0 ∷ []) ∷ []) ((3 ∷ 0 ∷ 2 ∷ []) ∷ [])
+
+abbrev unreached : List ℕ
+unreached = sheetOf 1 1 [] ((0 ∷ []) ∷ [])
+
 abbrev three : List ℕ
 three = 9 ∷ 9 ∷ 9 ∷ []
 
@@ -67,6 +75,11 @@ examples =
     ∷ numbered chain 0 1 1 ∷ numbered chain 1 1 2 ∷ numbered page 0 1 1 ∷ numbered page 1 2 0 ∷ numbered triple 0 6 14 ∷ numbered triple 1 16 152
     -- no token: one field; all of one kind: one field
     ∷ numbered single 2 0 0 ∷ found chain 0 0 three (0 ∷ 0 ∷ 0 ∷ []) ∷ unfound chain 0 1 three 15 0 ∷ numbered single 0 16 0 ∷ found single 16 0 (9 ∷ []) (16 ∷ [])
+    -- "over the reached kinds alone, in number order, with k their number and every other count 0" (request 6 of document 02): all fields of two tokens of two out of three kinds; there is no fourth
+    ∷ found partUsed 2 0 three (2 ∷ 0 ∷ 0 ∷ []) ∷ found partUsed 2 1 three (1 ∷ 0 ∷ 1 ∷ []) ∷ found partUsed 2 2 three (0 ∷ 0 ∷ 2 ∷ []) ∷ unfound partUsed 2 3 three 15 0
+    ∷ numbered partUsed 0 5 2
+    -- where no kind is reached there is one field, without tokens
+    ∷ numbered unreached 0 0 0 ∷ found unreached 0 0 (9 ∷ []) (0 ∷ []) ∷ unfound unreached 0 1 (9 ∷ []) 15 0 ∷ unfound unreached 1 0 (9 ∷ []) 15 0
     -- what stands past n counts keeps its value
     ∷ found chain 1 1 (9 ∷ 9 ∷ 9 ∷ 7 ∷ 8 ∷ []) (0 ∷ 1 ∷ 0 ∷ 7 ∷ 8 ∷ [])
     -- 11, 14, 15, 12, each at its limit and far past it, and the first of those that apply
@@ -78,5 +91,5 @@ examples =
     ∷ []
 
 pub shelf-worked : map (λ x. run (x .sheet) (x .call)) examples ≡ map (λ x. x .outcome) examples
-unfolding any all keep pick concat listFrom below bit unit ℕ-discrete weigh ready best sweeps kindNorm entry listed agree placeOf shelfNumber shelfField fieldsOffset totalOf counts lineOf cardOf fieldOf firstOf headerChecks lineChecks normChecks sheetChecks shelfNumberChecks shelfFieldChecks written shelfNumberOf shelfCounts shelfFieldOf
+unfolding any all keep pick concat listFrom below bit unit ℕ-discrete weigh reaches reached reachedKinds ready best sweeps cardNorm kindNorm entry listed agree placeOf shelfNumber shelfField fieldsOffset totalOf counts lineOf cardOf fieldOf firstOf headerChecks lineChecks normChecks sheetChecks shelfNumberChecks shelfFieldChecks written shelfNumberOf shelfCounts shelfFieldOf
 shelf-worked = refl

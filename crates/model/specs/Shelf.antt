@@ -7,7 +7,7 @@ use lib.Dec.{eqb}
 use lib.ListN.{getD}
 use Rattle.model.specs.Finite.{all, concat, below}
 use Rattle.model.specs.Field.{Field, none, _⊕_, times, unit, tokens}
-use Rattle.model.specs.Card.{Card, liveKinds}
+use Rattle.model.specs.Card.{Card, reachedKinds}
 
 -- "how many fields there are: 1 at (0, 0), 0 at (0, t) for t above 0, else the entry for k - 1 and t plus, for t above 0, the entry for k and t - 1."
 unfoldable pub entry : ℕ → ℕ → ℕ
@@ -38,9 +38,9 @@ numberIn ks t a = placeOf (agree ks a) (listed ks t)
 abbrev pub fieldIn : List ℕ → ℕ → ℕ → Field
 fieldIn ks t x = getD (listed ks t) x none
 
--- The kinds of a card that the listing runs over, with the last first: today all. (Request 6 changes `liveKinds`, and so this list alone.)
+-- "Shelf numbers run over the reached kinds alone, in number order" (request 6 of document 02): the kinds of a card that the listing runs over, with the last first.
 abbrev pub lastFirst : Card → List ℕ
-lastFirst c = reverse (liveKinds c)
+lastFirst c = reverse (reachedKinds c)
 
 -- Of a card: its fields of t tokens, the number of a field at its size, and the field of a size and a number.
 abbrev pub shelf : Card → ℕ → List Field

@@ -6,11 +6,12 @@ use native.Mathlib.Decide.{decLt}
 use native.Mathlib.Omega.{arith}
 use lib.ListN.{length}
 use Rattle.model.specs.Field.{Field, weigh, at}
+use Rattle.model.specs.Card.{Reached}
 use Rattle.model.specs.Norm.{kindNorm, norm}
 use Rattle.model.specs.Sheet.{byte, kindCount, lineOf, cardOf}
 use Rattle.model.specs.Limits.{mostKinds, normLimit}
-use Rattle.theory.proofs.Sweeps.{norm-kind}
-use Rattle.theory.proofs.Sheets.{positive}
+use Rattle.theory.proofs.Sheets.{norm-tells, under-kinds}
+use Rattle.theory.proofs.Gain.{sheet-norms}
 use Rattle.theory.proofs.Limits.{limit-of}
 use Rattle.sheet.specs.Reader.{Reads, lineCounts}
 use Rattle.sheet.specs.declared.reader.Card.{Card}
@@ -39,7 +40,7 @@ pub kind-norm-past : {s : List ℕ} {c : Card} (R : Reads s c) (k : ℕ) → c .
 kind-norm-past {s} {c} R k h = go (decLt 0 (kindNorm (cardOf s) k))
   where
     go : Dec (0 < kindNorm (cardOf s) k) → kindNorm (cardOf s) k ≡ 0
-    go (yes p) = absurd (omega (arith, norm-kind (cardOf s) k p, card-kinds R))
+    go (yes p) = absurd (omega (arith, under-kinds s k (sheet-norms s (R .passed) .kinds k p .0), kinds-are R))
     go (no p) = omega arith
 
 -- Of an accepted sheet, its card and its norms.
@@ -52,8 +53,12 @@ module _ {s : List ℕ} {c : Card} {norms : List ℕ} (A : Accepts s c norms) wh
   pub norm-at : (k : ℕ) → at norms k ≡ kindNorm (cardOf s) k
   norm-at k = ap (λ (f : Field). f k) norms-at
 
-  pub norm-positive : (k : ℕ) → k < c .kinds → 0 < at norms k
-  norm-positive k h = omega (arith, norm-at k, positive s (A .accepted) k (omega (arith, kinds-are (A .reads))))
+  -- A kind has a norm in the array just when it is reached.
+  pub norm-positive : (k : ℕ) → Reached (cardOf s) k → 0 < at norms k
+  norm-positive k h = omega (arith, norm-at k, norm-tells s (A .accepted) k .1 h)
+
+  pub norm-reached : (k : ℕ) → 0 < at norms k → Reached (cardOf s) k
+  norm-reached k h = norm-tells s (A .accepted) k .0 (omega (arith, norm-at k))
 
   pub norm-most : (k : ℕ) → at norms k ≤ normLimit
   norm-most k = go (decLt k (kindCount s))

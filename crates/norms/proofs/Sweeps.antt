@@ -18,7 +18,7 @@ use Rattle.sheet.specs.Reader.{Reads}
 use Rattle.sheet.specs.declared.reader.Card.{Card}
 use Rattle.sheet.proofs.Counts.{counts-below, counts-past, at-counts, from-set, counts-none}
 use Rattle.sheet.proofs.Laws.{kinds-are, kinds-most, card-kinds, card-lines}
-use Rattle.norms.specs.Norms.{arrayOf, cutNorms}
+use Rattle.norms.specs.Norms.{arrayOf, cutCardNorms}
 use Rattle.norms.specs.Sweep.{SameBelow, sweepOf}
 use Rattle.weights.specs.Value.{AtMost, readValue, lesserOf}
 use Rattle.norms.proofs.Arrays.{array-at, list-at, list-back}
@@ -135,7 +135,7 @@ module _ {s : List ℕ} {c : Card} (R : Reads s c) where
   pub swept-most : (d : ℕ) → AtMost (suc normLimit) (arrayOf (swept s d))
   swept-most d k = omega (arith, ap (λ (f : Field). f k) (swept-array d), swept-cut d k)
 
-  -- No values at first, a sweep more at each turn, and the norms at the end.
+  -- No values at first, a sweep more at each turn, and the norms of all kinds at the end.
   pub swept-start : replicate mostKinds 0 ≡ arrayOf (swept s 0)
   unfolding cutSweeps listFrom
   swept-start = refl
@@ -144,15 +144,15 @@ module _ {s : List ℕ} {c : Card} (R : Reads s c) where
   unfolding sweepOf cutSweeps cardOf
   swept-next d = rw (swept-array d, add-one d) (ap arrayOf (sym (list-at (kindCount s) (bestCut (kindCount s) (swept s d) (cardOf s .lines)))))
 
-  pub swept-end : (d : ℕ) → d ≡ c .kinds → arrayOf (swept s d) ≡ cutNorms s
-  unfolding cutNorms
+  pub swept-end : (d : ℕ) → d ≡ c .kinds → arrayOf (swept s d) ≡ cutCardNorms s
+  unfolding cutCardNorms
   swept-end d e =
       let z : d ≡ cardOf s .kinds = e ∙ sym (card-kinds R) in
       rw z (ap arrayOf (fun-ext (λ k. cut-norm normLimit (cardOf s) k)))
 
-  -- The norms at once, where one more sweep gives each kind the value that it has.
+  -- The norms of all kinds at once, where one more sweep gives each kind the value that it has.
   pub swept-settled : (d : ℕ) (xs ys : List ℕ) → d ≤ c .kinds → xs ≡ arrayOf (swept s d) → ys ≡ sweepOf s (at xs)
-      → SameBelow (c .kinds) (at xs) (at ys) → xs ≡ cutNorms s
+      → SameBelow (c .kinds) (at xs) (at ys) → xs ≡ cutCardNorms s
   swept-settled d xs ys h e f same =
       e ∙ ap arrayOf (sym (swept-stays s d (c .kinds - d) (fun-ext (λ k. unchanged k (decLt k (c .kinds)))))) ∙ swept-end (c .kinds - d + d) (omega arith)
     where

@@ -1,22 +1,43 @@
-// The norms of the kinds: sweeps, each of which finds every kind's best line by the values of the sweep before, until one changes nothing or there were as many as kinds.
-ghost use mathlib.Core.Bool.{true};
+// The norms of the reached kinds. Sweeps, each of which finds every kind's best line by the values of the sweep before, give the norms of all kinds: until one changes nothing, or there were as many as kinds.
+ghost use mathlib.Core.Bool.{true, false};
 ghost use mathlib.Core.Logic.{_↔_};
 ghost use mathlib.Core.Path.{_≡_};
-ghost use Prim.Native.Nat.{suc, _≤_};
+ghost use Prim.Native.Nat.{ℕ, suc, _≤_};
+ghost use lib.ListN.{getD};
 ghost use Rattle.model.specs.Field.{at};
+ghost use Rattle.model.specs.Card as model;
+ghost use Rattle.model.specs.Sheet.{cardOf};
 ghost use Rattle.model.specs.Limits.{mostKinds, normLimit};
 ghost use Rattle.sheet.specs.Reader.{Reads};
-ghost use Rattle.norms.specs.Norms.{cutNorms};
+ghost use Rattle.norms.specs.Norms.{cutCardNorms, cutNorms};
 ghost use Rattle.norms.specs.Sweep.{SameBelow, sweepOf};
 ghost use Rattle.weights.specs.Value.{AtMost};
 use sheet::Card;
 use weights::value::lesser;
 use weights::value::read_value;
 
-// The norm of every kind, cut one past the limit; 0 for a kind that has none, and past the card's kinds.
-pub fn kind_norms(sheet: &[u8], card: Card) -> [u32; 32]
+// The norm of every reached kind, cut one past the limit; 0 for one that has none, for a kind that is out, and past the card's kinds.
+pub fn kind_norms(sheet: &[u8], card: Card, reached: &[bool; 32]) -> [u32; 32]
     requires { ⌜ Reads (now sheet) card ⌝ }
+    requires { ⌜ ((k : ℕ) → getD (now reached) k false ≡ model.reached (cardOf (now sheet)) k) ⌝ }
     ensures { λ r. ⌜ r ≡ cutNorms (now (sheet .entry)) ⌝ }
+{
+    let values = card_norms(sheet, card);
+    let mut norms = [0u32; 32];
+    let mut kind = 0;
+    while kind < 32 {
+        if reached[kind] {
+            norms[kind] = values[kind];
+        }
+        kind += 1;
+    }
+    norms
+}
+
+// The norm of every kind, reached or not, cut one past the limit; 0 for a kind that has none, and past the card's kinds.
+fn card_norms(sheet: &[u8], card: Card) -> [u32; 32]
+    requires { ⌜ Reads (now sheet) card ⌝ }
+    ensures { λ r. ⌜ r ≡ cutCardNorms (now (sheet .entry)) ⌝ }
 {
     let kinds = card.kinds;
     let mut values = [0u32; 32];

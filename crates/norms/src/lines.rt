@@ -38,7 +38,7 @@ pub fn lowers(sheet: &[u8], card: Card, norms: &[u32; 32], line: usize) -> bool
     left_norm(sheet, card, norms, line) < own_norm(sheet, card, norms, line)
 }
 
-// "g is the greatest of 0 and, over all lines, the norm left minus the kind's norm."
+// "g is the greatest of 0 and, over all lines [of reached kinds], the norm left minus the kind's norm."
 pub fn gain(sheet: &[u8], card: Card, norms: &[u32; 32]) -> u64
     requires { ⌜ Accepts (now sheet) card (now norms) ⌝ }
     ensures { λ r. ⌜ r ≡ base.gain (cardOf (now (sheet .entry))) ⌝ }
@@ -52,7 +52,7 @@ pub fn gain(sheet: &[u8], card: Card, norms: &[u32; 32]) -> u64
     most
 }
 
-// The norm that a line leaves minus its kind's norm, or 0 where it leaves less.
+// The norm that a line leaves minus its kind's norm, or 0 where it leaves less; 0 for a line of a kind that is out, which has no norm here.
 fn line_gain(sheet: &[u8], card: Card, norms: &[u32; 32], line: usize) -> u64
     requires { ⌜ Accepts (now sheet) card (now norms) ⌝ }
     requires { ⌜ line < card .lines ⌝ }
@@ -60,6 +60,9 @@ fn line_gain(sheet: &[u8], card: Card, norms: &[u32; 32], line: usize) -> u64
 {
     let left = left_norm(sheet, card, norms, line);
     let own = own_norm(sheet, card, norms, line);
+    if own == 0 {
+        return 0;
+    }
     if own < left { left - own } else { 0 }
 }
 

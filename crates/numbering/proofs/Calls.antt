@@ -3,15 +3,16 @@ use mathlib.Core.List.{List, [], reverse, List·Memᴰ}
 use mathlib.Core.Path.{_≡_, refl, _∙_, ap}
 use Prim.Native.Nat.{ℕ, _≤_, _<_}
 use lib.ListN.{length, take}
-use Rattle.model.specs.Finite.{listFrom, below}
+use Rattle.model.specs.Finite.{listFrom}
 use Rattle.model.specs.Field.{Field, at, tokens}
+use Rattle.model.specs.Card.{reachedKinds, reachedCount}
 use Rattle.model.specs.Limits.{mostTokens, Limits}
-use Rattle.model.specs.Shelf.{entry, listed, numberIn, fieldIn, shelfNumber, shelfField}
+use Rattle.model.specs.Shelf.{entry, listed, lastFirst, numberIn, fieldIn, shelfNumber, shelfField}
 use Rattle.model.specs.Sheet.{kindCount, fieldCount, cardOf, fieldOf}
 use Rattle.model.specs.Refusal.{refusal, firstOf, acceptChecks, Accepted, shelfNumberChecks, shelfFieldChecks}
 use Rattle.model.specs.Answer.{refused, given, written, shelfNumberOf, shelfCounts, shelfFieldOf}
 use Rattle.theory.proofs.Checks.{first-left, first-right}
-use Rattle.theory.proofs.Sheets.{field-kinds}
+use Rattle.theory.proofs.Sheets.{field-kinds, sheet-clear}
 use Rattle.theory.proofs.Answers.{demand1}
 use Rattle.theory.proofs.Shelves.{shelves}
 use Rattle.theory.proofs.Writing.{first-counts}
@@ -46,7 +47,7 @@ module _ (s : List ℕ) where
             (first-right (acceptChecks s) _ ok ∙ past-passes 11 0 _ i (fieldCount s) h ∙ less-stops 14 0 [] mostTokens (tokens (kindCount s) (fieldOf s i)) l)
 
         number-given : tokens (kindCount s) (fieldOf s i) ≤ mostTokens
-            → shelfNumberOf s i ≡ given (record { size = tokens (kindCount s) (fieldOf s i); number = numberIn (reverse (below (kindCount s))) (tokens (kindCount s) (fieldOf s i)) (fieldOf s i) })
+            → shelfNumberOf s i ≡ given (record { size = tokens (kindCount s) (fieldOf s i); number = numberIn (lastFirst (cardOf s)) (tokens (kindCount s) (fieldOf s i)) (fieldOf s i) })
         unfolding shelfNumber cardOf
         number-given l = demand1 s .numbered i (demand1 s .number-taken i .1 (limits, h, l))
 
@@ -57,36 +58,35 @@ module _ (s : List ℕ) where
       field-over h = demand1 s .shelf-refused t x buffer 14 0 (first-right (acceptChecks s) _ ok ∙ less-stops 14 0 _ mostTokens t h)
 
       module _ (h : t ≤ mostTokens) where
-        pub field-past : entry (kindCount s) t ≤ x → shelfFieldOf s t x buffer ≡ record { answer = refused 15 0; lent = buffer }
-        unfolding Accepted shelfFieldChecks cardOf
+        pub field-past : entry (reachedCount (cardOf s)) t ≤ x → shelfFieldOf s t x buffer ≡ record { answer = refused 15 0; lent = buffer }
+        unfolding Accepted shelfFieldChecks
         field-past l =
             demand1 s .shelf-refused t x buffer 15 0
-            (first-right (acceptChecks s) _ ok ∙ less-passes 14 0 _ mostTokens t h ∙ past-stops 15 0 _ x (entry (kindCount s) t) l)
+            (first-right (acceptChecks s) _ ok ∙ less-passes 14 0 _ mostTokens t h ∙ past-stops 15 0 _ x (entry (reachedCount (cardOf s)) t) l)
 
-        module _ (l : x < entry (kindCount s) t) where
+        module _ (l : x < entry (reachedCount (cardOf s)) t) where
           pub field-short : length buffer < kindCount s → shelfFieldOf s t x buffer ≡ record { answer = refused 12 0; lent = buffer }
-          unfolding Accepted shelfFieldChecks cardOf
+          unfolding Accepted shelfFieldChecks
           field-short m =
               demand1 s .shelf-refused t x buffer 12 0
-              (first-right (acceptChecks s) _ ok ∙ less-passes 14 0 _ mostTokens t h ∙ past-passes 15 0 _ x (entry (kindCount s) t) l ∙ less-stops 12 0 [] (length buffer) (kindCount s) m)
+              (first-right (acceptChecks s) _ ok ∙ less-passes 14 0 _ mostTokens t h ∙ past-passes 15 0 _ x (entry (reachedCount (cardOf s)) t) l ∙ less-stops 12 0 [] (length buffer) (kindCount s) m)
 
           pub field-given : kindCount s ≤ length buffer
-              → shelfFieldOf s t x buffer ≡ record { answer = given tt; lent = written (listFrom (fieldIn (reverse (below (kindCount s))) t x) 0 (kindCount s)) buffer }
-          unfolding shelfCounts shelfField cardOf
+              → shelfFieldOf s t x buffer ≡ record { answer = given tt; lent = written (listFrom (fieldIn (lastFirst (cardOf s)) t x) 0 (kindCount s)) buffer }
+          unfolding shelfCounts shelfField
           field-given m = demand1 s .shelved t x buffer (demand1 s .shelf-taken t x (length buffer) .1 (limits, h, l, m))
 
 -- Field to number, by the list of kinds, the counts and the size that were found.
-module _ (s : List ℕ) (i : ℕ) {n : ℕ} {kinds : List ℕ} {a : Field} {t : ℕ}
-    (many : n ≡ kindCount s) (all : kinds ≡ below n) (counts : a ≡ fieldOf s i) (size : t ≡ tokens (kindCount s) (fieldOf s i)) where
+module _ (s : List ℕ) (ok : Accepted s) (i : ℕ) {kinds : List ℕ} {a : Field} {t : ℕ}
+    (all : kinds ≡ reachedKinds (cardOf s)) (counts : a ≡ fieldOf s i) (size : t ≡ tokens (kindCount s) (fieldOf s i)) where
   -- The field is one of those that are listed.
   pub listed-by : List·Memᴰ a (listed (reverse kinds) t)
   unfolding cardOf
-  listed-by = rw (all, many, counts, size) (shelves (cardOf s) (tokens (kindCount s) (fieldOf s i)) .fields (fieldOf s i) .1 (field-kinds s i, refl))
+  listed-by = rw (all, counts, size) (shelves s (tokens (kindCount s) (fieldOf s i)) .fields (fieldOf s i) .1 (field-kinds s (sheet-clear s ok) i, refl))
 
-  pub number-by : Accepted s → i < fieldCount s → t ≤ mostTokens → {x : ℕ} → x ≡ numberIn (reverse kinds) t a → shelfNumberOf s i ≡ given (record { size = t; number = x })
-  number-by ok h l e = number-given s ok i h (rw size at l) ∙ ap given (rw (e, all, many, counts, size) refl)
+  pub number-by : i < fieldCount s → t ≤ mostTokens → {x : ℕ} → x ≡ numberIn (reverse kinds) t a → shelfNumberOf s i ≡ given (record { size = t; number = x })
+  number-by h l e = number-given s ok i h (rw size at l) ∙ ap given (rw (e, all, counts, size) refl)
 
--- Number to field, by the list of kinds and the counts that were found: the first n of these are stored.
-pub counts-by : (n t x : ℕ) (kinds counts : List ℕ) → kinds ≡ below n → n ≤ length counts → at counts ≡ fieldIn (reverse kinds) t x
-    → take n counts ≡ listFrom (fieldIn (reverse (below n)) t x) 0 n
-counts-by n t x kinds counts all long e = first-counts counts n long ∙ ap (λ (f : Field). listFrom f 0 n) (e ∙ ap (λ (ks : List ℕ). fieldIn (reverse ks) t x) all)
+-- Number to field, by the counts that were found: the first n of these are stored.
+pub counts-by : (n t x : ℕ) (kinds counts : List ℕ) → n ≤ length counts → at counts ≡ fieldIn (reverse kinds) t x → take n counts ≡ listFrom (fieldIn (reverse kinds) t x) 0 n
+counts-by n t x kinds counts long e = first-counts counts n long ∙ ap (λ (f : Field). listFrom f 0 n) e

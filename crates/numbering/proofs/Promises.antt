@@ -8,7 +8,7 @@ use native.Mathlib.Omega.{arith}
 use lib.ListN.{length, take}
 use lib.Seq.{take-at}
 use Rattle.model.specs.Field.{Field, at, tokens}
-use Rattle.model.specs.Card.{liveCount}
+use Rattle.model.specs.Card.{reachedCount}
 use Rattle.model.specs.Limits.{mostTokens, Limits}
 use Rattle.model.specs.Shelf.{entry, lastFirst, shelfNumber, shelfField}
 use Rattle.model.specs.Sheet.{kindCount, fieldCount, cardOf, fieldOf}
@@ -17,7 +17,7 @@ use Rattle.model.specs.Answer.{refused, given, Lent, Shelved, written, shelfNum
 use Rattle.theory.specs.Terms.{OfKinds}
 use Rattle.theory.specs.Shelves.{Precedes}
 use Rattle.theory.proofs.Lists.{getD-past}
-use Rattle.theory.proofs.Sheets.{field-kinds}
+use Rattle.theory.proofs.Sheets.{field-kinds, sheet-clear, under-kinds}
 use Rattle.theory.proofs.Answers.{demand1}
 use Rattle.theory.proofs.Order.{precedes-one}
 use Rattle.theory.proofs.Shelves.{shelves}
@@ -50,9 +50,12 @@ card-kinds : (s : List ℕ) → cardOf s .kinds ≡ kindCount s
 unfolding cardOf
 card-kinds s = refl
 
+limits-accepted : (s : List ℕ) → Limits s → Accepted s
+limits-accepted s = demand1 s .accepted .1
+
 -- A field of the sheet is that of its own number.
-own : (s : List ℕ) (i : ℕ) → shelfField (cardOf s) (tokens (kindCount s) (fieldOf s i)) (shelfNumber (cardOf s) (fieldOf s i)) ≡ fieldOf s i
-own s i = shelves (cardOf s) (tokens (kindCount s) (fieldOf s i)) .field-number (fieldOf s i) (field-kinds s i) (ap (λ n. tokens n (fieldOf s i)) (card-kinds s))
+own : (s : List ℕ) → Accepted s → (i : ℕ) → shelfField (cardOf s) (tokens (kindCount s) (fieldOf s i)) (shelfNumber (cardOf s) (fieldOf s i)) ≡ fieldOf s i
+own s ok i = shelves s (tokens (kindCount s) (fieldOf s i)) .field-number (fieldOf s i) (field-kinds s (sheet-clear s ok) i) (ap (λ n. tokens n (fieldOf s i)) (card-kinds s))
 
 -- Shelf number.
 module _ (s : List ℕ) (i : ℕ) (answer : ShelfNumber) (e : numberAnswer answer ≡ shelfNumberOf s i) where
@@ -83,14 +86,14 @@ module _ (s : List ℕ) (i : ℕ) (answer : ShelfNumber) (e : numberAnswer answe
   taken : (u y : ℕ) → answer ≡ Given u y → Limits s × (i < fieldCount s) × (t ≤ mostTokens)
   taken u y h = demand1 s .number-taken i .0 (number-clear u y h)
 
-  under : x < entry (liveCount (cardOf s)) t
-  under = shelves (cardOf s) t .number-under (fieldOf s i) (field-kinds s i) (ap (λ n. tokens n (fieldOf s i)) (card-kinds s))
+  under : Accepted s → x < entry (reachedCount (cardOf s)) t
+  under ok = shelves s t .number-under (fieldOf s i) (field-kinds s (sheet-clear s ok) i) (ap (λ n. tokens n (fieldOf s i)) (card-kinds s))
 
   number-answers : NumberAnswers s i answer
   number-answers = record {
     answered = ((λ g. taken (g .0) (g .1) (g .2)), (λ l. (t, x, number-given (demand1 s .number-taken i .1 l))));
     refused = number-refused;
-    size = λ u y h. let g = number-is u y h in (g .0, rw (g .0, g .1) under);
+    size = λ u y h. let g = number-is u y h in (g .0, rw (g .0, g .1) (under (limits-accepted s (taken u y h .0))));
   }
 
 -- Shelf field.
@@ -106,14 +109,14 @@ module _ (s : List ℕ) (t x : ℕ) (buffer after : List ℕ) (d : after ≡ she
       none k h = getD-past (shelfField (cardOf s) t x) 0 (kindCount s) k 0 (omega arith)
 
       all : OfKinds (cardOf s) (shelfField (cardOf s) t x)
-      all = shelves (cardOf s) t .used x (demand1 s .shelf-taken t x (length buffer) .0 c .2) .0
+      all = shelves s t .used x (demand1 s .shelf-taken t x (length buffer) .0 c .2) .0
 
       each : (k : ℕ) → Dec (k < kindCount s) → at (shelfCounts s t x) k ≡ shelfField (cardOf s) t x k
       each k (yes h) = demand1 s .shelf-counts t x k h
       each k (no h) = none k h ∙ past k h (decLt 0 (shelfField (cardOf s) t x k))
         where
           past : (k : ℕ) → ¬ (k < kindCount s) → Dec (0 < shelfField (cardOf s) t x k) → 0 ≡ shelfField (cardOf s) t x k
-          past k h (yes l) = absurd (omega (arith, all k l, card-kinds s))
+          past k h (yes l) = absurd (omega (arith, under-kinds s k (all k l)))
           past k h (no l) = omega arith
 
   module _ (answer : ShelfField) (e : fieldAnswer answer ≡ shelfFieldOf s t x buffer .answer) where
@@ -140,8 +143,11 @@ module _ (s : List ℕ) (t x : ℕ) (buffer after : List ℕ) (d : after ≡ she
       unchanged = λ k p h. d ∙ lent-of (demand1 s .shelf-refused t x buffer k p (field-refused k p .0 h));
       used = λ h.
           let b = begins (field-clear h) in
-          let u = shelves (cardOf s) t .used x (demand1 s .shelf-taken t x (length buffer) .0 (field-clear h) .2) in
+          let u = shelves s t .used x (demand1 s .shelf-taken t x (length buffer) .0 (field-clear h) .2) in
           ((λ k l. u .0 k (omega (arith, ap (λ (f : Field). f k) b))), ap (tokens (kindCount s)) b ∙ ap (λ n. tokens n (shelfField (cardOf s) t x)) (sym (card-kinds s)) ∙ u .1);
+      others = λ h k out.
+          let u = shelves s t .others x (demand1 s .shelf-taken t x (length buffer) .0 (field-clear h) .2) k out in
+          ap (λ (f : Field). f k) (begins (field-clear h)) ∙ u;
       past = λ e h. ap (λ (xs : List ℕ). at xs e) d ∙ demand1 s .shelf-past t x buffer e h;
       long = ap length d ∙ demand1 s .shelf-length t x buffer;
     }
@@ -154,7 +160,7 @@ number-field s i t x number buffer field after e f d h l =
     let g = number-is s i number e t x h in
     let w = taken s i number e t x h in
     let c = demand1 s .shelf-taken t x (length buffer) .1 (w .0, rw (g .0) (w .2), number-answers s i number e .size t x h .1, l) in
-    (field-written s t x buffer after d field f c, begins s t x buffer after d c ∙ rw (g .0, g .1) (own s i))
+    (field-written s t x buffer after d field f c, begins s t x buffer after d c ∙ rw (g .0, g .1) (own s (limits-accepted s (w .0)) i))
 
 -- The field found by a size and a number is given these.
 field-number : (s : List ℕ) (i t x : ℕ) (number : ShelfNumber) (buffer : List ℕ) (field : ShelfField) (after : List ℕ)
@@ -164,9 +170,9 @@ field-number s i t x number buffer field after e f d h l m =
     let c = field-clear s t x buffer after d field f h in
     let w = demand1 s .shelf-taken t x (length buffer) .0 c in
     let is : fieldOf s i ≡ shelfField (cardOf s) t x = sym m ∙ begins s t x buffer after d c in
-    let u = shelves (cardOf s) t .used x (w .2) in
+    let u = shelves s t .used x (w .2) in
     let size : tokens (kindCount s) (fieldOf s i) ≡ t = ap (tokens (kindCount s)) is ∙ ap (λ n. tokens n (shelfField (cardOf s) t x)) (sym (card-kinds s)) ∙ u .1 in
-    let same : shelfNumber (cardOf s) (fieldOf s i) ≡ x = ap (shelfNumber (cardOf s)) is ∙ shelves (cardOf s) t .number-field x (w .2) in
+    let same : shelfNumber (cardOf s) (fieldOf s i) ≡ x = ap (shelfNumber (cardOf s)) is ∙ shelves s t .number-field x (w .2) in
     number-given s i number e (demand1 s .number-taken i .1 (w .0, l, rw size (w .1))) ∙ rw (size, same) refl
 
 field-order : (s : List ℕ) (t x y : ℕ) (first second : List ℕ) (before after : ShelfField) (first-after second-after : List ℕ)
@@ -176,24 +182,24 @@ field-order : (s : List ℕ) (t x y : ℕ) (first second : List ℕ) (before aft
 field-order s t x y first second before after first-after second-after e d h f g l m =
     let c = field-clear s t x first first-after d before e h in
     let k = field-clear s t y second second-after g after f l in
-    rw (begins s t x first first-after d c, begins s t y second second-after g k) (shelves (cardOf s) t .order x y m (demand1 s .shelf-taken t y (length second) .0 k .2))
+    rw (begins s t x first first-after d c, begins s t y second second-after g k) (shelves s t .order x y m (demand1 s .shelf-taken t y (length second) .0 k .2))
 
 number-order : (s : List ℕ) (i j t x y : ℕ) (first second : ShelfNumber) → numberAnswer first ≡ shelfNumberOf s i → numberAnswer second ≡ shelfNumberOf s j
     → first ≡ Given t x → second ≡ Given t y → (x < y) ↔ Precedes (lastFirst (cardOf s)) (fieldOf s i) (fieldOf s j)
 number-order s i j t x y first second e f h l = (follows x y a b (under-is i first e x h) (under-is j second f y l), before)
   where
     a : shelfField (cardOf s) t x ≡ fieldOf s i
-    a = let g = number-is s i first e t x h in rw (g .0, g .1) (own s i)
+    a = let g = number-is s i first e t x h in rw (g .0, g .1) (own s (limits-accepted s (taken s i first e t x h .0)) i)
 
     b : shelfField (cardOf s) t y ≡ fieldOf s j
-    b = let g = number-is s j second f t y l in rw (g .0, g .1) (own s j)
+    b = let g = number-is s j second f t y l in rw (g .0, g .1) (own s (limits-accepted s (taken s j second f t y l .0)) j)
 
-    under-is : (k : ℕ) (v : ShelfNumber) → numberAnswer v ≡ shelfNumberOf s k → (z : ℕ) → v ≡ Given t z → z < entry (liveCount (cardOf s)) t
+    under-is : (k : ℕ) (v : ShelfNumber) → numberAnswer v ≡ shelfNumberOf s k → (z : ℕ) → v ≡ Given t z → z < entry (reachedCount (cardOf s)) t
     under-is k v q z m = number-answers s k v q .size t z m .1
 
     follows : (x y : ℕ) {p q : Field} → shelfField (cardOf s) t x ≡ p → shelfField (cardOf s) t y ≡ q
-        → x < entry (liveCount (cardOf s)) t → y < entry (liveCount (cardOf s)) t → x < y → Precedes (lastFirst (cardOf s)) p q
-    follows x y u v m n lt = rw (← u, ← v) (shelves (cardOf s) t .order x y lt n)
+        → x < entry (reachedCount (cardOf s)) t → y < entry (reachedCount (cardOf s)) t → x < y → Precedes (lastFirst (cardOf s)) p q
+    follows x y u v m n lt = rw (← u, ← v) (shelves s t .order x y lt n)
 
     before : Precedes (lastFirst (cardOf s)) (fieldOf s i) (fieldOf s j) → x < y
     before p = go (decLt x y) (decLt y x)
@@ -207,10 +213,10 @@ number-order s i j t x y first second e f h l = (follows x y a b (under-is i fir
             absurd (precedes-one (lastFirst (cardOf s)) (fieldOf s j) (fieldOf s j) (rw same at p) (rw same at p))
 
 every-field : (s : List ℕ) → Accepted s → (t : ℕ) → t ≤ mostTokens → (a : Field) → OfKinds (cardOf s) a → tokens (kindCount s) a ≡ t
-    → (x : ℕ) × (x < entry (liveCount (cardOf s)) t)
+    → (x : ℕ) × (x < entry (reachedCount (cardOf s)) t)
     × ((buffer after : List ℕ) → after ≡ shelfFieldOf s t x buffer .lent → kindCount s ≤ length buffer → at (take (kindCount s) after) ≡ a)
 every-field s ok t h a f e =
-    let S = shelves (cardOf s) t in
+    let S = shelves s t in
     let z : tokens (cardOf s .kinds) a ≡ t = ap (λ n. tokens n a) (card-kinds s) ∙ e in
     let u = S .number-under a f z in (
       shelfNumber (cardOf s) a,

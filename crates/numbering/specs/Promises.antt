@@ -1,11 +1,11 @@
--- What the answers mean: demand 1 and the sentences of document 02 on shelf numbers (request 2), said of the enums that the calls return and of what Shelf field leaves in the lent buffer.
+-- What the answers mean: demand 1 and the sentences of document 02 on shelf numbers (requests 2 and 6), said of the enums that the calls return and of what Shelf field leaves in the lent buffer.
 use mathlib.Core.List.{List}
 use mathlib.Core.Logic.{_↔_}
 use mathlib.Core.Path.{_≡_}
 use Prim.Native.Nat.{ℕ, _≤_, _<_}
 use lib.ListN.{length, take}
 use Rattle.model.specs.Field.{Field, at, tokens}
-use Rattle.model.specs.Card.{liveCount}
+use Rattle.model.specs.Card.{Reached, reachedCount}
 use Rattle.model.specs.Limits.{mostTokens, Limits}
 use Rattle.model.specs.Shelf.{entry, lastFirst}
 use Rattle.model.specs.Sheet.{kindCount, fieldCount, cardOf, fieldOf}
@@ -26,17 +26,19 @@ pub record NumberAnswers (s : List ℕ) (i : ℕ) (answer : ShelfNumber) : Type 
   -- Demand 1: every other input gets the first number that applies in the table.
   pub refused : (k p : ℕ) → (answer ≡ NotNumbered k p) ↔ (firstOf (shelfNumberChecks s i) ≡ refusal k p)
   -- The size is the field's tokens, and the number is under the entry for it.
-  pub size : (t x : ℕ) → answer ≡ Given t x → (t ≡ tokens (kindCount s) (fieldOf s i)) × (x < entry (liveCount (cardOf s)) t)
+  pub size : (t x : ℕ) → answer ≡ Given t x → (t ≡ tokens (kindCount s) (fieldOf s i)) × (x < entry (reachedCount (cardOf s)) t)
 
 -- Shelf field, of the bytes s, a size, a number and a lent buffer: its answer, and the buffer afterwards.
 pub record FieldAnswers (s : List ℕ) (t x : ℕ) (buffer : List ℕ) (answer : ShelfField) (after : List ℕ) : Type 0 where
   -- Demand 1: written just when the sheet is within the written limits, the size is at most 16, the number is under its entry and the buffer has room for n counts.
-  pub answered : (answer ≡ Written) ↔ (Limits s × (t ≤ mostTokens) × (x < entry (liveCount (cardOf s)) t) × (kindCount s ≤ length buffer))
+  pub answered : (answer ≡ Written) ↔ (Limits s × (t ≤ mostTokens) × (x < entry (reachedCount (cardOf s)) t) × (kindCount s ≤ length buffer))
   -- Demand 1: every other input gets the first number that applies in the table, and nothing lent changes.
   pub refused : (k p : ℕ) → (answer ≡ NotFound k p) ↔ (firstOf (shelfFieldChecks s t x (length buffer)) ≡ refusal k p)
   pub unchanged : (k p : ℕ) → answer ≡ NotFound k p → after ≡ buffer
-  -- "every number under the entry is used": the n counts that the buffer then begins with are a field of t tokens of the card's kinds.
+  -- "every number under the entry is used": the n counts that the buffer then begins with are a field of t tokens of the reached kinds.
   pub used : answer ≡ Written → OfKinds (cardOf s) (at (take (kindCount s) after)) × (tokens (kindCount s) (at (take (kindCount s) after)) ≡ t)
+  -- "with k their number and every other count 0": the field has no token of a kind that is out.
+  pub others : answer ≡ Written → (k : ℕ) → ¬ Reached (cardOf s) k → at (take (kindCount s) after) k ≡ 0
   -- "Bytes of a lent buffer past those named keep their values."
   pub past : (e : ℕ) → kindCount s ≤ e → at after e ≡ at buffer e
   pub long : length after ≡ length buffer
@@ -61,7 +63,7 @@ pub record Promises : Type 0 where
       → x < y → Precedes (lastFirst (cardOf s)) (at (take (kindCount s) first-after)) (at (take (kindCount s) second-after))
   pub number-order : (s : List ℕ) (i j t x y : ℕ) (first second : ShelfNumber) → numberAnswer first ≡ shelfNumberOf s i → numberAnswer second ≡ shelfNumberOf s j
       → first ≡ Given t x → second ≡ Given t y → (x < y) ↔ Precedes (lastFirst (cardOf s)) (fieldOf s i) (fieldOf s j)
-  -- "how many fields there are": every field of t tokens of the card's kinds is found by a number under the entry.
+  -- "how many fields there are": every field of t tokens of the reached kinds is found by a number under the entry.
   pub every-field : (s : List ℕ) → Accepted s → (t : ℕ) → t ≤ mostTokens → (a : Field) → OfKinds (cardOf s) a → tokens (kindCount s) a ≡ t
-      → (x : ℕ) × (x < entry (liveCount (cardOf s)) t)
+      → (x : ℕ) × (x < entry (reachedCount (cardOf s)) t)
       × ((buffer after : List ℕ) → after ≡ shelfFieldOf s t x buffer .lent → kindCount s ≤ length buffer → at (take (kindCount s) after) ≡ a)

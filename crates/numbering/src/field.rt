@@ -3,10 +3,11 @@ ghost use mathlib.Core.List.{reverse};
 ghost use mathlib.Core.Path.{_≡_};
 ghost use Prim.Native.Nat.{_≤_, _<_};
 ghost use lib.ListN.{length};
-ghost use Rattle.model.specs.Finite.{listFrom, below};
+ghost use Rattle.model.specs.Finite.{listFrom};
 ghost use Rattle.model.specs.Limits.{mostKinds, mostTokens};
 ghost use Rattle.model.specs.Shelf.{entry, fieldIn};
 ghost use Rattle.model.specs.Answer.{written, shelfFieldOf};
+ghost use Rattle.shelf.specs.Kinds.{InOrder};
 ghost use Rattle.numbering.specs.Answers.{fieldAnswer};
 use crate::answers::ShelfField;
 use crate::kinds::listed_kinds;
@@ -24,17 +25,21 @@ pub fn shelf_field(sheet: &[u8], size: usize, number: u64, buffer: &mut [u16]) -
 {
     let acceptance = accept(sheet);
     let checked = acceptance.checked;
+    let norms = acceptance.norms;
     match checked {
         Checked::Refused { number, place } => ShelfField::Refused { number, place },
         Checked::Passed(card) => {
             let n = card.kinds;
+            let listed = listed_kinds(n, &norms);
+            let count = listed.count;
+            let kinds = listed.kinds;
             if TOKENS < size {
                 return ShelfField::Refused {
                     number: 14,
                     place: 0,
                 };
             }
-            if entry_of(n, size) <= number {
+            if entry_of(count, size) <= number {
                 return ShelfField::Refused {
                     number: 15,
                     place: 0,
@@ -46,20 +51,20 @@ pub fn shelf_field(sheet: &[u8], size: usize, number: u64, buffer: &mut [u16]) -
                     place: 0,
                 };
             }
-            write_field(n, size, number, buffer);
+            write_field(&kinds[..count], n, size, number, buffer);
             ShelfField::Written
         }
     }
 }
 
-// The field of a number among those of a size of so many kinds, to the front of the buffer.
-fn write_field(kinds: usize, size: usize, number: u64, buffer: &mut [u16])
-    requires { ⌜ (kinds ≤ mostKinds) × (size ≤ mostTokens) ⌝ }
-    requires { ⌜ number < entry kinds size ⌝ }
-    requires { ⌜ kinds ≤ length (now buffer) ⌝ }
-    ensures { λ _. ⌜ now (buffer .exit) ≡ written (listFrom (fieldIn (reverse (below kinds)) size number) 0 kinds) (now (buffer .entry)) ⌝ }
+// The field of a number among those of a size, over kinds in number order, to the front of the buffer as so many counts.
+fn write_field(kinds: &[usize], counts: usize, size: usize, number: u64, buffer: &mut [u16])
+    requires { ⌜ InOrder (now kinds) ⌝ }
+    requires { ⌜ (counts ≤ mostKinds) × (size ≤ mostTokens) ⌝ }
+    requires { ⌜ number < entry (length (now kinds)) size ⌝ }
+    requires { ⌜ counts ≤ length (now buffer) ⌝ }
+    ensures { λ _. ⌜ now (buffer .exit) ≡ written (listFrom (fieldIn (reverse (now (kinds .entry))) size number) 0 counts) (now (buffer .entry)) ⌝ }
 {
-    let listed = listed_kinds(kinds);
-    let counts = field_of(&listed[..kinds], size, number);
-    write_u16(&counts[..kinds], buffer);
+    let field = field_of(kinds, size, number);
+    write_u16(&field[..counts], buffer);
 }

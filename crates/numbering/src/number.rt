@@ -1,8 +1,7 @@
 // Shelf number: "field to number".
 ghost use mathlib.Core.Path.{_≡_};
-ghost use Rattle.model.specs.Refusal.{Accepted};
 ghost use Rattle.model.specs.Answer.{shelfNumberOf};
-ghost use Rattle.sheet.specs.Reader.{Reads};
+ghost use Rattle.norms.specs.Norms.{Accepts};
 ghost use Rattle.numbering.specs.Answers.{numberAnswer};
 use crate::answers::ShelfNumber;
 use crate::kinds::listed_kinds;
@@ -21,15 +20,16 @@ pub fn shelf_number(sheet: &[u8], field: usize) -> ShelfNumber
 {
     let acceptance = accept(sheet);
     let checked = acceptance.checked;
+    let norms = acceptance.norms;
     match checked {
         Checked::Refused { number, place } => ShelfNumber::Refused { number, place },
-        Checked::Passed(card) => number_accepted(sheet, card, field),
+        Checked::Passed(card) => number_accepted(sheet, card, &norms, field),
     }
 }
 
-// Shelf number, of a sheet that was accepted.
-fn number_accepted(sheet: &[u8], card: Card, field: usize) -> ShelfNumber
-    requires { ⌜ Reads (now sheet) card × Accepted (now sheet) ⌝ }
+// Shelf number, of a sheet that was accepted, by its norms.
+fn number_accepted(sheet: &[u8], card: Card, norms: &[u32; 32], field: usize) -> ShelfNumber
+    requires { ⌜ Accepts (now sheet) card (now norms) ⌝ }
     ensures { λ r. ⌜ numberAnswer r ≡ shelfNumberOf (now (sheet .entry)) field ⌝ }
 {
     let n = card.kinds;
@@ -48,7 +48,9 @@ fn number_accepted(sheet: &[u8], card: Card, field: usize) -> ShelfNumber
             place: 0,
         };
     }
-    let kinds = listed_kinds(n);
-    let number = number_of(&kinds[..n], &counts, size);
+    let listed = listed_kinds(n, norms);
+    let count = listed.count;
+    let kinds = listed.kinds;
+    let number = number_of(&kinds[..count], &counts, size);
     ShelfNumber::Given { size, number }
 }

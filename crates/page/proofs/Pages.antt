@@ -1,14 +1,17 @@
 -- What a settled sheet gives for the page's lines, and what the page function answers.
+use mathlib.Core.Bool.{Bool, true, false, not}
 use mathlib.Core.List.{List, [], _++_}
 use mathlib.Core.Path.{_≡_, refl, sym, _∙_, ap}
 use Prim.Native.Nat.{ℕ, _+_, _-_, _*_, _≤_, _<_}
 use native.Mathlib.Decide.{decLt}
 use native.Mathlib.Omega.{arith}
-use borrow.Author.Tests.{lt-ltb, le-ltb}
+use borrow.Author.Tests.{lt-ltb, le-ltb, eq-eqb, ne-eqb}
+use lib.Dec.{eqb}
 use lib.ListN.{length, take, drop, length-drop}
 use lib.Seq.{take-at, length-take-le}
 use Rattle.model.specs.Finite.{concat, listFrom}
 use Rattle.model.specs.Field.{at}
+use Rattle.model.specs.Card as model
 use Rattle.model.specs.Norm.{kindNorm}
 use Rattle.model.specs.Base.{settledStage, settledForm}
 use Rattle.model.specs.Limits.{mostInput}
@@ -17,6 +20,8 @@ use Rattle.model.specs.Refusal.{Accepted}
 use Rattle.model.specs.Answer.{refused, given, written, rowOf, formOf, tableOf, primeForm}
 use Rattle.model.specs.Page.{refusedLine, lines, pageOf, printed}
 use Rattle.theory.proofs.Lists.{length-from}
+use Rattle.theory.proofs.Exec.{Tells}
+use Rattle.theory.proofs.Sheets.{tells-reached, norm-tells}
 use Rattle.theory.proofs.Answers.{demand1}
 use Rattle.sheet.specs.declared.reader.Card.{Card}
 use Rattle.validation.specs.declared.checks.Checked.the-variants.{Refused}
@@ -61,6 +66,21 @@ module _ {s : List ℕ} {c : Card} {norms : List ℕ} (A : Accepts s c norms) wh
   pub table-part : (rows table : List ℕ) → BaseAt s (settledStage (cardOf s)) rows → take (c .kinds * c .kinds) table ≡ tableIn (c .kinds) rows → take (c .kinds * c .kinds) table ≡ tableOf s
   table-part rows table B e = e ∙ ap (λ (m : ℕ). tableIn m rows) (kinds-are (A .reads)) ∙ table-is s (A .accepted) rows B
 
+  -- A kind has norm 0 just when it is out.
+  out-norm : (k : ℕ) → eqb (kindNorm (cardOf s) k) 0 ≡ not (model.reached (cardOf s) k)
+  out-norm k = go (model.reached (cardOf s) k) (tells-reached s (A .accepted) k)
+    where
+      w : ℕ
+      w = kindNorm (cardOf s) k
+
+      go : (b : Bool) → Tells b (model.Reached (cardOf s) k) → eqb w 0 ≡ not b
+      go true t = ne-eqb w 0 (λ e. omega (arith, norm-tells s (A .accepted) k .1 (t .fact tt)))
+      go false t = eq-eqb w 0 (none (decLt 0 w))
+        where
+          none : Dec (0 < w) → w ≡ 0
+          none (yes h) = absurd (t .test (norm-tells s (A .accepted) k .0 h))
+          none (no h) = omega arith
+
   -- The texts that make up the lines.
   texts : (n f stage : ℕ) (w : ℕ → ℕ) (table : List ℕ) → List ℕ
   texts n f stage w table =
@@ -75,7 +95,7 @@ module _ {s : List ℕ} {c : Card} {norms : List ℕ} (A : Accepts s c norms) wh
       ∙ ap (λ (q : ℕ). texts (kindCount s) (fieldCount s) q (at norms) table) e
       ∙ ap (λ (w : ℕ → ℕ). texts (kindCount s) (fieldCount s) (settledStage (cardOf s)) w table) (norms-at A)
       ∙ ap (λ (xs : List ℕ). texts (kindCount s) (fieldCount s) (settledStage (cardOf s)) (kindNorm (cardOf s)) xs) t
-      ∙ sym (lines-are s (tableOf s) (kindNorm (cardOf s)))
+      ∙ sym (lines-are s (tableOf s) (kindNorm (cardOf s)) out-norm)
 
   -- The page of an accepted sheet is its lines.
   pub page-lines : lines s (tableOf s) (kindNorm (cardOf s)) ≡ pageOf s

@@ -1,4 +1,5 @@
-// The filer's verdicts and prime forms against a second, slow player of the round game: on the stored sheets, and on random small ones.
+// The filer's verdicts and prime forms against a second, slow player of the round game: on the stored sheets, and on random small ones. Of a random sheet
+// the reached part is played.
 use crate::stored::read_stored;
 use filer::Verdict;
 use filer::compare::compare_settled;
@@ -13,9 +14,11 @@ use validation::checks::Checked;
 ghost use Prim.Native.Nat.{_≤_};
 ghost use Rattle.filer.specs.Settlement.{IsSettlement};
 
-// The sheets so far: how many were settled and how many refused, and what was played on those settled.
+// The sheets so far: how many were settled, and how many of those are part-used, with a kind that is not reached; how many were refused; and what was
+// played on those settled.
 struct Count {
     settled: u64,
+    part: u64,
     refused: u64,
     tally: Tally,
 }
@@ -25,6 +28,7 @@ impl Count {
         let tally = Tally::new();
         Count {
             settled: 0,
+            part: 0,
             refused: 0,
             tally,
         }
@@ -45,8 +49,14 @@ const BUDGET: usize = 300_000;
 
 const ROUNDS: u64 = 5;
 
-// Field 0 against a later field: the verdict and the prime forms against what was played.
-fn with_pair(sheet: &[u8], settlement: Settlement, later: usize, tally: Tally) -> Tally
+// Field 0 against a later field: the verdict and the prime forms against what was played, on the sheet `played`.
+fn with_pair(
+    sheet: &[u8],
+    played: &[u8],
+    settlement: Settlement,
+    later: usize,
+    tally: Tally,
+) -> Tally
     requires { ⌜ IsSettlement (now sheet) settlement ⌝ }
 {
     let settled = settlement.settled;
@@ -59,11 +69,11 @@ fn with_pair(sheet: &[u8], settlement: Settlement, later: usize, tally: Tally) -
     let unlike = tally::look_unlike(sheet, 0, later);
     match compare_settled(sheet, settlement, 0, later) {
         Verdict::Same => {
-            let tried = test_player::parting(sheet, ROUNDS, 0, later, BUDGET);
+            let tried = test_player::parting(played, ROUNDS, 0, later, BUDGET);
             tally.with_pair(Called::Same, last, equal, unlike, tried)
         }
         Verdict::Different { stage, rounds } => {
-            let tried = test_player::parting(sheet, rounds, 0, later, BUDGET);
+            let tried = test_player::parting(played, rounds, 0, later, BUDGET);
             tally.with_pair(
                 Called::Different { stage, rounds },
                 last,
@@ -80,20 +90,26 @@ fn with_pair(sheet: &[u8], settlement: Settlement, later: usize, tally: Tally) -
 }
 
 // Field 0 against each later field.
-fn with_pairs(sheet: &[u8], settlement: Settlement, fields: usize, tally: Tally) -> Tally
+fn with_pairs(
+    sheet: &[u8],
+    played: &[u8],
+    settlement: Settlement,
+    fields: usize,
+    tally: Tally,
+) -> Tally
     requires { ⌜ IsSettlement (now sheet) settlement ⌝ }
 {
     let mut next = tally;
     let mut later = 1;
     while later < fields {
-        next = with_pair(sheet, settlement, later, next);
+        next = with_pair(sheet, played, settlement, later, next);
         later += 1;
     }
     next
 }
 
-// One sheet more.
-fn with_sheet(sheet: &[u8], count: Count) -> Count {
+// One sheet more, and the sheet that is played for it.
+fn with_sheet(sheet: &[u8], played: &[u8], count: Count) -> Count {
     let settlement = settle_once(sheet);
     let checked = settlement.checked;
     let before = count.tally;
@@ -103,18 +119,30 @@ fn with_sheet(sheet: &[u8], count: Count) -> Count {
             place: _,
         } => Count {
             settled: count.settled,
+            part: count.part,
             refused: one_more(count.refused),
             tally: before,
         },
         Checked::Passed(card) => {
-            let tally = with_pairs(sheet, settlement, card.fields, before);
+            let tally = with_pairs(sheet, played, settlement, card.fields, before);
+            let part = if reached_part::part_used(sheet) {
+                one_more(count.part)
+            } else {
+                count.part
+            };
             Count {
                 settled: one_more(count.settled),
+                part,
                 refused: count.refused,
                 tally,
             }
         }
     }
+}
+
+// A stored sheet, played as it is.
+fn with_stored(sheet: &[u8], count: Count) -> Count {
+    with_sheet(sheet, sheet, count)
 }
 
 // The sheet that argument i names.
@@ -123,7 +151,7 @@ fn with_argument(argument: usize, count: Count) -> Count {
     let length = os::arg(argument, &mut name);
     let mut sheet = [0u8; 12821];
     let bytes = read_stored(&name[..length], b".sheet", &mut sheet);
-    with_sheet(&sheet[..bytes], count)
+    with_stored(&sheet[..bytes], count)
 }
 
 // The stored sheets.
@@ -149,14 +177,28 @@ fn with_seed(seed: u64, count: Count) -> Count {
 fn with_front(sheet: [u8; 128], bytes: usize, count: Count) -> Count
     requires { ⌜ bytes ≤ 100 ⌝ }
 {
-    with_sheet(&sheet[..bytes], count)
+    with_random(&sheet[..bytes], count)
+}
+
+// A random sheet, of which the reached part is played.
+fn with_random(sheet: &[u8], count: Count) -> Count {
+    let mut part = [0u8; 128];
+    let bytes = reached_part::reached_part(sheet, &mut part);
+    with_part(sheet, part, bytes, count)
+}
+
+// The reached part at the front of an array.
+fn with_part(sheet: &[u8], part: [u8; 128], bytes: usize, count: Count) -> Count
+    requires { ⌜ bytes ≤ 128 ⌝ }
+{
+    with_sheet(sheet, &part[..bytes], count)
 }
 
 // Random small sheets, of the seeds from 0 up.
 pub fn play_random() {
     let mut count = Count::new();
     let mut seed = 0;
-    while seed < 5500 {
+    while seed < 8000 {
         count = with_seed(seed, count);
         seed += 1;
     }
@@ -173,6 +215,7 @@ fn print(name: &[u8], number: u64) {
 fn print_count(title: &[u8], count: Count) {
     io::write_all(STDOUT_FILENO, title);
     print(b": settled ", count.settled);
+    print(b", of which part-used ", count.part);
     print(b", refused ", count.refused);
     io::write_all(STDOUT_FILENO, b"\n");
     print_tally(count.tally);

@@ -6,10 +6,11 @@ use Prim.Native.String.{String}
 use native.Mathlib.Decide.{ℕ-discrete}
 use Rattle.model.specs.Finite.{any, all, keep, pick, concat, listFrom, below, leastFrom, greatestTo}
 use Rattle.model.specs.Field.{bit, unit, weigh}
-use Rattle.model.specs.Norm.{ready, best, sweeps, kindNorm, gainOf}
+use Rattle.model.specs.Card.{reaches, reached, reachedKinds, reachedLines}
+use Rattle.model.specs.Norm.{ready, best, sweeps, cardNorm, kindNorm, gainOf}
 use Rattle.model.specs.Expansion.{simulates, expands}
 use Rattle.model.specs.Stage.{lowering, equalNorm, falling, refined, stageFrom, stage}
-use Rattle.model.specs.Base.{fieldsOfNorm, earlier, atom, row, passes, firstSettled, formAt, partingStage, roundsFor, roundsAt}
+use Rattle.model.specs.Base.{fieldsOfNorm, earlier, earlierThan, atom, row, passes, firstSettled, formAt, partingStage, roundsFor, roundsAt}
 use Rattle.model.specs.Walk.{tryReplies, tryChallenges, examine, walk}
 use Rattle.model.specs.Shelf.{entry, listed, agree, placeOf, shelfNumber, shelfField}
 use Rattle.model.specs.Squads.{goesIn, timesIn, remainder}
@@ -51,6 +52,10 @@ asks s words outcome text = record { sheet = s; words = words; told = record { o
 abbrev pub crowded : List ℕ
 crowded = sheetOf 1 1 ((0 ∷ 0 ∷ 0 ∷ []) ∷ []) ((17 ∷ []) ∷ (16 ∷ []) ∷ (0 ∷ []) ∷ [])
 
+-- Two kinds, of which the first has no lines and is out: 1 a -> none, and a field of one token of kind 1.
+abbrev pub partUsed : List ℕ
+partUsed = sheetOf 2 1 ((1 ∷ 0 ∷ 0 ∷ 0 ∷ []) ∷ []) ((0 ∷ 1 ∷ []) ∷ [])
+
 abbrev pub examples : List Example
 examples =
     asks page ("settle" ∷ []) Answered "stages 1\n1 0\n2 0\n"
@@ -80,6 +85,11 @@ examples =
     ∷ asks crowded ("squads" ∷ "1" ∷ "0" ∷ []) Answered "squads 0 = 16\n"
     ∷ asks crowded ("squads" ∷ "0" ∷ "2" ∷ []) (Refused 17 1) "refused 17 1\n"
     ∷ asks crowded ("squads" ∷ "0" ∷ "3" ∷ []) (Refused 11 1) "refused 11 1\n"
+    ∷ asks partUsed ("settle" ∷ []) Answered "stages 1\n0 0\n0 1\n"
+    ∷ asks partUsed ("row" ∷ "0" ∷ []) Answered "0 0\n"
+    ∷ asks partUsed ("number" ∷ "0" ∷ []) Answered "size 1 number 0\n"
+    ∷ asks partUsed ("field" ∷ "1" ∷ "0" ∷ []) Answered "0 1\n"
+    ∷ asks partUsed ("field" ∷ "1" ∷ "1" ∷ []) (Refused 15 0) "refused 15 0\n"
     ∷ asks [] ("settle" ∷ []) (Refused 1 0) "refused 1 0\n"
     ∷ asks [] ("walk" ∷ "0" ∷ "0" ∷ "0" ∷ "4294967296" ∷ []) NoCall ""
     ∷ asks [] ("walk" ∷ "0" ∷ "0" ∷ "0" ∷ []) NoCall ""
@@ -101,5 +111,5 @@ examples =
     ∷ []
 
 pub worked : map (λ (x : Example). queryOf (x .sheet) (ended (map bytes (x .words)))) examples ≡ map (λ (x : Example). x .told) examples
-unfolding any all keep pick concat listFrom below leastFrom greatestTo bit unit ℕ-discrete weigh ready best sweeps kindNorm gainOf simulates expands lowering equalNorm falling refined stageFrom stage fieldsOfNorm earlier atom row passes firstSettled formAt partingStage roundsFor roundsAt tryReplies tryChallenges examine walk entry listed agree placeOf shelfNumber shelfField goesIn timesIn remainder fieldsOffset totalOf counts lineOf cardOf fieldOf firstOf headerChecks lineChecks normChecks sheetChecks settleChecks compareChecks formChecks walkChecks rowChecks shelfNumberChecks shelfFieldChecks squadsChecks bytes digits number newline countsOf wordOf refusedLine written tableOf settleOf verdict compareOf primeForm formOf within fullWalk walkOf rowOf rowCheckOf shelfNumberOf shelfCounts shelfFieldOf squadCount remainderForm squadsOf countText countTexts countsLine drawnText foundText digitOf valueFrom some numberOf firstWord startedBy wordsOf sameWord saidAfter numbersOf ended told noCall withNone withOne withTwo withFourOrFive worded tableRoom formRoom shelfRoom stagesLine rowLines settleText rowIn rowAfter rowText verdictText compareText lentText countsText formText givenTo walkText shelvedLine shelvedText numberText fieldText remainderRoom squadsLine squadsText settleTold rowTold compareTold formTold allowanceTold walkTold numberTold fieldTold squadsTold verbs verbIn verbOf verbTold saidTold wordsTold queryOf
+unfolding any all keep pick concat listFrom below leastFrom greatestTo bit unit ℕ-discrete weigh reaches reached reachedKinds reachedLines ready best sweeps cardNorm kindNorm gainOf simulates expands lowering equalNorm falling refined stageFrom stage fieldsOfNorm earlier earlierThan atom row passes firstSettled formAt partingStage roundsFor roundsAt tryReplies tryChallenges examine walk entry listed agree placeOf shelfNumber shelfField goesIn timesIn remainder fieldsOffset totalOf counts lineOf cardOf fieldOf firstOf headerChecks lineChecks normChecks sheetChecks settleChecks compareChecks formChecks walkChecks rowChecks shelfNumberChecks shelfFieldChecks squadsChecks bytes digits number newline countsOf wordOf refusedLine written tableOf settleOf verdict compareOf primeForm formOf within fullWalk walkOf rowOf rowCheckOf shelfNumberOf shelfCounts shelfFieldOf squadCount remainderForm squadsOf countText countTexts countsLine drawnText foundText digitOf valueFrom some numberOf firstWord startedBy wordsOf sameWord saidAfter numbersOf ended told noCall withNone withOne withTwo withFourOrFive worded tableRoom formRoom shelfRoom stagesLine rowLines settleText rowIn rowAfter rowText verdictText compareText lentText countsText formText givenTo walkText shelvedLine shelvedText numberText fieldText remainderRoom squadsLine squadsText settleTold rowTold compareTold formTold allowanceTold walkTold numberTold fieldTold squadsTold verbs verbIn verbOf verbTold saidTold wordsTold queryOf
 worked = refl

@@ -8,3 +8,4 @@ pub record Small (c : Shape) : Type 0 where
   pub lines : c .lines ≤ 8
   pub fields : c .fields ≤ 4
   pub shift : c .shift < c .kinds
+  pub held : (1 ≤ c .held) × (c .held ≤ c .kinds)

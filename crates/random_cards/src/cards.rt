@@ -1,15 +1,20 @@
 // Random small cards, written as sheets (docs/SHEET.md): 1 to 4 kinds, 1 to 3 codes, at most 8 lines, 2 to 4 fields. Most cards have a
 // norm for each kind: line k clears kind k, leaving tokens of lower kinds only. Most fields differ from field 0 in one token, for which stands
-// another token, or what clearing it leaves and one token of kind 0, so that many pairs have equal norms.
+// another token, or what clearing it leaves and one token of kind 0, so that many pairs have equal norms. On a third of the cards with several
+// kinds no field has a token of the last kinds, and no line is there to clear these: most of them are out, and may have no norm; some are reached by
+// a line.
 use crate::random::pick;
 use crate::random::pick_high;
 use crate::random::reduce;
+use crate::writing::put;
+use crate::writing::put_header;
+use crate::writing::put_number;
 ghost use Prim.Native.Nat.{_≤_, _<_};
 ghost use Rattle.random_cards.specs.Shapes.{Small};
 
 // The numbers of a card. Kind k has the number (k + shift) % kinds on the sheet. The lines that clear a kind leave nothing on a `flat` card. On
 // a `chain` the others leave, from kind 1 up, one token of the kind below, so that its kinds part at stages 2, 3, 4. On a `loose` card no line
-// is there to clear a kind.
+// is there to clear a kind. Fields have tokens of the first kinds alone, so many as `held`.
 struct Shape {
     seed: u64,
     kinds: usize,
@@ -17,9 +22,21 @@ struct Shape {
     lines: usize,
     fields: usize,
     shift: usize,
+    held: usize,
     flat: bool,
     chain: bool,
     loose: bool,
+}
+
+// How many of the kinds the fields may have: mostly all.
+fn held_of(seed: u64, kinds: usize) -> usize
+    requires { ⌜ 1 ≤ kinds ⌝ }
+    ensures { λ r. ⌜ (1 ≤ r) × (r ≤ kinds) ⌝ }
+{
+    if kinds == 1 || pick(seed, 6, 3) != 0 {
+        return kinds;
+    }
+    1 + pick_high(seed, 7, kinds - 1)
 }
 
 // The numbers that a seed gives.
@@ -35,6 +52,7 @@ fn shape_of(seed: u64) -> Shape
         lines: kinds + pick(seed, 3, 5),
         fields: 2 + pick(seed, 4, 3),
         shift: pick(seed, 5, kinds),
+        held: held_of(seed, kinds),
         flat: manner < 8,
         chain: manner < 4,
         loose: manner == 15,
@@ -49,11 +67,11 @@ fn kind_of(shape: Shape, line: usize) -> usize
     if shape.loose {
         return pick(shape.seed, 10 + line, shape.kinds);
     }
-    if line < shape.kinds {
+    if line < shape.held {
         return line;
     }
     if shape.chain {
-        return reduce(line + 1 - shape.kinds, shape.kinds);
+        return reduce(line + 1 - shape.held, shape.kinds);
     }
     pick(shape.seed, 10 + line, shape.kinds)
 }
@@ -66,7 +84,7 @@ fn code_of(shape: Shape, line: usize) -> usize
     if pick(shape.seed, 20 + line, 4) == 0 {
         return pick(shape.seed, 30 + line, shape.codes);
     }
-    if line < shape.kinds {
+    if line < shape.held {
         return 0;
     }
     if shape.chain {
@@ -90,6 +108,20 @@ fn token(shape: Shape, place: usize, limit: usize) -> usize
     one_of(pick(shape.seed, place, limit), 0)
 }
 
+// Of how many lines one leaves a token of a kind. A kind that fields do not have is mostly left by lines of such kinds, and so is rarely reached.
+fn one_in(shape: Shape, line: usize, kind: usize) -> usize
+    requires { ⌜ Small shape × (line < 8) ⌝ }
+    ensures { λ r. ⌜ 0 < r ⌝ }
+{
+    if kind < shape.held {
+        return 3;
+    }
+    if shape.held <= kind_of(shape, line) {
+        return 2;
+    }
+    9
+}
+
 // How many tokens of a kind a line leaves.
 fn left_by(shape: Shape, line: usize, kind: usize) -> usize
     requires { ⌜ Small shape × (line < 8) × (kind < 4) ⌝ }
@@ -97,13 +129,13 @@ fn left_by(shape: Shape, line: usize, kind: usize) -> usize
 {
     let place = 40 + line * 4 + kind;
     if shape.loose {
-        return token(shape, place, 3);
+        return token(shape, place, one_in(shape, line, kind));
     }
-    if shape.kinds <= line {
+    if shape.held <= line {
         if shape.chain {
-            return one_of(reduce(line - shape.kinds, shape.kinds), kind);
+            return one_of(reduce(line - shape.held, shape.kinds), kind);
         }
-        return token(shape, place, 3);
+        return token(shape, place, one_in(shape, line, kind));
     }
     if shape.flat || line <= kind {
         return 0;
@@ -116,8 +148,11 @@ fn tokens_of(shape: Shape, field: usize, kind: usize) -> usize
     requires { ⌜ Small shape × (field < 4) × (kind < 4) ⌝ }
     ensures { λ r. ⌜ r ≤ 3 ⌝ }
 {
+    if shape.held <= kind {
+        return 0;
+    }
     let shared = token(shape, 80 + kind, 4);
-    let x = pick_high(shape.seed, 90, shape.kinds);
+    let x = pick_high(shape.seed, 90, shape.held);
     if field == 0 {
         return shared + one_of(x, kind);
     }
@@ -126,24 +161,9 @@ fn tokens_of(shape: Shape, field: usize, kind: usize) -> usize
         return shared + left_by(shape, x, kind) + one_of(0, kind);
     }
     if way < 6 {
-        return shared + one_of(pick(shape.seed, 110 + field, shape.kinds), kind);
+        return shared + one_of(pick(shape.seed, 110 + field, shape.held), kind);
     }
     token(shape, 120 + field * 4 + kind, 2)
-}
-
-// A byte is written, where the buffer has it.
-fn put(out: &mut [u8; 128], at: usize, value: usize) {
-    if at < 128 {
-        out[at] = (value % 256) as u8;
-    }
-}
-
-// A number of two bytes, "low byte first".
-fn put_number(out: &mut [u8; 128], at: usize, value: usize)
-    requires { ⌜ at < 1000 ⌝ }
-{
-    put(out, at, value % 256);
-    put(out, at + 1, value / 256);
 }
 
 // Where a line starts; for the number of lines, where the fields start.
@@ -160,22 +180,6 @@ fn field_start(shape: Shape, field: usize) -> usize
     ensures { λ r. ⌜ r ≤ 100 ⌝ }
 {
     line_start(shape, shape.lines) + 2 * (shape.kinds * field)
-}
-
-// The header is written.
-fn put_header(shape: Shape, out: &mut [u8; 128])
-    requires { ⌜ Small shape ⌝ }
-{
-    put_number(out, 0, shape.kinds);
-    put_number(out, 2, shape.codes);
-    put_number(out, 4, shape.lines);
-    put_number(out, 6, shape.fields);
-    put_number(out, 8, 20);
-    put_number(out, 10, 0);
-    put_number(out, 12, line_start(shape, shape.lines));
-    put_number(out, 14, 0);
-    put_number(out, 16, field_start(shape, shape.fields));
-    put_number(out, 18, 0);
 }
 
 // A line is written.
@@ -247,8 +251,18 @@ pub fn random_sheet(seed: u64, out: &mut [u8; 128]) -> usize
     ensures { λ r. ⌜ r ≤ 100 ⌝ }
 {
     let shape = shape_of(seed);
-    put_header(shape, out);
+    let start = line_start(shape, shape.lines);
+    let end = field_start(shape, shape.fields);
+    put_header(
+        shape.kinds,
+        shape.codes,
+        shape.lines,
+        shape.fields,
+        start,
+        end,
+        out,
+    );
     put_lines(shape, out);
     put_fields(shape, out);
-    field_start(shape, shape.fields)
+    end
 }

@@ -36,30 +36,34 @@ pub fn uses_alike(marks: &[bool], kind: usize, field: &[u32]) -> bool
     same_marks(marks_of_kind(marks, kind), &other)
 }
 
-// Whether a kind and its row may use lines of the same classes. An atom is its own row.
-fn row_expands(marks: &[bool], rows: &[u32], kind: usize) -> bool
-    requires { ⌜ (length (now marks) ≡ 8192) × (length (now rows) ≡ 1024) × (kind < mostKinds) ⌝ }
+// Whether a kind, if it has a norm, and its row may use lines of the same classes. An atom is its own row.
+fn row_expands(marks: &[bool], rows: &[u32], norms: &[u32], kind: usize) -> bool
+    requires { ⌜ (length (now marks) ≡ 8192) × (length (now rows) ≡ 1024) × (kind < mostKinds) × (kind < length (now norms)) ⌝ }
     requires { ⌜ (rowIn (now rows) kind kind ≡ 1 → rowIn (now rows) kind ≡ unit kind) ⌝ }
-    ensures { λ r. ⌜ ((lines classes : List ℕ) → KindMarks lines classes (now (marks .entry)) → (r ≡ true) ↔ AlikeIn lines classes (unit kind) (rowIn (now (rows .entry)) kind)) ⌝ }
+    ensures { λ r. ⌜ ((lines classes : List ℕ) → KindMarks lines classes (now (marks .entry)) → (r ≡ true) ↔ (0 < at (now (norms .entry)) kind → AlikeIn lines classes (unit kind) (rowIn (now (rows .entry)) kind))) ⌝ }
 {
+    let norm = norms[kind];
+    if norm == 0 {
+        return true;
+    }
     if is_atom(rows, kind) {
         return true;
     }
     uses_alike(marks, kind, row_of(rows, kind))
 }
 
-// Whether each of this many kinds and its row may use lines of the same classes: "every row must".
-pub fn rows_expand(lines: &[u8], classes: &[u8], rows: &[u32], kinds: usize) -> bool
+// Whether each of this many kinds that has a norm, and its row, may use lines of the same classes: "every row must".
+pub fn rows_expand(lines: &[u8], classes: &[u8], rows: &[u32], norms: &[u32], kinds: usize) -> bool
     requires { ⌜ LineTable (now lines) × (linesIn (now lines) ≤ length (now classes)) ⌝ }
-    requires { ⌜ (length (now rows) ≡ 1024) × (kinds ≤ mostKinds) ⌝ }
+    requires { ⌜ (length (now rows) ≡ 1024) × (kinds ≤ mostKinds) × (kinds ≤ length (now norms)) ⌝ }
     requires { ⌜ Atoms (now rows) kinds ⌝ }
-    ensures { λ r. ⌜ (r ≡ true) ↔ RowsExpand (now (lines .entry)) (now (classes .entry)) (now (rows .entry)) kinds ⌝ }
+    ensures { λ r. ⌜ (r ≡ true) ↔ RowsExpand (now (lines .entry)) (now (classes .entry)) (now (rows .entry)) (now (norms .entry)) kinds ⌝ }
 {
     let mut marks = [false; 8192];
     kind_marks(lines, classes, &mut marks);
     let mut kind = 0;
     while kind < kinds {
-        if row_expands(&marks, rows, kind) {
+        if row_expands(&marks, rows, norms, kind) {
             kind += 1;
         } else {
             return false;

@@ -17,29 +17,21 @@ use Rattle.theory.proofs.Program.{Equal, test-next}
 use Rattle.theory.proofs.Sheets.{certified}
 use Rattle.rows.specs.Stage.{MatchAt, BoundsAt}
 use Rattle.tables.proofs.Tables.{zero-counts}
-use Rattle.rows.proofs.Forms.{unit-kinds, form-plus, form-unit}
+use Rattle.rows.proofs.Forms.{form-plus, form-unit, equal-before}
 use Rattle.rows.proofs.Lines.{line-on}
 
 -- What line l leaves, with a token of m's kind, and its form.
-module _ (c : Card) (F : Found (c .lines) (c .kinds) (kindNorm c)) (l m : Line) (o : On c l) (p : On c m) where
-  with-kinds : OfKinds c (l .left ⊕ unit (m .kind))
-  with-kinds k h = go (decLt 0 (l .left k))
-    where
-      go : Dec (0 < l .left k) → k < c .kinds
-      go (yes i) = F .counts l o k i
-      go (no i) = unit-kinds c F (m .kind) (F .kinds m p) k (omega (arith, h))
-
+module _ (c : Card) (F : Found c (kindNorm c)) (l m : Line) (p : On c m) where
   with-form : (q : ℕ) → stageForm c (suc q) (l .left ⊕ unit (m .kind)) ≡ stageForm c (suc q) (l .left) ⊕ stageRow c (suc q) (m .kind)
   with-form q =
       form-plus c F q (l .left) (unit (m .kind)) ∙ ap (λ (x : Field). stageForm c (suc q) (l .left) ⊕ x) (form-unit c F q (m .kind) (F .kinds m p))
 
 -- Lines that match at a stage match at the stage before: to match is that two fields have equal forms, and a stage relates no pair that an earlier one does not.
-module _ (c : Card) (F : Found (c .lines) (c .kinds) (kindNorm c)) (l m : Line) (o : On c l) (p : On c m) where
+module _ (c : Card) (F : Found c (kindNorm c)) (l m : Line) (o : On c l) (p : On c m) where
   pub match-before : (q : ℕ) → MatchAt c (suc q) l m → MatchAt c q l m
   match-before q x =
-      let e : Equal c (kindNorm c) F (suc q) (l .left ⊕ unit (m .kind)) (m .left ⊕ unit (l .kind)) = with-form c F l m o p (suc q) ∙ x .1 ∙ sym (with-form c F m l p o (suc q)) in
-      let t = test-next c (kindNorm c) F (l .left ⊕ unit (m .kind)) (m .left ⊕ unit (l .kind)) (with-kinds c F l m o p) (with-kinds c F m l p o) q .0 e in
-      (x .0, sym (with-form c F l m o p q) ∙ t .0 ∙ with-form c F m l p o q)
+      let e : Equal c (kindNorm c) F (suc q) (l .left ⊕ unit (m .kind)) (m .left ⊕ unit (l .kind)) = with-form c F l m p (suc q) ∙ x .1 ∙ sym (with-form c F m l o (suc q)) in
+      (x .0, sym (with-form c F l m p q) ∙ equal-before c F q (l .left ⊕ unit (m .kind)) (m .left ⊕ unit (l .kind)) e ∙ with-form c F m l o q)
 
 -- Bounds of the classes at a stage are bounds at the next. Line 0 is a bound for every line at every stage.
 pub bounds-next : (s : List ℕ) → Accepted s → (q : ℕ) (bounds : List ℕ) → BoundsAt s q bounds → BoundsAt s (suc q) bounds

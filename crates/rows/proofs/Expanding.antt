@@ -63,14 +63,14 @@ module _ (s : List ℕ) (ok : Accepted s) (q : ℕ) (a b : Field) (e : Equal (ca
       (λ y. t .0 (lines-match .0 y), λ f. lines-match .1 (t .1 f))
 
 -- By the lines that lower the norm, a kind and a product of atoms. The rows are any in which the kind's is the product, and those of its atoms are the kinds themselves.
-module _ (c : Card) (F : Found (c .lines) (c .kinds) (kindNorm c)) (q k : ℕ) (b : Field) (P : Product c q k b) (row : ℕ → Field) (own : row k ≡ b) (atoms : (j : ℕ) → 0 < b j → row j ≡ unit j) where
+module _ (c : Card) (F : Found c (kindNorm c)) (q k : ℕ) (b : Field) (P : Product c q k b) (row : ℕ → Field) (own : row k ≡ b) (atoms : (j : ℕ) → 0 < b j → row j ≡ unit j) where
   -- The two lines leave equal forms just when they match.
   leave-equal : (l m : Line) → Usable (Lowers c (kindNorm c)) (λ x. x .kind) (unit k) l → Usable (Lowers c (kindNorm c)) (λ x. x .kind) b m → m .code ≡ l .code
       → Equal c (kindNorm c) F q (fire l (unit k)) (fire m b) ↔ MatchBy c q row l m
   leave-equal l m o p d =
       let e = unit-some k (l .kind) (o .1) in
       let left : fire l (unit k) ≡ l .left = fun-ext (λ j. omega (arith, ap (λ x. unit x j) e)) in
-      let fired = form-fire c (kindNorm c) F q m b (p .0 .0) (p .1) in
+      let fired = form-fire c (kindNorm c) F q m b (p .0 .0 .0) (p .1) in
       let kind : row (l .kind) ≡ b = rw e own in
       let its = P .atoms (m .kind) (p .1) in
       let atom = atoms (m .kind) (p .1) in (
@@ -92,5 +92,5 @@ module _ (s : List ℕ) (ok : Accepted s) (q k : ℕ) (b : Field) (P : Product (
       ↔ AllMatched (λ i j. MatchBy (cardOf s) q row (lineOf s i) (lineOf s j)) (UsableAt s (unit k)) (UsableAt s b)
   lines-lowering =
       let x = lowering-matched (cardOf s) (certified s ok) q k b P row own atoms in
-      let y = numbers-matched s {P = Lowers (cardOf s) (kindNorm (cardOf s))} {Q = LowersAt s} (line-lowers s) (lowering-line s) (MatchBy (cardOf s) q row) (unit k) b in
+      let y = numbers-matched s {P = Lowers (cardOf s) (kindNorm (cardOf s))} {Q = LowersAt s} (line-lowers s ok) (lowering-line s) (MatchBy (cardOf s) q row) (unit k) b in
       (λ z. y .0 (x .0 z), λ z. x .1 (y .1 z))

@@ -6,8 +6,8 @@ use native.Mathlib.Decide.{decLt}
 use native.Mathlib.Nat.{mul-le-mul-left}
 use native.Mathlib.Omega.{arith}
 use lib.Dec.{T}
-use Rattle.model.specs.Field.{Field, _⊕_, unit, weigh}
-use Rattle.model.specs.Card.{Line, Card}
+use Rattle.model.specs.Field.{Field, none, _⊕_, unit, weigh}
+use Rattle.model.specs.Card.{Line, Card, Reached, leads, reached}
 use Rattle.model.specs.Norm.{kindNorm, norm}
 use Rattle.model.specs.Stage.{equalNorm, stage}
 use Rattle.theory.specs.Stages.{Lowers}
@@ -22,10 +22,11 @@ use Rattle.theory.proofs.Settle.{tidy-within}
 use Rattle.theory.proofs.Decide.{Finite}
 use Rattle.theory.proofs.Count.{past, past-whole, level-low, level-base}
 use Rattle.theory.proofs.Certified.{Found}
+use Rattle.theory.proofs.Reach.{dec-tells}
 use Rattle.theory.proofs.Rows.{finite, order-iff, tells-earlier}
 use Rattle.theory.proofs.Plain.{plain, tidy, tells-equal, stages}
 use Rattle.theory.proofs.Settling.{base, row-of, within, before}
-use Rattle.theory.proofs.Program.{theirs, test-next}
+use Rattle.theory.proofs.Program.{theirs, test-next, row-none, kept, kept-kinds, kept-norm, kept-form}
 
 -- Rows count only where the field has tokens: tables that agree on the kinds that the field holds give it one form.
 pub form-rows : (n : ℕ) (rows others : ℕ → Field) (a : Field) → ((k : ℕ) → k < n → 0 < a k → rows k ≡ others k)
@@ -42,18 +43,22 @@ count-weight n w a k h p =
 none-of : (n : ℕ) → ¬ (0 < n) → n ≡ 0
 none-of n h = omega arith
 
-module _ (c : Card) (F : Found (c .lines) (c .kinds) (kindNorm c)) where
+module _ (c : Card) (F : Found c (kindNorm c)) where
   abbrev N : Normed
   N = plain c (kindNorm c) F
 
   abbrev fin : Finite (N .on)
-  fin = finite N (c .lines) (λ l o. o) (λ l o. o) (F .positive) (equalNorm c (kindNorm c)) (tells-equal c (kindNorm c) F)
+  fin = finite c (kindNorm c) (λ _. 0) F (equalNorm c (kindNorm c)) (tells-equal c (kindNorm c) F)
+
+  -- A kind is reached, or it is out.
+  pub reached-or-out : (k : ℕ) → Dec (Reached c k)
+  reached-or-out k = dec-tells (reached c k) (record { fact = F .reach .test-iff k .0; test = F .reach .test-iff k .1 })
 
   -- The order of kinds as the test `earlier` and as a type.
   pub earlier-iff : (k j : ℕ) → k < c .kinds → j < c .kinds → T (earlier (kindNorm c) j k) ↔ Earlier c j k
   earlier-iff k j h i =
-      let o = order-iff N (c .lines) (λ l o. o) (λ l o. o) (F .positive) (equalNorm c (kindNorm c)) (tells-equal c (kindNorm c) F) k j h i in
-      let t = tells-earlier N (c .lines) (λ l o. o) (λ l o. o) (F .positive) (equalNorm c (kindNorm c)) (tells-equal c (kindNorm c) F) k j h i in
+      let o = order-iff c (kindNorm c) (λ _. 0) F (equalNorm c (kindNorm c)) (tells-equal c (kindNorm c) F) k j h i in
+      let t = tells-earlier c (kindNorm c) (λ _. 0) F (equalNorm c (kindNorm c)) (tells-equal c (kindNorm c) F) k j h i in
       ((λ x. o .1 (t .fact x)), (λ x. t .test (o .0 x)))
 
   pub earlier-not : (k : ℕ) → ¬ Earlier c k k
@@ -68,7 +73,7 @@ module _ (c : Card) (F : Found (c .lines) (c .kinds) (kindNorm c)) where
 
   -- What a line that lowers the norm leaves is of kinds earlier than its own, and weighs one less.
   pub lowers-before : (l : Line) → Lowers c (kindNorm c) l → Before c (l .kind) (l .left)
-  lowers-before l o = before c F (l .kind) (F .kinds l (o .0)) (l .left) (low-within N l o)
+  lowers-before l o = before c F (l .kind) (o .0 .1) (l .left) (low-within N l o)
 
   pub lowers-earlier : (k : ℕ) (l : Line) → Lowers c (kindNorm c) l → (l .kind ≡ k) ⊎ Earlier c (l .kind) k → Before c k (l .left)
   lowers-earlier k l o (inl e) = rw e at (lowers-before l o)
@@ -78,9 +83,9 @@ module _ (c : Card) (F : Found (c .lines) (c .kinds) (kindNorm c)) where
   lowers-norm l o = omega (arith, F .settled l (o .0), o .1)
 
   pub left-kinds : (l : Line) → Lowers c (kindNorm c) l → OfKinds c (l .left)
-  left-kinds l o = F .counts l (o .0)
+  left-kinds l o k p = leads l (o .0 .0) (o .0 .1) p
 
-  pub unit-kinds : (k : ℕ) → k < c .kinds → OfKinds c (unit k)
+  pub unit-kinds : (k : ℕ) → Reached c k → OfKinds c (unit k)
   unit-kinds k h j i = rw (unit-some k j i) h
 
   -- No count passes the norm.
@@ -88,7 +93,7 @@ module _ (c : Card) (F : Found (c .lines) (c .kinds) (kindNorm c)) where
   count-most a u j = go (decLt 0 (a j))
     where
       go : Dec (0 < a j) → a j ≤ norm c a
-      go (yes i) = count-weight (c .kinds) (kindNorm c) a j (u j i) (F .positive j (u j i))
+      go (yes i) = count-weight (c .kinds) (kindNorm c) a j (F .reach .under j (u j i)) (F .positive j (u j i))
       go (no i) = omega arith
 
   module _ (q : ℕ) where
@@ -116,8 +121,8 @@ module _ (c : Card) (F : Found (c .lines) (c .kinds) (kindNorm c)) where
     unfolding formAt decomp
     form-self a u g = decomp-self N (stageRow c (suc q)) (past N fin) a (tidy-within N (past N fin) (past-whole N fin) a (tidy c (kindNorm c) F a u)) g
 
-    -- A row is the kind itself, an atom, or a product of earlier atoms.
-    pub row-sort : (k : ℕ) → k < c .kinds
+    -- The row of a reached kind is the kind itself, an atom, or a product of earlier atoms; that of any other kind is empty.
+    pub row-sort : (k : ℕ) → Reached c k
         → (stageRow c (suc q) k ≡ unit k) ⊎ (Before c k (stageRow c (suc q) k) × ((j : ℕ) → 0 < stageRow c (suc q) k j → stageRow c (suc q) j ≡ unit j))
     row-sort k h = go (base c F q .counts k h)
       where
@@ -126,16 +131,30 @@ module _ (c : Card) (F : Found (c .lines) (c .kinds) (kindNorm c)) where
         go (inl p) = inl (p .0)
         go (inr p) = inr p
 
-    -- A row holds kinds of the card alone, and atoms alone.
-    pub row-kinds : (k : ℕ) → k < c .kinds → OfKinds c (stageRow c (suc q) k)
-    row-kinds k h j i = go (row-sort k h)
-      where
-        go : {A : Type 0} → (stageRow c (suc q) k ≡ unit k) ⊎ (Before c k (stageRow c (suc q) k) × A) → j < c .kinds
-        go (inl e) = rw (unit-some k j (rw (ap (λ (x : Field). x j) e) at i)) h
-        go (inr p) = p .0 j i .0
+    pub row-empty : (k : ℕ) → ¬ Reached c k → stageRow c (suc q) k ≡ none
+    row-empty k n = row-none c (kindNorm c) F q k n
 
-    pub row-atoms : (k : ℕ) → k < c .kinds → (j : ℕ) → 0 < stageRow c (suc q) k j → stageRow c (suc q) j ≡ unit j
-    row-atoms k h j i = go (row-sort k h)
+    -- A kind whose row has a token is reached.
+    pub row-some : (k j : ℕ) → 0 < stageRow c (suc q) k j → Reached c k
+    row-some k j i = go (reached-or-out k)
+      where
+        go : Dec (Reached c k) → Reached c k
+        go (yes v) = v
+        go (no n) = absurd (omega (arith, ap (λ (x : Field). x j) (row-empty k n)))
+
+    pub row-atom : (k : ℕ) → stageRow c (suc q) k ≡ unit k → Reached c k
+    row-atom k e = row-some k k (omega (arith, ap (λ (x : Field). x k) e, unit-same k))
+
+    -- A row holds reached kinds alone, and atoms alone.
+    pub row-kinds : (k : ℕ) → OfKinds c (stageRow c (suc q) k)
+    row-kinds k j i = go (row-some k j i) (row-sort k (row-some k j i))
+      where
+        go : {A : Type 0} → Reached c k → (stageRow c (suc q) k ≡ unit k) ⊎ (Before c k (stageRow c (suc q) k) × A) → Reached c j
+        go v (inl e) = rw (unit-some k j (rw (ap (λ (x : Field). x j) e) at i)) v
+        go v (inr p) = p .0 j i .0
+
+    pub row-atoms : (k j : ℕ) → 0 < stageRow c (suc q) k j → stageRow c (suc q) j ≡ unit j
+    row-atoms k j i = go (row-sort k (row-some k j i))
       where
         go : (stageRow c (suc q) k ≡ unit k) ⊎ (Before c k (stageRow c (suc q) k) × ((j : ℕ) → 0 < stageRow c (suc q) k j → stageRow c (suc q) j ≡ unit j))
             → stageRow c (suc q) j ≡ unit j
@@ -143,24 +162,27 @@ module _ (c : Card) (F : Found (c .lines) (c .kinds) (kindNorm c)) where
         go (inr p) = p .1 j i
 
     -- A kind and its row have one form, the row.
-    pub row-form : (k : ℕ) → k < c .kinds → stageForm c (suc q) (stageRow c (suc q) k) ≡ stageRow c (suc q) k
-    row-form k h = form-self (stageRow c (suc q) k) (row-kinds k h) (row-atoms k h)
+    pub row-form : (k : ℕ) → stageForm c (suc q) (stageRow c (suc q) k) ≡ stageRow c (suc q) k
+    row-form k = form-self (stageRow c (suc q) k) (row-kinds k) (row-atoms k)
 
     pub row-equal : (k : ℕ) → k < c .kinds → stageForm c (suc q) (unit k) ≡ stageForm c (suc q) (stageRow c (suc q) k)
-    row-equal k h = form-unit k h ∙ sym (row-form k h)
+    row-equal k h = form-unit k h ∙ sym (row-form k)
 
     -- The kind's own count tells whether it is an atom.
-    pub row-own : (k : ℕ) → k < c .kinds → (stageRow c (suc q) k k ≡ 1) ↔ (stageRow c (suc q) k ≡ unit k)
-    row-own k h = ((λ e. go e (row-sort k h)), (λ e. ap (λ (x : Field). x k) e ∙ unit-same k))
+    pub row-own : (k : ℕ) → (stageRow c (suc q) k k ≡ 1) ↔ (stageRow c (suc q) k ≡ unit k)
+    row-own k = ((λ e. go e (row-sort k (row-some k k (omega arith)))), (λ e. ap (λ (x : Field). x k) e ∙ unit-same k))
       where
         go : {A : Type 0} → stageRow c (suc q) k k ≡ 1 → (stageRow c (suc q) k ≡ unit k) ⊎ (Before c k (stageRow c (suc q) k) × A) → stageRow c (suc q) k ≡ unit k
         go e (inl p) = p
         go e (inr p) = absurd (earlier-not k (p .0 k (omega arith) .1))
 
     -- An atom stays one at the next stage.
-    pub atom-stays : (k : ℕ) → k < c .kinds → stageRow c (suc q) k ≡ unit k → stageRow c (suc (suc q)) k ≡ unit k
-    atom-stays k h e = go (base c F q .counts k h) (base c F (suc q) .counts k h)
+    pub atom-stays : (k : ℕ) → stageRow c (suc q) k ≡ unit k → stageRow c (suc (suc q)) k ≡ unit k
+    atom-stays k e = go (base c F q .counts k h) (base c F (suc q) .counts k h)
       where
+        h : Reached c k
+        h = row-atom k e
+
         Test : ℕ → Field → Type 0
         Test s a = T (stage c (kindNorm c) s (unit k) a)
 
@@ -168,7 +190,7 @@ module _ (c : Card) (F : Found (c .lines) (c .kinds) (kindNorm c)) where
             → ((stageRow c (suc (suc q)) k ≡ unit k) × C) ⊎ (Before c k (stageRow c (suc (suc q)) k) × D) → stageRow c (suc (suc q)) k ≡ unit k
         go p (inl r) = r .0
         go (inl p) (inr r) =
-            absurd (p .1 (stageRow c (suc (suc q)) k) (r .0) (stages c (kindNorm c) F .next q (unit k) (stageRow c (suc (suc q)) k) .0 (base c F (suc q) .related k h) .0))
+            absurd (p .1 (stageRow c (suc (suc q)) k) (r .0) (stages c (kindNorm c) F .next q (unit k) (stageRow c (suc (suc q)) k) (unit-kinds k h) (λ j i. r .0 j i .0) .0 (base c F (suc q) .related k h) .0))
         go (inr p) (inr r) = absurd (earlier-not k (p .0 k (rw e (omega (arith, unit-same k))) .1))
 
     -- A form is a product of atoms of the field's norm, of kinds no later than the field's.
@@ -176,11 +198,11 @@ module _ (c : Card) (F : Found (c .lines) (c .kinds) (kindNorm c)) where
       whole : Within N (past N fin) a
       whole = tidy-within N (past N fin) (past-whole N fin) a (tidy c (kindNorm c) F a u)
 
-      pub form-atoms : (j : ℕ) → 0 < stageForm c (suc q) a j → (j < c .kinds) × (stageRow c (suc q) j ≡ unit j)
+      pub form-atoms : (j : ℕ) → 0 < stageForm c (suc q) a j → Reached c j × (stageRow c (suc q) j ≡ unit j)
       form-atoms j i =
           let t = form-within N (level N q) (past N fin) (level-base N fin q) (past N fin) a (omega arith) whole in
-          let p = rw (ap (λ (x : Field). x j) (theirs c (kindNorm c) F q a)) at i in
-          let h = t .0 j p .0 in
+          let p = rw (ap (λ (x : Field). x j) (theirs c (kindNorm c) F q a u)) at i in
+          let h = F .out j (t .0 j p .1) in
           (h, row-of c F q j h ∙ t .1 j p)
 
       pub form-kinds : OfKinds c (stageForm c (suc q) a)
@@ -188,30 +210,39 @@ module _ (c : Card) (F : Found (c .lines) (c .kinds) (kindNorm c)) where
 
       pub form-norm : norm c (stageForm c (suc q) a) ≡ norm c a
       form-norm =
-          ap (norm c) (theirs c (kindNorm c) F q a)
+          ap (norm c) (theirs c (kindNorm c) F q a u)
           ∙ sym (level-cong N q .norms a _ (form-rel N (level N q) (past N fin) (level-base N fin q) (level-cong N q) (level-low N fin q) a whole))
 
-    pub form-before : (k : ℕ) → k < c .kinds → (a : Field) → Before c k a → Before c k (stageForm c (suc q) a)
+    pub form-before : (k : ℕ) → Reached c k → (a : Field) → Before c k a → Before c k (stageForm c (suc q) a)
     form-before k h a f = before c F k h (stageForm c (suc q) a) (λ j i.
-        form-within N (level N q) (past N fin) (level-base N fin q) (rank N k) a (omega (arith, past-whole N fin k h)) (within c F k h a f) .0 j
-        (rw (ap (λ (x : Field). x j) (theirs c (kindNorm c) F q a)) at i))
+        form-within N (level N q) (past N fin) (level-base N fin q) (rank N k) a (omega (arith, past-whole N fin k (F .reach .under k h))) (within c F k h a f) .0 j
+        (rw (ap (λ (x : Field). x j) (theirs c (kindNorm c) F q a (λ j i. f j i .0))) at i))
 
     -- No count of a form passes the field's norm, and none of a row its kind's.
-    pub form-count : (a : Field) → OfKinds c a → (j : ℕ) → stageForm c (suc q) a j ≤ norm c a
-    form-count a u j = omega (arith, count-most (stageForm c (suc q) a) (form-kinds a u) j, form-norm a u)
+    pub form-count : (a : Field) (j : ℕ) → stageForm c (suc q) a j ≤ norm c a
+    form-count a j =
+        let b = kept c (kindNorm c) F a in
+        let u : OfKinds c b = kept-kinds c (kindNorm c) F a in
+        omega (arith, count-most (stageForm c (suc q) b) (form-kinds b u) j, form-norm b u, ap (λ (x : Field). x j) (kept-form c (kindNorm c) F q a), kept-norm c (kindNorm c) F a)
 
-    pub row-norm : (k : ℕ) → k < c .kinds → norm c (stageRow c (suc q) k) ≡ kindNorm c k
-    row-norm k h = ap (norm c) (sym (form-unit k h)) ∙ form-norm (unit k) (unit-kinds k h) ∙ weigh-unit (c .kinds) (kindNorm c) k h
+    pub row-norm : (k : ℕ) → Reached c k → norm c (stageRow c (suc q) k) ≡ kindNorm c k
+    row-norm k h =
+        let l = F .reach .under k h in
+        ap (norm c) (sym (form-unit k l)) ∙ form-norm (unit k) (unit-kinds k h) ∙ weigh-unit (c .kinds) (kindNorm c) k l
 
-    pub row-count : (k : ℕ) → k < c .kinds → (j : ℕ) → stageRow c (suc q) k j ≤ kindNorm c k
-    row-count k h j = omega (arith, count-most (stageRow c (suc q) k) (row-kinds k h) j, row-norm k h)
+    pub row-count : (k j : ℕ) → stageRow c (suc q) k j ≤ kindNorm c k
+    row-count k j = go (decLt 0 (stageRow c (suc q) k j))
+      where
+        go : Dec (0 < stageRow c (suc q) k j) → stageRow c (suc q) k j ≤ kindNorm c k
+        go (yes p) = omega (arith, count-most (stageRow c (suc q) k) (row-kinds k) j, row-norm k (row-some k j p))
+        go (no p) = omega arith
 
     -- A row and a form are 0 past the kinds.
-    pub row-past : (k : ℕ) → k < c .kinds → (j : ℕ) → c .kinds ≤ j → stageRow c (suc q) k j ≡ 0
-    row-past k h j i = go (decLt 0 (stageRow c (suc q) k j))
+    pub row-past : (k j : ℕ) → c .kinds ≤ j → stageRow c (suc q) k j ≡ 0
+    row-past k j i = go (decLt 0 (stageRow c (suc q) k j))
       where
         go : Dec (0 < stageRow c (suc q) k j) → stageRow c (suc q) k j ≡ 0
-        go (yes p) = absurd (omega (arith, row-kinds k h j p))
+        go (yes p) = absurd (omega (arith, F .reach .under j (row-kinds k j p)))
         go (no p) = none-of _ p
 
     pub form-past : (a : Field) (j : ℕ) → c .kinds ≤ j → stageForm c (suc q) a j ≡ 0
@@ -219,13 +250,21 @@ module _ (c : Card) (F : Found (c .lines) (c .kinds) (kindNorm c)) where
     form-past a j i = go (decLt 0 (weigh (c .kinds) (λ k. stageRow c (suc q) k j) a))
       where
         go : Dec (0 < weigh (c .kinds) (λ k. stageRow c (suc q) k j) a) → weigh (c .kinds) (λ k. stageRow c (suc q) k j) a ≡ 0
-        go (yes p) = let t = weigh-some (c .kinds) (λ k. stageRow c (suc q) k j) a p in absurd (omega (arith, row-kinds (t .0) (t .1) j (t .3)))
+        go (yes p) = let t = weigh-some (c .kinds) (λ k. stageRow c (suc q) k j) a p in absurd (omega (arith, F .reach .under j (row-kinds (t .0) j (t .3))))
         go (no p) = none-of _ p
 
 -- A later stage relates no more than an earlier one: a field and its form at the next stage have one form at this one.
-module _ (c : Card) (F : Found (c .lines) (c .kinds) (kindNorm c)) (q : ℕ) (a : Field) (u : OfKinds c a) where
-  pub form-next : stageForm c (suc q) (stageForm c (suc (suc q)) a) ≡ stageForm c (suc q) a
-  form-next =
+module _ (c : Card) (F : Found c (kindNorm c)) (q : ℕ) where
+  next-kept : (a : Field) → OfKinds c a → stageForm c (suc q) (stageForm c (suc (suc q)) a) ≡ stageForm c (suc q) a
+  next-kept a u =
       let f = form-kinds c F (suc q) a u in
       let e = form-self c F (suc q) (stageForm c (suc (suc q)) a) f (λ j i. form-atoms c F (suc q) a u j i .1) in
       test-next c (kindNorm c) F (stageForm c (suc (suc q)) a) a f u q .0 e .0
+
+  pub form-next : (a : Field) → stageForm c (suc q) (stageForm c (suc (suc q)) a) ≡ stageForm c (suc q) a
+  form-next a =
+      let w = kindNorm c in
+      ap (stageForm c (suc q)) (sym (kept-form c w F (suc q) a)) ∙ next-kept (kept c w F a) (kept-kinds c w F a) ∙ kept-form c w F q a
+
+  pub equal-before : (a b : Field) → stageForm c (suc (suc q)) a ≡ stageForm c (suc (suc q)) b → stageForm c (suc q) a ≡ stageForm c (suc q) b
+  equal-before a b e = sym (form-next a) ∙ ap (stageForm c (suc q)) e ∙ form-next b

@@ -11,7 +11,9 @@ use Rattle.theory.specs.Stages.{Lowers}
 use Rattle.model.specs.Sheet.{kindCount, lineCount, lineOf, cardOf}
 use Rattle.tables.specs.Match.{Usable, EachMatched, AllMatched}
 use Rattle.rows.specs.Stage.{lineKind, LowersAt}
+use Rattle.model.specs.Refusal.{Accepted}
 use Rattle.theory.proofs.Lists.{from-mem}
+use Rattle.theory.proofs.Sheets.{norm-tells}
 use Rattle.sheet.proofs.Laws.{on-line}
 
 module _ (s : List ℕ) where
@@ -21,12 +23,12 @@ module _ (s : List ℕ) where
   line-on j h = let e : 0 + j ≡ j = omega arith in rw (ap (lineOf s) e) at (from-mem (lineOf s) 0 (lineCount s) j h)
 
   -- Every numbered line that lowers the norm is a lowering line of the card, and the card has no others.
-  pub line-lowers : (j : ℕ) → LowersAt s j → Lowers (cardOf s) (kindNorm (cardOf s)) (lineOf s j)
-  line-lowers j h = (line-on j (h .0), h .1)
+  pub line-lowers : Accepted s → (j : ℕ) → LowersAt s j → Lowers (cardOf s) (kindNorm (cardOf s)) (lineOf s j)
+  line-lowers ok j h = ((line-on j (h .0), norm-tells s ok (lineOf s j .kind) .0 (omega (arith, h .1))), h .1)
 
   pub lowering-line : (l : Line) → Lowers (cardOf s) (kindNorm (cardOf s)) l → (j : ℕ) × LowersAt s j × (l ≡ lineOf s j)
   lowering-line l o =
-      let t = on-line s l (o .0) in
+      let t = on-line s l (o .0 .0) in
       (t .0, (t .1, subst (λ (m : Line). norm (cardOf s) (m .left) < kindNorm (cardOf s) (m .kind)) (t .2) (o .1)), t .2)
 
   -- The card's kinds are those that the header counts.

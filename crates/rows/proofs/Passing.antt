@@ -4,14 +4,15 @@ use mathlib.Core.Logic.{_↔_}
 use mathlib.Core.Path.{_≡_, refl, sym, _∙_}
 use Prim.Native.Nat.{ℕ, suc, _<_}
 use Rattle.model.specs.Field.{Field, unit, at}
+use Rattle.model.specs.Card.{Reached}
 use Rattle.model.specs.Base.{stageRow, stageForm}
-use Rattle.model.specs.Sheet.{kindCount, lineCount, lineOf, cardOf}
+use Rattle.model.specs.Sheet.{lineCount, lineOf, cardOf}
 use Rattle.model.specs.Refusal.{Accepted}
-use Rattle.theory.proofs.Sheets.{certified}
+use Rattle.theory.proofs.Sheets.{sheet-reaches, certified}
 use Rattle.tables.specs.Match.{AllMatched}
 use Rattle.rows.specs.Stage.{ToldAt, MatchBy, UsableAt, Classes, AlikeAt}
 use Rattle.rows.proofs.Forms.{form-unit}
-use Rattle.rows.proofs.Lines.{line-on, kind-of}
+use Rattle.rows.proofs.Lines.{line-on}
 use Rattle.rows.proofs.Candidates.{Product, row-one, row-next, told-kept}
 use Rattle.rows.proofs.Expanding.{classes-expand, lines-lowering}
 
@@ -19,13 +20,13 @@ use Rattle.rows.proofs.Expanding.{classes-expand, lines-lowering}
 abbrev pub AnsweredAt : List ℕ → ℕ → (ℕ → Field) → ℕ → Type 0
 AnsweredAt s q row k = AllMatched (λ i j. MatchBy (cardOf s) q row (lineOf s i) (lineOf s j)) (UsableAt s (unit k)) (UsableAt s (row k))
 
-module _ (s : List ℕ) (ok : Accepted s) (k : ℕ) (h : k < kindCount s) where
+module _ (s : List ℕ) (ok : Accepted s) (k : ℕ) (h : Reached (cardOf s) k) where
   -- Of rows in which the kind's is a product of atoms, and those of its atoms are the kinds themselves.
   module _ (row : ℕ → Field) (atoms : (j : ℕ) → 0 < row k j → row j ≡ unit j) where
     -- At stage 1 the product is the row just when norm-reducing expansion holds.
     pub passes-one : Product (cardOf s) 0 k (row k) → AnsweredAt s 0 row k ↔ (stageRow (cardOf s) 1 k ≡ row k)
     passes-one P =
-        let x = row-one (cardOf s) (certified s ok) k (kind-of s k h) (row k) P in
+        let x = row-one (cardOf s) (certified s ok) k h (row k) P in
         let y = lines-lowering s ok 0 k (row k) P row refl atoms in
         ((λ z. x .0 (y .1 z)), (λ z. y .0 (x .1 z)))
 
@@ -34,16 +35,16 @@ module _ (s : List ℕ) (ok : Accepted s) (k : ℕ) (h : k < kindCount s) where
         → ((stageRow (cardOf s) (suc q) k ≡ stageForm (cardOf s) (suc q) (row k)) × AlikeAt s classes (unit k) (row k) × AnsweredAt s (suc q) row k)
         ↔ (stageRow (cardOf s) (suc (suc q)) k ≡ row k)
     passes-next q P classes K =
-        let x = row-next (cardOf s) (certified s ok) k (kind-of s k h) q (row k) P in
+        let x = row-next (cardOf s) (certified s ok) k h q (row k) P in
         let y = lines-lowering s ok (suc q) k (row k) P row refl atoms in
-        let e = form-unit (cardOf s) (certified s ok) q k (kind-of s k h) in (
+        let e = form-unit (cardOf s) (certified s ok) q k (sheet-reaches s .under k h) in (
           (λ z. x .0 (e ∙ z .0, classes-expand s ok q (unit k) (row k) (e ∙ z .0) classes K .1 (z .1), y .1 (z .2))),
           (λ z. let u = x .1 z in (sym e ∙ u .0, classes-expand s ok q (unit k) (row k) (u .0) classes K .0 (u .1), y .0 (u .2))),
         )
 
   -- A product that is the row at a later stage has the row of the stage before for its form there.
   pub row-kept : (q : ℕ) (b : Field) → Product (cardOf s) (suc q) k b → stageRow (cardOf s) (suc (suc q)) k ≡ b → stageRow (cardOf s) (suc q) k ≡ stageForm (cardOf s) (suc q) b
-  row-kept q b P e = sym (form-unit (cardOf s) (certified s ok) q k (kind-of s k h)) ∙ row-next (cardOf s) (certified s ok) k (kind-of s k h) q b P .1 e .0
+  row-kept q b P e = sym (form-unit (cardOf s) (certified s ok) q k (sheet-reaches s .under k h)) ∙ row-next (cardOf s) (certified s ok) k h q b P .1 e .0
 
   -- What lines i and j tell has the kind's row for its form at the stage before just when the two lines have one class there.
   pub told-class : (q : ℕ) (classes : List ℕ) → Classes s q classes → (i j : ℕ) → i < lineCount s → j < lineCount s → lineOf s i .kind ≡ k → lineOf s j .code ≡ lineOf s i .code

@@ -56,7 +56,7 @@ sought-kept {s} {t} {k} {rows} {new} ok o n K =
     let E = K .earlier-set in
     record {
       earlier-set = record {
-        within = E .within;
+        is-reached = E .is-reached;
         rows-known = λ j h e. o j (λ z. earlier-not (cardOf s) (certified s ok) k (rw z at e)) ∙ E .rows-known j h e;
         forms-known = E .forms-known;
         atoms = λ j h one. go j one (ℕ-discrete j k) (E .atoms j h);
@@ -154,4 +154,4 @@ module _ {lines classes forms : List ℕ} {k l : ℕ} {old rows : List ℕ} {m :
   searched-atom s t G K =
       let now = H .sought s t G K in
       set .here
-      ∙ sym (no-line-tells s (G .accepted) t k (K .earlier-set .within) l (ll G now lw) (lk G now lw) (λ x. λ w. H .none s t G K x (omega (arith, w .0, G .lines-are .long)) w))
+      ∙ sym (no-line-tells s (G .accepted) t k (K .earlier-set .is-reached) l (ll G now lw) (lk G now lw) (λ x. λ w. H .none s t G K x (omega (arith, w .0, G .lines-are .long)) w))

@@ -6,13 +6,14 @@ use Prim.Native.Nat.{ℕ, zero, suc, _^_, _<_}
 use native.Mathlib.Omega.{arith}
 use Rattle.model.specs.Field.{Field, unit, at}
 use Rattle.model.specs.Base.{stageRow, stageForm}
+use Rattle.model.specs.Card.{Reached}
 use Rattle.model.specs.Norm.{kindNorm, norm}
 use Rattle.model.specs.Refusal.{Accepted}
 use Rattle.model.specs.Sheet.{kindCount, lineCount, lineOf, cardOf}
 use Rattle.theory.specs.Terms.{Earlier}
 use Rattle.theory.proofs.Field.{weigh-some, unit-same}
 use Rattle.theory.proofs.Base.{unit-some}
-use Rattle.theory.proofs.Sheets.{certified}
+use Rattle.theory.proofs.Sheets.{under-kinds, certified}
 use Rattle.sheet.proofs.Laws.{on-line, kind-under}
 use Rattle.tables.specs.Table.{rowIn}
 use Rattle.tables.specs.Lines.{linesIn, kindIn, codeIn}
@@ -22,7 +23,6 @@ use Rattle.rows.specs.Stage.{leftForm, MatchBy, ToldAt, lineKind, Lowers
 use Rattle.rows.specs.Row.{LowersKind, Suits, ToldIn}
 use Rattle.rows.specs.StageRows.{StageGiven, RowSought}
 use Rattle.tables.proofs.Matching.{match-equivalence, match-agrees, all-agrees}
-use Rattle.rows.proofs.Lines.{kind-of, kind-in}
 use Rattle.rows.proofs.Forms.{row-own}
 use Rattle.rows.proofs.Candidates.{Product, TellsNone, lines-product}
 use Rattle.rows.proofs.Passing.{AnsweredAt, passes-one, passes-next, row-kept, told-class}
@@ -36,11 +36,11 @@ module _ {s : List ℕ} {t : ℕ} {lines classes : List ℕ} (G : StageGiven s t
   ok : Accepted s
   ok = G .accepted
 
-  -- Every kind has a line that lowers the norm.
-  pub has-line : (k : ℕ) → k < kindCount s → (l : ℕ) × LowersKind lines k l
+  -- Every reached kind has a line that lowers the norm.
+  pub has-line : (k : ℕ) → Reached (cardOf s) k → (l : ℕ) × LowersKind lines k l
   has-line k h =
-      let a = certified s ok .attained k (kind-of s k h) in
-      let w = on-line s (a .0) (a .1) in
+      let a = certified s ok .attained k h in
+      let w = on-line s (a .0) (a .1 .0) in
       let kind : lineOf s (w .0) .kind ≡ k = ap (λ x. x .kind) (sym (w .2)) ∙ a .2 in
       let less : norm (cardOf s) (lineOf s (w .0) .left) < kindNorm (cardOf s) (lineOf s (w .0) .kind) =
       omega (arith, a .3, ap (λ x. norm (cardOf s) (x .left)) (w .2), ap (kindNorm (cardOf s)) kind) in
@@ -51,8 +51,8 @@ module _ {s : List ℕ} {t : ℕ} {lines classes : List ℕ} (G : StageGiven s t
 
   -- Of kind k, where the rows and the forms of earlier kinds and the forms of its own lines are known.
   module _ {k : ℕ} {rows forms : List ℕ} (K : RowSought s t k rows forms) where
-    kind : k < kindCount s
-    kind = K .earlier-set .within
+    kind : Reached (cardOf s) k
+    kind = K .earlier-set .is-reached
 
     -- A line of the table that is of an atom by the rows is of an earlier atom of the stage, and the other way round.
     atom-earlier : (m : ℕ) → m < lineCount s → rowIn rows (kindIn lines m) (kindIn lines m) ≡ 1 → Earlier (cardOf s) (lineKind s m) k
@@ -62,7 +62,7 @@ module _ {s : List ℕ} {t : ℕ} {lines classes : List ℕ} (G : StageGiven s t
         → (rowIn rows (kindIn lines m) (kindIn lines m) ≡ 1) ↔ (stageRow (cardOf s) (suc t) (lineKind s m) ≡ unit (lineKind s m))
     atom-told m h e =
         rw (L .kind-is m h, K .earlier-set .rows-known (lineKind s m) (line-kind m h) e)
-        (row-own (cardOf s) (certified s ok) t (lineKind s m) (kind-of s (lineKind s m) (line-kind m h)))
+        (row-own (cardOf s) (certified s ok) t (lineKind s m))
 
     -- Candidates for k's row, by its line l.
     module _ {l : ℕ} (lw : LowersKind lines k l) where
@@ -114,20 +114,20 @@ module _ {s : List ℕ} {t : ℕ} {lines classes : List ℕ} (G : StageGiven s t
           })
 
       pub product-narrow : (b : Field) → Product (cardOf s) t k b → (j : ℕ) → b j < 2 ^ 32
-      product-narrow b P j = omega (arith, product-limit s ok t k kind b P j)
+      product-narrow b P j = omega (arith, product-limit s ok t k (under-kinds s k kind) b P j)
 
   -- A product of atoms is not empty, and so has a line: where all lines have one class, the kind and the product may use lines of it.
-  one-class : {k : ℕ} (b : Field) → k < kindCount s → Product (cardOf s) t k b → t ≡ 0 → AlikeIn lines classes (unit k) b
+  one-class : {k : ℕ} (b : Field) → Reached (cardOf s) k → Product (cardOf s) t k b → t ≡ 0 → AlikeIn lines classes (unit k) b
   unfolding cardOf
   one-class {k} b h P z x = (
     (λ u. let w = has-line (some .0) (some .1) in (w .0, w .1 .0 .0, rw (w .1 .1) (some .2), G .one-class z (w .0) ∙ sym (G .one-class z (u .0)) ∙ u .3)),
     (λ u. let w = has-line k h in (w .0, w .1 .0 .0, rw (w .1 .1) (omega (arith, unit-same k)), G .one-class z (w .0) ∙ sym (G .one-class z (u .0)) ∙ u .3)),
   )
     where
-      some : (j : ℕ) × (j < kindCount s) × (0 < b j)
+      some : (j : ℕ) × Reached (cardOf s) j × (0 < b j)
       some =
-          let w = weigh-some (cardOf s .kinds) (kindNorm (cardOf s)) b (omega (arith, P .norms, certified s ok .positive k (kind-of s k h))) in
-          (w .0, w .1, w .2)
+          let w = weigh-some (cardOf s .kinds) (kindNorm (cardOf s)) b (omega (arith, P .norms, certified s ok .positive k h)) in
+          (w .0, P .kinds (w .0) (w .2), w .2)
 
   -- The row that is set in the table, a product of earlier atoms that has the kind's row for its form at the stage before, is the stage's row just when it passes.
   module _ {k : ℕ} {rows forms : List ℕ} (K : RowSought s t k rows forms) (P : Product (cardOf s) t k (rowIn rows k))
@@ -136,7 +136,7 @@ module _ {s : List ℕ} {t : ℕ} {lines classes : List ℕ} (G : StageGiven s t
     b = rowIn rows k
 
     atoms : (j : ℕ) → 0 < rowIn rows k j → rowIn rows j ≡ unit j
-    atoms j p = let e = P .before j p in K .earlier-set .rows-known j (kind-in s j (P .kinds j p)) (e .1) ∙ P .atoms j p
+    atoms j p = let e = P .before j p in K .earlier-set .rows-known j (under-kinds s j (P .kinds j p)) (e .1) ∙ P .atoms j p
 
     -- The tests over the tables are those over the sheet.
     answered-is : Answered lines rows forms k ↔ AnsweredAt s t (rowIn rows) k
@@ -161,9 +161,9 @@ module _ {s : List ℕ} {t : ℕ} {lines classes : List ℕ} (G : StageGiven s t
         go : (u : ℕ) → t ≡ u → Product (cardOf s) u k (rowIn rows k) → Answered lines rows forms k ↔ AnsweredAt s u (rowIn rows) k
             → ((p : ℕ) → u ≡ suc p → stageRow (cardOf s) (suc p) k ≡ stageForm (cardOf s) (suc p) (rowIn rows k)) → Passes lines rows forms classes k ↔ (stageRow (cardOf s) (suc u) k ≡ rowIn rows k)
         go zero z Q a g =
-            let x = passes-one s ok k (K .earlier-set .within) (rowIn rows) atoms Q in
-            (λ w. x .0 (a .0 (w .answered)), λ e. record { uses = one-class (rowIn rows k) (K .earlier-set .within) P z; answered = a .1 (x .1 e) })
+            let x = passes-one s ok k (K .earlier-set .is-reached) (rowIn rows) atoms Q in
+            (λ w. x .0 (a .0 (w .answered)), λ e. record { uses = one-class (rowIn rows k) (K .earlier-set .is-reached) P z; answered = a .1 (x .1 e) })
         go (suc p) z Q a g =
             let u = alike-at L classes (unit k) (rowIn rows k) in
-            let x = passes-next s ok k (K .earlier-set .within) (rowIn rows) atoms p Q classes (G .follows p z) in
+            let x = passes-next s ok k (K .earlier-set .is-reached) (rowIn rows) atoms p Q classes (G .follows p z) in
             (λ w. x .0 (g p refl, u .0 (w .uses), a .0 (w .answered)), λ r. let y = x .1 r in record { uses = u .1 (y .1); answered = a .1 (y .2) })

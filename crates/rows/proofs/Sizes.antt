@@ -10,7 +10,7 @@ use Rattle.model.specs.Limits.{normLimit}
 use Rattle.model.specs.Refusal.{Accepted}
 use Rattle.theory.specs.Widths.{Bytes, mostFieldNorm}
 use Rattle.theory.proofs.Limits.{limit-of}
-use Rattle.theory.proofs.Sheets.{certified, field-kinds}
+use Rattle.theory.proofs.Sheets.{certified}
 use Rattle.theory.proofs.Widths.{widths}
 use Rattle.rows.proofs.Forms.{form-count}
 use Rattle.rows.proofs.Candidates.{Product}
@@ -28,4 +28,4 @@ module _ (s : List ℕ) (ok : Accepted s) (q : ℕ) where
   module _ (bytes : Bytes s) where
     -- No count of the form of a field passes the most norm that a field can have.
     pub field-form-limit : (i j : ℕ) → stageForm (cardOf s) (suc q) (fieldOf s i) j ≤ mostFieldNorm
-    field-form-limit i j = omega (arith, form-count (cardOf s) (certified s ok) q (fieldOf s i) (field-kinds s i) j, widths s bytes ok .field-norm i)
+    field-form-limit i j = omega (arith, form-count (cardOf s) (certified s ok) q (fieldOf s i) j, widths s bytes ok .field-norm i)

@@ -103,7 +103,7 @@ module _ {s lines : List ℕ} (L : LinesAre s lines) {c : Card} (R : Reads s c) 
 pub base-atoms : (s : List ℕ) → Accepted s → (p : ℕ) (rows : List ℕ) → BaseAt s (suc p) rows → Atoms rows (kindCount s)
 base-atoms s ok p rows B k h e =
     let i = B k h in
-    i ∙ row-own (cardOf s) (certified s ok) p k (kind-of s k h) .0 (ap (λ (g : Field). g k) (sym i) ∙ e)
+    i ∙ row-own (cardOf s) (certified s ok) p k .0 (ap (λ (g : Field). g k) (sym i) ∙ e)
 
 -- It stays so where the stage's row of a kind is set.
 pub atoms-more : (s : List ℕ) → Accepted s → (p k : ℕ) (rows new : List ℕ) → k < kindCount s → Atoms rows (kindCount s) → rowIn new k ≡ stageRow (cardOf s) (suc p) k
@@ -111,7 +111,7 @@ pub atoms-more : (s : List ℕ) → Accepted s → (p k : ℕ) (rows new : List 
 atoms-more s ok p k rows new kind atoms row others j h = go (ℕ-discrete j k)
   where
     go : Dec (j ≡ k) → rowIn new j j ≡ 1 → rowIn new j ≡ unit j
-    go (yes e) = rw (e, row) (row-own (cardOf s) (certified s ok) p k (kind-of s k kind) .0)
+    go (yes e) = rw (e, row) (row-own (cardOf s) (certified s ok) p k .0)
     go (no e) = rw (others j e) (atoms j h)
 
 -- An atom of the stage before stays one.
@@ -120,7 +120,7 @@ pub atom-kept : (s : List ℕ) → Accepted s → (k : ℕ) → k < kindCount s 
 atom-kept s ok k h zero previous f e = absurd (f .no-atom refl k e)
 atom-kept s ok k h (suc p) previous f e =
     let B = f .follows p refl in
-    sym (atom-stays (cardOf s) (certified s ok) p k (kind-of s k h) (sym (B k h) ∙ base-atoms s ok p previous B k h e))
+    sym (atom-stays (cardOf s) (certified s ok) p k (sym (B k h) ∙ base-atoms s ok p previous B k h e))
 
 -- A card that was read is the header's.
 pub reads-header : {s : List ℕ} {c : Card} → Reads s c → Reads s (headerOf s)

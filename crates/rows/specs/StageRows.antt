@@ -3,6 +3,7 @@ use mathlib.Core.List.{List}
 use mathlib.Core.Path.{_≡_}
 use Prim.Native.Nat.{ℕ, suc, _<_}
 use Rattle.model.specs.Field.{at}
+use Rattle.model.specs.Card.{Reached}
 use Rattle.model.specs.Base.{stageRow, stageForm}
 use Rattle.model.specs.Sheet.{kindCount, lineCount, lineOf, cardOf}
 use Rattle.model.specs.Refusal.{Accepted}
@@ -25,9 +26,9 @@ pub record RowsBefore (s : List ℕ) (t : ℕ) (previous : List ℕ) : Type 0 wh
   pub follows : (p : ℕ) → t ≡ suc p → BaseAt s (suc p) previous
   pub no-atom : t ≡ 0 → (k : ℕ) → ¬ (rowIn previous k k ≡ 1)
 
--- Before kind k is set: the rows of the earlier kinds, and the forms of what their lowering lines leave, are the stage's; the atoms that the table tells are its own, and are earlier.
+-- Before kind k, which is reached, is set: the rows of the earlier kinds, and the forms of what their lowering lines leave, are the stage's; the atoms that the table tells are its own, and are earlier.
 pub record EarlierSet (s : List ℕ) (t k : ℕ) (rows forms : List ℕ) : Type 0 where
-  pub within : k < kindCount s
+  pub is-reached : Reached (cardOf s) k
   pub rows-known : (j : ℕ) → j < kindCount s → Earlier (cardOf s) j k → rowIn rows j ≡ stageRow (cardOf s) (suc t) j
   pub forms-known : (j : ℕ) → LowersAt s j → Earlier (cardOf s) (lineOf s j .kind) k → rowIn forms j ≡ stageForm (cardOf s) (suc t) (lineOf s j .left)
   pub atoms : Atoms rows (kindCount s)

@@ -2,7 +2,7 @@
 ghost use mathlib.Core.Path.{_≡_};
 ghost use Prim.Native.Nat.{_+_, _*_, _≤_, _<_};
 ghost use Rattle.model.specs.Field.{at};
-ghost use Rattle.model.specs.Sheet.{byte, u16At, kindCount, lineCount, fieldCount, linesOffset, lineOf, fieldOf};
+ghost use Rattle.model.specs.Sheet.{byte, u16At, kindCount, codeCount, lineCount, fieldCount, linesOffset, lineOf, fieldOf};
 ghost use Rattle.second_reader.specs.Fields.{Fits};
 
 // The byte as a number to count with.
@@ -38,6 +38,13 @@ pub fn kinds(sheet: &[u8]) -> usize
     number_at(sheet, 0)
 }
 
+// "codes c"
+pub fn codes(sheet: &[u8]) -> usize
+    ensures { λ r. ⌜ (r ≡ codeCount (now (sheet .entry))) × (r < 65536) ⌝ }
+{
+    number_at(sheet, 2)
+}
+
 // "lines m"
 pub fn lines(sheet: &[u8]) -> usize
     ensures { λ r. ⌜ (r ≡ lineCount (now (sheet .entry))) × (r < 65536) ⌝ }
@@ -53,7 +60,7 @@ pub fn fields(sheet: &[u8]) -> usize
 }
 
 // Where the line of a number starts; for the number of lines, where the fields start.
-fn line_start(sheet: &[u8], line: usize) -> usize
+pub fn line_start(sheet: &[u8], line: usize) -> usize
     requires { ⌜ (kindCount (now sheet) ≤ 32) × (line < 65536) ⌝ }
     ensures { λ r. ⌜ (r ≡ linesOffset + line * (2 + kindCount (now (sheet .entry)))) × (r < 10000000) ⌝ }
 {

@@ -6,7 +6,8 @@ use Prim.Native.Nat.{ℕ, zero, suc, _<_}
 use native.Mathlib.Omega.{arith}
 use lib.Dec.{eqb, ltb}
 use lib.ListN.{length}
-use Rattle.model.specs.Finite.{concat, listFrom, pick}
+use Rattle.model.specs.Finite.{both, concat, listFrom, pick}
+use Rattle.model.specs.Card.{reached}
 use Rattle.model.specs.Limits.{normLimit}
 use Rattle.model.specs.Norm.{kindNorm}
 use Rattle.model.specs.Page.{bytes, newline}
@@ -62,8 +63,8 @@ line-each s = each-list _ (λ j. (omega arith, (omega arith, tt))) 0 _
 norm-each : (s : List ℕ) → Each (normChecks s)
 unfolding normChecks sentenceOf sentences pick has among named bytes newline
 norm-each s =
-    let missing : ℕ → Check = λ k. check 9 k (eqb (kindNorm (cardOf s) k) 0) in
-    let over : ℕ → Check = λ k. check 10 k (ltb normLimit (kindNorm (cardOf s) k)) in
+    let missing : ℕ → Check = λ k. check 9 k (both (reached (cardOf s) k) (eqb (kindNorm (cardOf s) k) 0)) in
+    let over : ℕ → Check = λ k. check 10 k (both (reached (cardOf s) k) (ltb normLimit (kindNorm (cardOf s) k))) in
     each-both (listFrom missing 0 (kindCount s)) (listFrom over 0 (kindCount s)) (each-from missing (λ k. omega arith) 0 (kindCount s)) (each-from over (λ k. omega arith) 0 (kindCount s))
 
 sheet-each : (s : List ℕ) → Each (sheetChecks s)

@@ -138,7 +138,7 @@ module _ (s : List ℕ) (ok : Accepted s) where
   -- The table of a stage tells its atoms.
   atom-told : (p : ℕ) (after : List ℕ) → BaseAt s (suc p) after → (k : ℕ) → k < kindCount s → (rowIn after k k ≡ 1 → stageRow (cardOf s) (suc p) k ≡ unit k) × (stageRow (cardOf s) (suc p) k ≡ unit k → rowIn after k k ≡ 1)
   atom-told p after B k h =
-      let o = row-own (cardOf s) (certified s ok) p k (kind-of s k h) in
+      let o = row-own (cardOf s) (certified s ok) p k in
       ((λ e. o .0 (sym (at-kind (B k h) k) ∙ e)), (λ e. at-kind (B k h) k ∙ o .1 e))
 
   -- An atom of a stage is one at every later stage.
@@ -148,7 +148,7 @@ module _ (s : List ℕ) (ok : Accepted s) where
     where
       go : Dec (p ≡ suc r) → (p ≤ r → stageRow (cardOf s) (suc r) k ≡ unit k) → stageRow (cardOf s) (suc (suc r)) k ≡ unit k
       go (yes z) f = rw z at e
-      go (no n) f = atom-stays (cardOf s) (certified s ok) r k (kind-of s k h) (f (omega arith))
+      go (no n) f = atom-stays (cardOf s) (certified s ok) r k (f (omega arith))
 
   abbrev Atom : ℕ → ℕ → Type 0
   Atom q k = stageRow (cardOf s) (suc q) k ≡ unit k
@@ -231,7 +231,7 @@ module _ (s : List ℕ) (ok : Accepted s) where
     pub before-form : kindCount s ≤ mostKinds → (a : Field) → OfKinds (cardOf s) a
         → formBefore since rows (suc (suc q)) (stageForm (cardOf s) (suc (suc q)) a) ≡ stageForm (cardOf s) (suc q) a
     unfolding formBefore cardOf
-    before-form few a u = fun-ext (λ j. short j ∙ form-table (cardOf s) (certified s ok) q (rowBefore since rows (suc (suc q))) form (λ k h p. before-row k h (form-atoms (cardOf s) (certified s ok) (suc q) a u k p .1)) j) ∙ form-next (cardOf s) (certified s ok) q a u
+    before-form few a u = fun-ext (λ j. short j ∙ form-table (cardOf s) (certified s ok) q (rowBefore since rows (suc (suc q))) form (λ k h p. before-row k h (form-atoms (cardOf s) (certified s ok) (suc q) a u k p .1)) j) ∙ form-next (cardOf s) (certified s ok) q a
       where
         form : Field
         form = stageForm (cardOf s) (suc (suc q)) a

@@ -16,7 +16,7 @@ use Rattle.theory.specs.Terms.{OfKinds, Stage}
 use Rattle.model.specs.Sheet.{cardOf, fieldOf}
 use Rattle.model.specs.Refusal.{Accepted}
 use Rattle.theory.proofs.Lists.{least-cases}
-use Rattle.theory.proofs.Sheets.{certified, field-kinds}
+use Rattle.theory.proofs.Sheets.{certified, sheet-clear, field-kinds}
 use Rattle.tables.proofs.Tables.{at-kind}
 use Rattle.rows.proofs.Sizes.{narrow, field-form-limit}
 use Rattle.stages.specs.Kept.{formBefore}
@@ -69,11 +69,14 @@ module _ (s : List ℕ) (ok : Accepted s) (i j : ℕ) where
   abbrev test : ℕ → Bool
   test q = not (stage (cardOf s) (kindNorm (cardOf s)) q a b)
 
+  kinds : (i : ℕ) → OfKinds (cardOf s) (fieldOf s i)
+  kinds i = field-kinds s (sheet-clear s ok) i
+
   parts : (q : ℕ) → T (test q) ↔ (¬ Stage (cardOf s) q a b)
   parts q = not-tells (stage (cardOf s) (kindNorm (cardOf s)) q a b)
 
   forms : (q : ℕ) → Stage (cardOf s) (suc q) a b ↔ (stageForm (cardOf s) (suc q) a ≡ stageForm (cardOf s) (suc q) b)
-  forms q = stage-form (cardOf s) (certified s ok) a b (field-kinds s i) (field-kinds s j) q
+  forms q = stage-form (cardOf s) (certified s ok) a b (kinds i) (kinds j) q
 
   -- Where they part: every stage before relates them, and that one, if it is one of the stages up to t, does not.
   module _ (t d : ℕ) (parted : d ≡ partedBy s t i j) where
@@ -93,7 +96,7 @@ module _ (s : List ℕ) (ok : Accepted s) (i j : ℕ) where
   pub parted-first : (t : ℕ) → ¬ (norm (cardOf s) a ≡ norm (cardOf s) b) → 0 ≡ partedBy s t i j
   unfolding partedBy
   parted-first t n =
-      sym (least-is test (suc t) 0 (omega arith) (λ k h. absurd (omega arith)) (λ _. parts 0 .1 (λ x. n (stage-norm (cardOf s) (certified s ok) a b .0 x))))
+      sym (least-is test (suc t) 0 (omega arith) (λ k h. absurd (omega arith)) (λ _. parts 0 .1 (λ x. n (stage-norm (cardOf s) (certified s ok) a b (kinds i) (kinds j) .0 x))))
 
   -- No stage up to q + 1 does: that one relates them, and so each before it.
   pub parted-none : (q : ℕ) → stageForm (cardOf s) (suc q) a ≡ stageForm (cardOf s) (suc q) b → suc q + 1 ≡ partedBy s (suc q) i j
@@ -110,7 +113,7 @@ module _ (s : List ℕ) (ok : Accepted s) (i j : ℕ) where
   parted-least t (suc q) e p = sym (least-is test (suc t) (suc q) (omega (arith, p .most)) before (λ _. parts (suc q) .1 (λ x. p .differ (forms q .0 x))))
     where
       before : (k : ℕ) → k < suc q → ¬ T (test k)
-      before zero h n = parts 0 .0 n (stage-norm (cardOf s) (certified s ok) a b .1 e)
+      before zero h n = parts 0 .0 n (stage-norm (cardOf s) (certified s ok) a b (kinds i) (kinds j) .1 e)
       before (suc k) h n = parts (suc k) .0 n (forms k .1 (p .same (suc k) (omega arith) (omega arith)))
 
   -- Forms that are the same at a stage are the same at every stage before it.
@@ -128,7 +131,7 @@ module _ {s : List ℕ} {i j : ℕ} {since rows first second : List ℕ} where
   forms-before (suc zero) h p = absurd (omega arith)
   forms-before (suc (suc q)) h p =
       let z : suc (suc q) - 1 ≡ suc q = omega arith in
-      (rw (z, p .first-is) (lower (fieldOf s i) (field-kinds s i)), rw (z, p .second-is) (lower (fieldOf s j) (field-kinds s j)))
+      (rw (z, p .first-is) (lower (fieldOf s i) (kinds s (p .accepted) i j i)), rw (z, p .second-is) (lower (fieldOf s j) (kinds s (p .accepted) i j j)))
     where
       lower : (a : Field) → OfKinds (cardOf s) a → formBefore since rows (suc (suc q)) (stageForm (cardOf s) (suc (suc q)) a) ≡ stageForm (cardOf s) (suc q) a
       lower = before-form s (p .accepted) (p .kept .0) (p .kept .2) q (p .kept .1) (p .few)

@@ -13,7 +13,11 @@ use Rattle.model.specs.Refusal.{Accepted}
 use Rattle.model.specs.Sheet.{kindCount, cardOf}
 use Rattle.theory.specs.Terms.{Settled}
 use Rattle.sheet.specs.Reader.{Reads}
+use Rattle.model.specs.Card.{Reached}
+use Rattle.theory.proofs.Sheets.{under-kinds}
 use Rattle.sheet.specs.declared.reader.Card.{Card}
+use Rattle.norms.specs.Norms.{Accepts}
+use Rattle.norms.proofs.Laws.{norm-positive, norm-reached}
 use Rattle.sheet.proofs.Laws.{kinds-are, kinds-most}
 use Rattle.tables.specs.Table.{rowIn, Atoms}
 use Rattle.tables.specs.Class.{RowsExpand}
@@ -75,8 +79,8 @@ held-next {s} ok t rows classes B K f = record {
   bounds = bounds-next s ok t classes f;
 }
 
--- What the loop has reached: what is held at stage t and kept of the stages up to it, in whole tables, and none of these is settled.
-pub record Reached (s : List ℕ) (t : ℕ) (forms rows classes since rowsBefore : List ℕ) : Type 0 where
+-- How far the loop has come: what is held at stage t and kept of the stages up to it, in whole tables, and none of these is settled.
+pub record Progress (s : List ℕ) (t : ℕ) (forms rows classes since rowsBefore : List ℕ) : Type 0 where
   pub held : AtStage s t rows classes
   pub unsettled : Unsettled s t
   pub table : FormTable forms
@@ -87,22 +91,28 @@ pub record Reached (s : List ℕ) (t : ℕ) (forms rows classes since rowsBefore
   pub before-long : length rowsBefore ≡ 1024
 
 -- The rows of a stage from 1 up and the classes by them tell whether it is settled.
-module _ {s lines : List ℕ} {c : Card} (R : Reads s c) (ok : Accepted s) (L : LinesAre s lines) (q : ℕ) (rows classes : List ℕ) (B : BaseAt s (suc q) rows) where
+module _ {s lines norms : List ℕ} {c : Card} (A : Accepts s c norms) (L : LinesAre s lines) (q : ℕ) (rows classes : List ℕ) (B : BaseAt s (suc q) rows) where
+  R : Reads s c
+  R = A .reads
+
+  ok : Accepted s
+  ok = A .accepted
+
   -- Its kinds whose own count is 1 are atoms.
   pub held-atoms : Atoms rows (c .kinds)
   held-atoms = rw (kinds-are R) (base-atoms s ok q rows B)
 
-  pub held-settled : Classes s q classes → RowsExpand lines classes rows (c .kinds) ↔ Settled (cardOf s) (suc q)
+  pub held-settled : Classes s q classes → RowsExpand lines classes rows norms (c .kinds) ↔ Settled (cardOf s) (suc q)
   held-settled K = rw (kinds-are R) (
-    (λ f. settled .1 (λ k h. rw (B k h) at (alike-at L classes (unit k) (rowIn rows k) .0 (f k h)))),
-    (λ y k h. alike-at L classes (unit k) (rowIn rows k) .1 (rw (B k h) (settled .0 y k h))),
+    (λ f. settled .1 (λ k v. let h = under-kinds s k v in rw (B k h) at (alike-at L classes (unit k) (rowIn rows k) .0 (f k h (norm-positive A k v))))),
+    (λ y k h p. alike-at L classes (unit k) (rowIn rows k) .1 (rw (B k h) (settled .0 y k (norm-reached A k p)))),
   )
     where
-      settled : Settled (cardOf s) (suc q) ↔ ((k : ℕ) → k < kindCount s → AlikeAt s classes (unit k) (stageRow (cardOf s) (suc q) k))
+      settled : Settled (cardOf s) (suc q) ↔ ((k : ℕ) → Reached (cardOf s) k → AlikeAt s classes (unit k) (stageRow (cardOf s) (suc q) k))
       settled = settled-classes s ok q classes K
 
   -- The settled stage, with its base and what is kept of the stages.
-  pub held-end : Classes s q classes → Unsettled s q → RowsExpand lines classes rows (c .kinds) → (base : Base) → base .rows ≡ rows → {since rowsBefore : List ℕ} → KeptTo s (suc q) since rowsBefore
+  pub held-end : Classes s q classes → Unsettled s q → RowsExpand lines classes rows norms (c .kinds) → (base : Base) → base .rows ≡ rows → {since rowsBefore : List ℕ} → KeptTo s (suc q) since rowsBefore
       → IsSettled s (record { base = base; stage = suc q; kept = record { since = since; rows = rowsBefore } })
   held-end K u f base same {since} {rowsBefore} H =
       let e = unsettled-end s ok u (held-settled K .0 f) in

@@ -6,7 +6,7 @@ use Prim.Native.Nat.{ℕ, suc, _≤_, _<_}
 use native.Mathlib.Decide.{decLt}
 use native.Mathlib.Omega.{arith}
 use Rattle.model.specs.Field.{Field}
-use Rattle.model.specs.Card.{Card}
+use Rattle.model.specs.Card.{Card, reachedCount}
 use Rattle.model.specs.Norm.{kindNorm, norm}
 use Rattle.model.specs.Base.{roundsAt, stageForm, settledStage}
 use Rattle.theory.specs.Terms.{OfKinds, Stage}
@@ -21,10 +21,10 @@ use Rattle.theory.proofs.Program.{stage-forms}
 use Rattle.theory.proofs.Sheets.{certified}
 use Rattle.theory.proofs.Verdicts.{L, field-tidy, compare-is}
 
-module _ (c : Card) (F : Found (c .lines) (c .kinds) (kindNorm c)) (a b : Field) where
+module _ (c : Card) (F : Found c (kindNorm c)) (a b : Field) where
   -- Stage 0 compares norms, and every later stage forms.
-  pub stage-norm : Stage c 0 a b ↔ (norm c a ≡ norm c b)
-  stage-norm = stages c (kindNorm c) F .start a b
+  pub stage-norm : OfKinds c a → OfKinds c b → Stage c 0 a b ↔ (norm c a ≡ norm c b)
+  stage-norm u v = stages c (kindNorm c) F .start a b u v
 
   pub stage-form : OfKinds c a → OfKinds c b → (q : ℕ) → Stage c (suc q) a b ↔ (stageForm c (suc q) a ≡ stageForm c (suc q) b)
   stage-form u v q = stage-forms c (kindNorm c) F q a b u v
@@ -44,7 +44,7 @@ module _ (s : List ℕ) (ok : Accepted s) (i j : ℕ) (hi : i < fieldCount s) (h
   abbrev w : ℕ → ℕ
   w = kindNorm (cardOf s)
 
-  abbrev F : Found (cardOf s .lines) (cardOf s .kinds) (kindNorm (cardOf s))
+  abbrev F : Found (cardOf s) (kindNorm (cardOf s))
   F = certified s ok
 
   -- A pair that the settled stage relates is same.
@@ -64,7 +64,7 @@ module _ (s : List ℕ) (ok : Accepted s) (i j : ℕ) (hi : i < fieldCount s) (h
       to p x = tells-plain (cardOf s) w F p a b .test x
 
       go : ((verdict (cardOf s) w a b ≡ same) × Level (plain (cardOf s) w F) (settledStage (cardOf s)) a b)
-          ⊎ ((d : ℕ) × ((d ≤ cardOf s .kinds) × (verdict (cardOf s) w a b ≡ different d (roundsAt (cardOf s) w d a b)) × Parts (plain (cardOf s) w F) d a b))
+          ⊎ ((d : ℕ) × ((d ≤ reachedCount (cardOf s)) × (verdict (cardOf s) w a b ≡ different d (roundsAt (cardOf s) w d a b)) × Parts (plain (cardOf s) w F) d a b))
           → verdict (cardOf s) w a b ≡ different d (roundsAt (cardOf s) w d a b)
       go (inl x) = absurd (n (stage-earlier (cardOf s) F a b (settledStage (cardOf s)) d h (to (settledStage (cardOf s)) (x .1))))
       go (inr x) = pick (decLt (x .0) d) (decLt d (x .0))

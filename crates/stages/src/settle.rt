@@ -71,7 +71,7 @@ fn settle_lines(
         classes = line_classes(sheet, card, lines, &next, &classes, forms);
         stage += 1;
         keep_stage(&rows, &next, stage, &mut since, &mut rows_before);
-        if rows_expand(lines, &classes, &next, card.kinds) {
+        if rows_expand(lines, &classes, &next, &norms, card.kinds) {
             return Settled {
                 base,
                 stage,

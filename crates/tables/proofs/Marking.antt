@@ -8,11 +8,12 @@ use Prim.Native.Nat.{ℕ, _+_, _*_, _-_, _≤_, _<_}
 use native.Mathlib.Decide.{ℕ-discrete, decLt}
 use native.Mathlib.Nat.{add-sub-cancel-left}
 use native.Mathlib.Omega.{arith}
-use lib.ListN.{length, getD, set, take, drop, replicate, length-set, length-take, length-drop, length-replicate, getD-replicate, List·getD-eq-default}
+use lib.ListN.{length, getD, set, take, drop, replicate, length-set, length-take, length-drop, length-replicate, List·getD-eq-default}
 use lib.Seq.{getD-set-same, getD-set-other, getD-take, getD-drop, length-take-le, ext-getD}
 use Rattle.model.specs.Field.{Field, unit, at}
 use Rattle.model.specs.Limits.{mostKinds, mostLines}
 use Rattle.theory.proofs.Base.{unit-some}
+use Rattle.theory.proofs.Done.{none-done}
 use Rattle.tables.specs.Table.{Under}
 use Rattle.tables.specs.Lines.{linesIn, kindIn}
 use Rattle.tables.specs.Class.{MayUse, AlikeIn, MarksTell, marksPart, KindMarks}
@@ -24,11 +25,7 @@ past-mark : (marks : List Bool) (x : ℕ) → length marks ≤ x → getD marks 
 past-mark marks x l e = not-both (List·getD-eq-default marks false l) e
 
 pub no-mark : (n x : ℕ) → getD (replicate n false) x false ≡ true → ⊥
-no-mark n x e = go (decLt x n)
-  where
-    go : Dec (x < n) → ⊥
-    go (yes l) = not-both (getD-replicate n x false false l) e
-    go (no l) = past-mark (replicate n false) x (omega (arith, length-replicate n false)) e
+no-mark n x e = not-both (none-done n x) e
 
 -- A mark of a row is one of the table's.
 marks-at : (marks : List Bool) (k x : ℕ) → x < mostLines → getD (marksPart marks k) x false ≡ getD marks (k * mostLines + x) false

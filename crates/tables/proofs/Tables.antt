@@ -240,6 +240,10 @@ tells-other h = (λ e. let z : _≡_ {A = ℕ} 0 1 = cc in absurd (omega arith),
 pub told-not : {A : Type 0} {b : Bool} → (b ≡ true) ↔ A → b ≡ false → A → ⊥
 told-not t e a = let u = t .1 a in let z : _≡_ {A = ℕ} 0 1 = cc in omega arith
 
+-- A test of P, where what P is asked under holds.
+pub given-some : {A P : Type 0} {b : Bool} → A → (b ≡ true) ↔ P → (b ≡ true) ↔ (A → P)
+given-some a t = ((λ e _. t .0 e), λ f. t .1 (f a))
+
 pub differ : {a b : Field} (i : ℕ) → (a i ≡ b i → ⊥) → (false ≡ true) ↔ (a ≡ b)
 differ i h = tells-other (λ e. h (at-kind e i))
 

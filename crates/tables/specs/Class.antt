@@ -38,9 +38,9 @@ pub record KindMarks (lines classes : List ℕ) (marks : List Bool) : Type 0 whe
   pub long : length marks ≡ 8192
   pub tells : (k : ℕ) → k < mostKinds → MarksTell (kindIn lines) (at classes) (unit k) (linesIn lines) (marksPart marks k)
 
--- Each of n kinds and its row may use lines of the same classes, and so satisfy expansion: "every row must".
-abbrev pub RowsExpand : List ℕ → List ℕ → List ℕ → ℕ → Type 0
-RowsExpand lines classes rows n = (k : ℕ) → k < n → AlikeIn lines classes (unit k) (rowIn rows k)
+-- Each of n kinds that has a norm, and its row, may use lines of the same classes, and so satisfy expansion: "every row must". (A kind that is out has no norm.)
+abbrev pub RowsExpand : List ℕ → List ℕ → List ℕ → List ℕ → ℕ → Type 0
+RowsExpand lines classes rows norms n = (k : ℕ) → k < n → 0 < at norms k → AlikeIn lines classes (unit k) (rowIn rows k)
 
 -- The row of kind k in the table passes the tests of a stage: it and the kind may use lines of the same classes of the stage before, and every challenge that lowers the norm has a reply.
 pub record Passes (lines rows forms classes : List ℕ) (k : ℕ) : Type 0 where

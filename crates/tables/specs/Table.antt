@@ -1,6 +1,7 @@
 -- Flat tables of counts, 32 to a row, read as fields: the rows of a base, and the forms of what the lines leave.
 use mathlib.Core.Bool.{Bool, true, false}
 use mathlib.Core.List.{List, _++_}
+use mathlib.Core.Logic.{_↔_}
 use mathlib.Core.Path.{_≡_}
 use Prim.Native.Nat.{ℕ, _+_, _*_, _^_, _≤_, _<_}
 use lib.ListN.{length, getD, take, drop, replicate}
@@ -41,6 +42,11 @@ pub record IsCandidate (l m : Field) (kind : ℕ) (found : Bool) (counts : List 
 -- Whether a kind is done.
 abbrev pub isDone : List Bool → ℕ → Bool
 isDone done k = getD done k false
+
+-- The kinds that are done are those of the array that have no norm, as many as a card may have.
+pub record WithoutNorm (norms : List ℕ) (done : List Bool) : Type 0 where
+  pub long : length done ≡ mostKinds
+  pub marks : (k : ℕ) → (isDone done k ≡ true) ↔ ((k < mostKinds) × (at norms k ≡ 0))
 
 -- r is the earliest of the kinds below m that are not done, by norm, then by number; n where all of them are done.
 pub record Earliest (w : Field) (done : List Bool) (n m r : ℕ) : Type 0 where

@@ -15,17 +15,18 @@ use Rattle.model.specs.Finite.{concat, listFrom}
 use Rattle.model.specs.Norm.{kindNorm}
 use Rattle.model.specs.Base.{roundsAt, settledStage, settledRow}
 use Rattle.model.specs.Field.{at}
+use Rattle.model.specs.Card.{reachedCount}
 use Rattle.model.specs.Shelf.{shelfField}
 use Rattle.model.specs.Walk.{WalkAnswer, spent, Walk}
 use Rattle.model.specs.Sheet.{kindCount, fieldCount, cardOf, fieldOf}
 use Rattle.model.specs.Refusal.{Finding, clear, refusal, firstOf, Accepted, settleChecks, compareChecks, formChecks, walkChecks, shelfNumberChecks, shelfFieldChecks, squadsChecks}
 use Rattle.model.specs.Answer.{tableOf, primeForm, refused, given, Session, Walked, same, different, settleOf, rowCheckOf, rowOf, verdict, compareOf, formOf, drawing, within, fullWalk, walkOf, shelfNumberOf, shelfCounts, shelfFieldOf, squadCount, remainderForm, squadsOf}
 use Rattle.theory.specs.Demands.{Demand1}
+use Rattle.theory.proofs.Plain.{settled, verdict-cases}
 use Rattle.model.proofs.Plain.{plain}
 use Rattle.theory.proofs.Exec.{Tells, tells-lt}
 use Rattle.theory.proofs.Sheets.{never, certified}
 use Rattle.theory.proofs.Limits.{limits-accepted, accepted-limits}
-use Rattle.theory.proofs.Plain.{settled, verdict-cases}
 use Rattle.theory.proofs.Walks.{walk-not-spent}
 use Rattle.theory.proofs.Verdicts.{compare-is, L, field-tidy}
 use Rattle.theory.proofs.Calls.{call-clear, call-refused, kept, past}
@@ -73,7 +74,7 @@ module _ (s : List ℕ) where
       e = compare-is s ok i j h k
 
       go : {P : Type 0} {Q : ℕ → Type 0} → ((verdict (cardOf s) (kindNorm (cardOf s)) (fieldOf s i) (fieldOf s j) ≡ same) × P)
-          ⊎ ((d : ℕ) × ((d ≤ cardOf s .kinds) × (verdict (cardOf s) (kindNorm (cardOf s)) (fieldOf s i) (fieldOf s j) ≡ different d (roundsAt (cardOf s) (kindNorm (cardOf s)) d (fieldOf s i) (fieldOf s j))) × Q d))
+          ⊎ ((d : ℕ) × ((d ≤ reachedCount (cardOf s)) × (verdict (cardOf s) (kindNorm (cardOf s)) (fieldOf s i) (fieldOf s j) ≡ different d (roundsAt (cardOf s) (kindNorm (cardOf s)) d (fieldOf s i) (fieldOf s j))) × Q d))
           → (compareOf s i j ≡ given same) ⊎ ((t : ℕ) × (r : ℕ) × (compareOf s i j ≡ given (different t r)))
       go (inl x) = inl (e ∙ ap given (x .0))
       go (inr x) = inr (x .0, roundsAt (cardOf s) (kindNorm (cardOf s)) (x .0) (fieldOf s i) (fieldOf s j), e ∙ ap given (x .1 .1))

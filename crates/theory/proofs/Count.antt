@@ -1,13 +1,13 @@
 -- The atoms of a base are counted; a stage that is not settled is followed by one with more atoms.
 use mathlib.Core.Path.{_≡_, refl, _∙_, ap}
 use mathlib.Core.Logic.{_⊎_, inl, inr}
-use Prim.Native.Nat.{ℕ, zero, suc, _+_, _≤_, _<_, min}
+use Prim.Native.Nat.{ℕ, zero, suc, _+_, _≤_, _<_, min, max}
 use native.Mathlib.Decide.{decLt, ℕ-discrete}
 use native.Mathlib.Omega.{arith}
 use Rattle.model.specs.Field.{Field, unit, weigh}
 use Rattle.theory.specs.Expansion.{Expands}
 use Rattle.theory.proofs.Search.{first-below, dec-implies}
-use Rattle.theory.proofs.Field.{unit-same, weigh-unit, weigh-some, weigh-part, weigh-mono, weigh-less, weigh-ones}
+use Rattle.theory.proofs.Field.{unit-same, weigh-unit, weigh-some, weigh-part, weigh-mono, weigh-less}
 use Rattle.theory.proofs.Normed.{Normed, Low}
 use Rattle.theory.proofs.Stages.{Cong, Alike, Next, level, Stage, level-cong, Down-in, Down-out, next-cong, alike-cong}
 use Rattle.theory.proofs.Rank.{rank}
@@ -17,8 +17,12 @@ use Rattle.theory.proofs.Decide.{Finite, dec-level, dec-expands}
 use Rattle.theory.proofs.Find.{base}
 
 -- A count of 1 for each live kind.
-pub alive : Normed → Field
+unfoldable pub alive : Normed → Field
 alive N k = min 1 (N .w k)
+
+-- The number of live kinds.
+unfoldable pub size : Normed → ℕ
+size N = weigh (N .n) (λ _. 1) (alive N)
 
 -- The number of atoms: an atom's row has one token of the kind itself, any other row has none.
 pub atoms : (N : Normed) (R : Field → Field → Type 0) (B : ℕ) → Base N R B → ℕ
@@ -40,13 +44,9 @@ module _ (N : Normed) (R : Field → Field → Type 0) (B : ℕ) (W : Whole N B)
       go (inl a) = ap (λ (x : Field). x k) (a .0) ∙ unit-same k
       go (inr m) = absurd (p (D .row k) (λ j u. let t = m j u in (t .0, t .1, t .2)) (D .rel k h q (W k h)))
 
-  pub atoms-bound : atoms N R B D ≤ N .n
-  unfolding atoms alive
-  atoms-bound = omega (
-    arith,
-    weigh-mono (N .n) (λ k. D .row k k) (λ _. 1) (alive N) (λ k h q. small k (own k h (omega arith))),
-    weigh-ones (N .n) (alive N) (λ k. omega arith),
-  )
+  pub atoms-bound : atoms N R B D ≤ size N
+  unfolding atoms alive size
+  atoms-bound = weigh-mono (N .n) (λ k. D .row k k) (λ _. 1) (alive N) (λ k h q. small k (own k h (omega arith)))
     where
       small : (k : ℕ) → (Atom (D .row) k × Prime N R k × (D .row k k ≡ 1)) ⊎ (D .row k k ≡ 0) → D .row k k ≤ 1
       small k (inl a) = omega (arith, a .2)
@@ -167,21 +167,33 @@ module _ (N : Normed) (F : Finite (N .on)) where
   passes-settled s P a b t u p =
       all-pass N (level N s) (level-cong N s) (level-low s) past (level-base s) P a b (tidy-within N past past-whole a t) (tidy-within N past past-whole b u) p
 
-  level-bound : (s : ℕ) → level-atoms s ≤ N .n
+  level-bound : (s : ℕ) → level-atoms s ≤ size N
   unfolding level-atoms
   level-bound s = atoms-bound N (level N s) past past-whole (level-base s)
 
-  -- The settled stage is at most n.
-  settle-from : (f s : ℕ) → N .n ≤ s + f → s < N .n → (s ≡ 0) ⊎ (suc s ≤ level-atoms s) → (t : ℕ) × (t < N .n) × Settled N (suc t)
-  settle-from zero s h i v = absurd (omega arith)
-  settle-from (suc f) s h i v = go (pass-or-grow s) v (settle-from f (suc s))
-    where
-      go : Passes N (level N s) past (level-base s) ⊎ Failing s → (s ≡ 0) ⊎ (suc s ≤ level-atoms s)
-          → (N .n ≤ suc s + f → suc s < N .n → (suc s ≡ 0) ⊎ (suc (suc s) ≤ level-atoms (suc s)) → (t : ℕ) × (t < N .n) × Settled N (suc t))
-          → (t : ℕ) × (t < N .n) × Settled N (suc t)
-      go (inl P) w g = (s, i, passes-settled s P)
-      go (inr x) (inl z) g = let q : suc (suc s) ≤ level-atoms (suc s) = omega (arith, x .0, x .1) in g (omega arith) (omega (arith, level-bound (suc s))) (inr q)
-      go (inr x) (inr z) g = let q : suc (suc s) ≤ level-atoms (suc s) = omega (arith, x .0) in g (omega arith) (omega (arith, level-bound (suc s))) (inr q)
+  -- The settled stage is at most the number of live kinds, or 1 where there are none.
+  abbrev Ends : Type 0
+  Ends = (t : ℕ) × (t < max 1 (size N)) × Settled N (suc t)
 
-  pub settles : 0 < N .n → (t : ℕ) × (t < N .n) × Settled N (suc t)
-  settles h = settle-from (N .n) 0 (omega arith) h (inl refl)
+  small : (s : ℕ) → (s ≡ 0) ⊎ (suc s ≤ level-atoms s) → s < max 1 (size N)
+  small s (inl z) = omega arith
+  small s (inr z) = omega (arith, level-bound s)
+
+  more : (s : ℕ) → Failing s → (s ≡ 0) ⊎ (suc s ≤ level-atoms s) → suc (suc s) ≤ level-atoms (suc s)
+  more s x (inl z) = omega (arith, x .0, x .1)
+  more s x (inr z) = omega (arith, x .0)
+
+  settle-from : (f s : ℕ) → size N ≤ s + f → (s ≡ 0) ⊎ (suc s ≤ level-atoms s) → Ends
+  settle-from zero s h v = go (pass-or-grow s)
+    where
+      go : Passes N (level N s) past (level-base s) ⊎ Failing s → Ends
+      go (inl P) = (s, small s v, passes-settled s P)
+      go (inr x) = absurd (omega (arith, more s x v, x .0, x .1, small s v, level-bound s))
+  settle-from (suc f) s h v = go (pass-or-grow s) (settle-from f (suc s))
+    where
+      go : Passes N (level N s) past (level-base s) ⊎ Failing s → (size N ≤ suc s + f → (suc s ≡ 0) ⊎ (suc (suc s) ≤ level-atoms (suc s)) → Ends) → Ends
+      go (inl P) r = (s, small s v, passes-settled s P)
+      go (inr x) r = r (omega arith) (inr (more s x v))
+
+  pub settles : Ends
+  settles = settle-from (size N) 0 (omega arith) (inl refl)

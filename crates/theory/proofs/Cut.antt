@@ -11,9 +11,10 @@ use lib.ListN.{getD}
 use Rattle.model.specs.Finite.{both, listFrom}
 use Rattle.model.specs.Field.{Field, weigh, at}
 use Rattle.model.specs.Card.{Line, Card}
-use Rattle.model.specs.Norm.{ready, sooner, best, sweeps, kindNorm}
+use Rattle.model.specs.Norm.{ready, sooner, best, sweeps, cardNorm}
 use Rattle.theory.proofs.Exec.{Tells, tells-map, tells-eq}
 use Rattle.theory.proofs.Lists.{getD-from, getD-past}
+use Rattle.theory.proofs.Reach.{tells-same}
 use Rattle.theory.proofs.Sweeps.{tells-ready}
 
 module _ (limit : ℕ) where
@@ -55,7 +56,7 @@ module _ (limit : ℕ) where
       go false s false t = cut-min x y ∙ ap₂ min e d ∙ sym (cut-min u v)
 
   ready-cut : (n : ℕ) (w : ℕ → ℕ) (a : Field) → ready n (λ k. cut (w k)) a ≡ ready n w a
-  ready-cut n w a = same (ready n (λ k. cut (w k)) a) (ready n w a) (tells-ready n (λ k. cut (w k)) a)
+  ready-cut n w a = tells-same (ready n (λ k. cut (w k)) a) (ready n w a) (tells-ready n (λ k. cut (w k)) a)
       (tells-map (λ f k h q. pos (w k) (f k h q)) (λ f k h q. back (w k) (f k h q)) (tells-ready n w a))
     where
       pos : (x : ℕ) → 0 < x → 0 < cut x
@@ -63,12 +64,6 @@ module _ (limit : ℕ) where
 
       back : (x : ℕ) → 0 < cut x → 0 < x
       back x h = omega arith
-
-      same : (b c : Bool) {A : Type 0} → Tells b A → Tells c A → b ≡ c
-      same true true s t = refl
-      same true false s t = absurd (t .test (s .fact tt))
-      same false true s t = absurd (s .test (t .fact tt))
-      same false false s t = refl
 
   best-cut : (n : ℕ) (w : ℕ → ℕ) (k : ℕ) (ls : List Line) → cut (best n (λ j. cut (w j)) k ls) ≡ cut (best n w k ls)
   unfolding best
@@ -112,6 +107,6 @@ module _ (limit : ℕ) where
           ∙ ap cut (sym (getD-from g 0 (c .kinds) k 0 h))
       go (no h) e = getD-past f 0 (c .kinds) k 0 (omega arith) ∙ zero-cut ∙ ap cut (sym (getD-past g 0 (c .kinds) k 0 (omega arith)))
 
-  pub cut-norm : (c : Card) (k : ℕ) → at (cutSweeps c (c .kinds)) k ≡ cut (kindNorm c k)
-  unfolding kindNorm
+  pub cut-norm : (c : Card) (k : ℕ) → at (cutSweeps c (c .kinds)) k ≡ cut (cardNorm c k)
+  unfolding cardNorm
   cut-norm c k = cut-sweeps c (c .kinds) k

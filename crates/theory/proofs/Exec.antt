@@ -6,7 +6,7 @@ use Prim.Native.Nat.{ℕ, zero, suc, _<_}
 use lib.Dec.{T, ltb, eqb, ltb→lt, lt→ltb, eqb→eq, eqb-refl}
 use Rattle.model.specs.Finite.{both, implies, any, all, keep}
 use Rattle.model.specs.Field.{Field}
-use Rattle.model.specs.Card.{Line, Card, fire}
+use Rattle.model.specs.Card.{Line, fire}
 use Rattle.model.specs.Expansion.{simulates, expands}
 use Rattle.theory.specs.Expansion.{Reply, Simulates, Expands, flip}
 use Rattle.model.specs.Stage.{lowering, falling, refined, stageFrom}
@@ -118,11 +118,8 @@ module _ (L : Line → Type 0) (xs : List Line) (to : (l : Line) → L l → Lis
 
 -- The stages over any test of stage 0 that decides it.
 module _ (N : Normed) (xs : List Line) (to : (l : Line) → N .on l → List·Memᴰ l xs) (from : (l : Line) → List·Memᴰ l xs → N .on l) where
-  abbrev card : Card
-  card = record { kinds = N .n; lines = xs }
-
   pub tells-next : (r : Field → Field → Bool) (R : Field → Field → Type 0) → ((x y : Field) → Tells (r x y) (R x y))
-      → (a b : Field) → Tells (refined card (N .w) r a b) (Next N R a b)
+      → (a b : Field) → Tells (refined (N .n) xs (N .w) r a b) (Next N R a b)
   unfolding refined
   tells-next r R f a b = tells-and _ _ (f a b) (tells-expands (N .on) xs to from r R f a b)
 
@@ -130,20 +127,20 @@ module _ (N : Normed) (xs : List Line) (to : (l : Line) → N .on l → List·Me
   low-test l = tells-lt (norm N (l .left)) (N .w (l .kind))
 
   pub tells-down : (p : Field → Field → Bool) (P : Field → Field → Type 0) → ((x y : Field) → Tells (p x y) (P x y))
-      → (f : ℕ) (a b : Field) → Tells (falling card (N .w) p f a b) (down N P f a b)
+      → (f : ℕ) (a b : Field) → Tells (falling (N .n) xs (N .w) p f a b) (down N P f a b)
   unfolding falling down lowering
   tells-down p P g zero a b = g a b
   tells-down p P g (suc f) a b =
       tells-and _ _ (g a b)
-      (tells-expands (Low N) (lowering card (N .w))
+      (tells-expands (Low N) (lowering (N .n) xs (N .w))
       (λ l o. on-keep _ (λ l. norm N (l .left) < N .w (l .kind)) low-test xs l (to l (o .0)) (o .1))
       (λ l m. let u = keep-on _ (λ l. norm N (l .left) < N .w (l .kind)) low-test xs l m in (from l (u .0), u .1))
-      (falling card (N .w) p f) (down N P f) (tells-down p P g f) a b)
+      (falling (N .n) xs (N .w) p f) (down N P f) (tells-down p P g f) a b)
 
   module _ (r : Field → Field → Bool) (tells-alike : (x y : Field) → Tells (r x y) (Alike N x y)) where
-    pub tells-stage : (s : ℕ) (a b : Field) → Tells (stageFrom card (N .w) r s a b) (Stage N s a b)
+    pub tells-stage : (s : ℕ) (a b : Field) → Tells (stageFrom (N .n) xs (N .w) r s a b) (Stage N s a b)
     unfolding stageFrom Stage level
     tells-stage zero a b = tells-alike a b
     tells-stage (suc zero) a b = tells-down r (Alike N) tells-alike (norm N a) a b
     tells-stage (suc (suc s)) a b =
-        tells-down _ (Next N (level N s)) (tells-next (stageFrom card (N .w) r (suc s)) (level N s) (tells-stage (suc s))) (norm N a) a b
+        tells-down _ (Next N (level N s)) (tells-next (stageFrom (N .n) xs (N .w) r (suc s)) (level N s) (tells-stage (suc s))) (norm N a) a b

@@ -43,6 +43,12 @@ unfolding weigh
 weigh-same zero w a b h = refl
 weigh-same (suc m) w a b h = rw (h m (omega arith)) (omega (arith, weigh-same m w a b (λ k l. h k (omega arith))))
 
+-- What each kind weighs is the same.
+pub weigh-each : (n : ℕ) (w : ℕ → ℕ) (a b : Field) → ((k : ℕ) → a k * w k ≡ b k * w k) → weigh n w a ≡ weigh n w b
+unfolding weigh
+weigh-each zero w a b h = refl
+weigh-each (suc m) w a b h = omega (arith, weigh-each m w a b h, h m)
+
 pub weigh-none : (n : ℕ) (w : ℕ → ℕ) → weigh n w none ≡ 0
 unfolding weigh
 weigh-none zero w = refl
@@ -137,6 +143,12 @@ weigh-less (suc m) w v a h j i p q = go (decLt 0 (a m)) (ℕ-discrete j m) (weig
         let r : suc (w m) ≤ v m = rw e at q in
         let s : 0 < a m = rw e at p in
         omega (arith, mul-le-mul-left (a m) r)
+
+-- Counts of 1 each, or as many as another field's weights.
+pub weigh-swap : (n : ℕ) (a w : ℕ → ℕ) → ((k : ℕ) → a k ≤ w k) → weigh n (λ _. 1) a ≤ weigh n w (λ _. 1)
+unfolding weigh
+weigh-swap zero a w h = omega arith
+weigh-swap (suc m) a w h = omega (arith, weigh-swap m a w h, h m)
 
 pub weigh-ones : (n : ℕ) (a : Field) → ((k : ℕ) → a k ≤ 1) → weigh n (λ _. 1) a ≤ n
 unfolding weigh

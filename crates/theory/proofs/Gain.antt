@@ -6,14 +6,14 @@ use Prim.Native.Nat.{ℕ, _+_, _-_, _≤_, _<_, max}
 use native.Mathlib.Decide.{decLt}
 use native.Mathlib.Omega.{arith}
 use Rattle.model.specs.Field.{Field, unit, weigh}
-use Rattle.model.specs.Card.{Line, Card, On}
+use Rattle.model.specs.Card.{Line, Card, reachedLines}
 use Rattle.model.specs.Norm.{IsNorm, kindNorm, norm, gainOf}
 use Rattle.model.specs.Base.{gain}
-use Rattle.theory.specs.Terms.{IsGain}
+use Rattle.theory.specs.Terms.{IsGain, OnReached}
 use Rattle.theory.specs.Meanings.{Norms}
 use Rattle.model.specs.Sheet.{cardOf}
 use Rattle.model.specs.Refusal.{clear, firstOf, sheetChecks, Accepted}
-use Rattle.theory.proofs.Certified.{Found, gain-most}
+use Rattle.theory.proofs.Certified.{Found, gain-most, live, left-reached}
 use Rattle.theory.proofs.Fewest.{norms}
 use Rattle.theory.proofs.Sheets.{tame, sheet-clear, certified}
 
@@ -48,7 +48,7 @@ norm-one c a x y p q = omega (arith, p .1 y (q .0), q .1 x (p .0))
 gain-less : (c : Card) (g h : ℕ) → IsGain c g → IsGain c h → g ≤ h
 gain-less c g h G H = go (G .reached)
   where
-    go : (g ≡ 0) ⊎ ((l : Line) × On c l × (x : ℕ) × (y : ℕ) × IsNorm c (l .left) x × IsNorm c (unit (l .kind)) y × (x ≡ y + g)) → g ≤ h
+    go : (g ≡ 0) ⊎ ((l : Line) × OnReached c l × (x : ℕ) × (y : ℕ) × IsNorm c (l .left) x × IsNorm c (unit (l .kind)) y × (x ≡ y + g)) → g ≤ h
     go (inl e) = omega arith
     go (inr x) = omega (arith, x .6, H .most (x .0) (x .1) (x .2) (x .3) (x .4) (x .5))
 
@@ -59,23 +59,28 @@ module _ (s : List ℕ) (ok : Accepted s) where
   abbrev c : Card
   c = cardOf s
 
-  abbrev F : Found (c .lines) (c .kinds) (kindNorm c)
+  abbrev F : Found c (kindNorm c)
   F = certified s ok
 
-  left-norm : (l : Line) → On c l → IsNorm c (l .left) (norm c (l .left))
-  left-norm l o = sheet-norms s (sheet-clear s ok) .fields (l .left) (λ k h. (F .counts l o k h, F .positive k (F .counts l o k h)))
+  left-norm : (l : Line) → OnReached c l → IsNorm c (l .left) (norm c (l .left))
+  left-norm l o = sheet-norms s (sheet-clear s ok) .fields (l .left) (λ k h. live c (kindNorm c) F k (left-reached c (kindNorm c) F l o k h))
 
-  own-norm : (l : Line) → On c l → IsNorm c (unit (l .kind)) (kindNorm c (l .kind))
-  own-norm l o = sheet-norms s (sheet-clear s ok) .kinds (l .kind) (F .kinds l o) (F .positive (l .kind) (F .kinds l o))
+  own-norm : (l : Line) → OnReached c l → IsNorm c (unit (l .kind)) (kindNorm c (l .kind))
+  own-norm l o = sheet-norms s (sheet-clear s ok) .kinds (l .kind) (F .positive (l .kind) (o .1)) .1
 
-  reached : (gain c ≡ 0) ⊎ ((l : Line) × On c l × (norm c (l .left) ≡ kindNorm c (l .kind) + gain c))
-      → (gain c ≡ 0) ⊎ ((l : Line) × On c l × (x : ℕ) × (y : ℕ) × IsNorm c (l .left) x × IsNorm c (unit (l .kind)) y × (x ≡ y + gain c))
-  reached (inl e) = inl e
-  reached (inr x) = inr (x .0, x .1, _, _, left-norm (x .0) (x .1), own-norm (x .0) (x .1), x .2)
+  by-line : (gain c ≡ 0) ⊎ ((l : Line) × List·Memᴰ l (reachedLines c) × (norm c (l .left) ≡ kindNorm c (l .kind) + gain c))
+      → (gain c ≡ 0) ⊎ ((l : Line) × OnReached c l × (x : ℕ) × (y : ℕ) × IsNorm c (l .left) x × IsNorm c (unit (l .kind)) y × (x ≡ y + gain c))
+  by-line (inl e) = inl e
+  by-line (inr x) = let o = F .reach .lines-iff (x .0) .0 (x .1) in inr (x .0, o, _, _, left-norm (x .0) o, own-norm (x .0) o, x .2)
 
   pub is-gain : IsGain c (gain c)
   is-gain = record {
     most = λ l o x y p q.
-        omega (arith, norm-one c (l .left) x _ p (left-norm l o), norm-one c (unit (l .kind)) y _ q (own-norm l o), gain-most (c .kinds) (kindNorm c) l o);
-    reached = reached (gain-reached (c .kinds) (kindNorm c) (c .lines));
+        omega (
+          arith,
+          norm-one c (l .left) x _ p (left-norm l o),
+          norm-one c (unit (l .kind)) y _ q (own-norm l o),
+          gain-most (c .kinds) (kindNorm c) l (F .reach .lines-iff l .1 o),
+        );
+    reached = by-line (gain-reached (c .kinds) (kindNorm c) (reachedLines c));
   }

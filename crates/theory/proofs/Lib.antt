@@ -20,6 +20,7 @@ pub mod Further
 -- The model's tests decide what they are named for; its lists and searches; its norms, rows and settled stage.
 pub mod Exec
 pub mod Lists
+pub mod Reach
 pub mod Certified
 pub mod Sweeps
 pub mod Fewest
@@ -61,8 +62,11 @@ pub mod Squads
 pub mod Widths
 pub mod Decimals
 pub mod Pages
+pub mod Used
+pub mod Part
 pub mod Meanings
 pub mod Demands
--- For the crates above: buffers that are written in a loop, and what an enum tells.
+-- For the crates above: buffers that are written in a loop, kinds that are done one after another, and what an enum tells.
 pub mod Writing
+pub mod Done
 pub mod Told

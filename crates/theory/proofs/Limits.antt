@@ -1,20 +1,22 @@
 -- A sheet is accepted just when it lies within the written limits.
+use mathlib.Core.Bool.{Bool}
 use mathlib.Core.List.{List, _++_}
-use mathlib.Core.Path.{_≡_, refl, sym, _∙_}
+use mathlib.Core.Path.{_≡_, sym, _∙_}
 use Prim.Native.Nat.{ℕ, _+_, _≤_, _<_}
 use native.Mathlib.Decide.{decLt}
 use native.Mathlib.Omega.{arith}
-use lib.Dec.{ltb, eqb}
+use lib.Dec.{T, ltb, eqb}
 use lib.ListN.{length}
-use Rattle.model.specs.Finite.{listFrom}
+use Rattle.model.specs.Finite.{both, listFrom}
 use Rattle.model.specs.Field.{unit, at}
+use Rattle.model.specs.Card.{Reached, reached}
 use Rattle.model.specs.Norm.{IsNorm, kindNorm}
 use Rattle.theory.specs.Meanings.{Norms}
 use Rattle.model.specs.Sheet.{u32At, kindCount, codeCount, lineCount, fieldCount, fieldsOffset, totalOf, lineOf, cardOf}
 use Rattle.model.specs.Limits.{mostKinds, mostCodes, mostLines, mostFields, normLimit, Limits}
 use Rattle.model.specs.Refusal.{check, clear, firstOf, headerChecks, lineChecks, normChecks, sheetChecks, Accepted}
-use Rattle.theory.proofs.Exec.{tells-eq}
-use Rattle.theory.proofs.Sheets.{first-append, then-clear, clear-cons, clear-nil, small, not-small, not-less, tame, sheet-clear, positive}
+use Rattle.theory.proofs.Exec.{Tells, tells-and, tells-lt, tells-eq}
+use Rattle.theory.proofs.Sheets.{first-append, then-clear, clear-cons, clear-nil, small, not-small, not-less, tame, sheet-clear, sheet-reaches, under-kinds, tells-reached, positive, certified}
 use Rattle.theory.proofs.Checks.{not-outside, not-differ, both-then, all-clear, each-clear, from-outside, from-less, from-differ, all-none, cons-none, each-none}
 use Rattle.theory.proofs.Fewest.{norms}
 
@@ -41,29 +43,32 @@ module _ (s : List ℕ) (L : Limits s) where
   N : Norms (cardOf s)
   N = norms (cardOf s) (tame s of-sheet)
 
-  kinds-is : cardOf s .kinds ≡ kindCount s
-  unfolding cardOf
-  kinds-is = refl
-
-  found : (k : ℕ) → k < kindCount s → (0 < kindNorm (cardOf s) k) × (kindNorm (cardOf s) k ≤ normLimit)
+  found : (k : ℕ) → Reached (cardOf s) k → (0 < kindNorm (cardOf s) k) × (kindNorm (cardOf s) k ≤ normLimit)
   unfolding IsNorm
   found k h = go (decLt 0 (kindNorm (cardOf s) k)) (L .norm k h)
     where
       go : Dec (0 < kindNorm (cardOf s) k) → (v : ℕ) × (v ≤ normLimit) × IsNorm (cardOf s) (unit k) v → (0 < kindNorm (cardOf s) k) × (kindNorm (cardOf s) k ≤ normLimit)
-      go (yes p) (v, l, e) = (p, omega (arith, l, N .kinds k (omega (arith, h, kinds-is)) p .1 v (e .0)))
-      go (no p) (v, l, e) = absurd (N .missing k (omega (arith, h, kinds-is)) (omega arith) v (e .0))
+      go (yes p) (v, l, e) = (p, omega (arith, l, N .kinds k p .1 .1 v (e .0)))
+      go (no p) (v, l, e) = absurd (N .missing k h (omega arith) v (e .0))
 
   of-norms : firstOf (normChecks s) ≡ clear
   unfolding normChecks
   of-norms =
-      first-append (listFrom (λ k. check 9 k (eqb (v k) 0)) 0 (kindCount s)) (listFrom (λ k. check 10 k (ltb normLimit (v k))) 0 (kindCount s))
-      ∙ both-then _ _ (each-clear 9 (λ k. eqb (v k) 0) 0 (kindCount s) (λ k h t. omega (arith, at-v (0 + k) (omega (arith, h)) .0, tells-eq (v (0 + k)) 0 .fact t)))
-      (each-clear 10 (λ k. ltb normLimit (v k)) 0 (kindCount s) (λ k h. not-less normLimit (v (0 + k)) (at-v (0 + k) (omega (arith, h)) .1)))
+      first-append (listFrom (λ k. check 9 k (both (r k) (eqb (v k) 0))) 0 (kindCount s)) (listFrom (λ k. check 10 k (both (r k) (ltb normLimit (v k)))) 0 (kindCount s))
+      ∙ both-then _ _
+      (each-clear 9 (λ k. both (r k) (eqb (v k) 0)) 0 (kindCount s) (λ k _ t. let u = tells-and _ _ (is-reached (0 + k)) (tells-eq (v (0 + k)) 0) .fact t in omega (arith, at-v (0 + k) (u .0) .0, u .1)))
+      (each-clear 10 (λ k. both (r k) (ltb normLimit (v k))) 0 (kindCount s) (λ k _ t. let u = tells-and _ _ (is-reached (0 + k)) (tells-lt normLimit (v (0 + k))) .fact t in omega (arith, at-v (0 + k) (u .0) .1, u .1)))
     where
       v : ℕ → ℕ
       v = kindNorm (cardOf s)
 
-      at-v : (k : ℕ) → k < kindCount s → (0 < v k) × (v k ≤ normLimit)
+      r : ℕ → Bool
+      r = reached (cardOf s)
+
+      is-reached : (k : ℕ) → Tells (r k) (Reached (cardOf s) k)
+      is-reached k = record { fact = sheet-reaches s .test-iff k .0; test = sheet-reaches s .test-iff k .1 }
+
+      at-v : (k : ℕ) → Reached (cardOf s) k → (0 < v k) × (v k ≤ normLimit)
       at-v k h = found k h
 
   -- "Every sheet within the written limits" is accepted.
@@ -81,18 +86,28 @@ module _ (s : List ℕ) (ok : Accepted s) where
 
   pub limit-of : (k : ℕ) → k < kindCount s → kindNorm (cardOf s) k ≤ normLimit
   unfolding normChecks
-  limit-of k h =
-      let z : 0 + k ≡ k = omega arith in
-      let e = then-clear (firstOf (listFrom (λ k. check 9 k (eqb (v k) 0)) 0 (kindCount s))) (firstOf (listFrom (λ k. check 10 k (ltb normLimit (v k))) 0 (kindCount s)))
-      (sym (first-append (listFrom (λ k. check 9 k (eqb (v k) 0)) 0 (kindCount s)) (listFrom (λ k. check 10 k (ltb normLimit (v k))) 0 (kindCount s))) ∙ clears .2) .1 in
-      (from-less normLimit (v k) (rw z at (each-none 10 (λ k. ltb normLimit (v k)) 0 (kindCount s) e k h)))
+  limit-of k h = go (decLt normLimit (v k))
     where
       v : ℕ → ℕ
       v = kindNorm (cardOf s)
 
-  kinds-are : cardOf s .kinds ≡ kindCount s
-  unfolding cardOf
-  kinds-are = refl
+      r : ℕ → Bool
+      r = reached (cardOf s)
+
+      zero-left : 0 + k ≡ k
+      zero-left = omega arith
+
+      tens : firstOf (listFrom (λ k. check 10 k (both (r k) (ltb normLimit (v k)))) 0 (kindCount s)) ≡ clear
+      tens =
+          then-clear (firstOf (listFrom (λ k. check 9 k (both (r k) (eqb (v k) 0))) 0 (kindCount s))) _
+          (sym (first-append (listFrom (λ k. check 9 k (both (r k) (eqb (v k) 0))) 0 (kindCount s)) (listFrom (λ k. check 10 k (both (r k) (ltb normLimit (v k)))) 0 (kindCount s))) ∙ clears .2) .1
+
+      not-over : ¬ T (both (r k) (ltb normLimit (v k)))
+      not-over = rw zero-left at (each-none 10 (λ k. both (r k) (ltb normLimit (v k))) 0 (kindCount s) tens k h)
+
+      go : Dec (normLimit < v k) → v k ≤ normLimit
+      go (yes q) = absurd (not-over (tells-and _ _ (tells-reached s ok k) (tells-lt normLimit (v k)) .test (certified s ok .out k (omega arith), q)))
+      go (no q) = omega arith
 
   pub accepted-limits : Limits s
   unfolding headerChecks lineChecks
@@ -120,5 +135,5 @@ module _ (s : List ℕ) (ok : Accepted s) where
             let y = cons-none 8 _ _ _ (x .1) in
             let u : (lineOf s (0 + j) .kind < kindCount s) × (lineOf s (0 + j) .code < codeCount s) = (small _ _ (x .0), small _ _ (y .0)) in
             rw z at u;
-        norm = λ k h. (kindNorm (cardOf s) k, limit-of k h, norms (cardOf s) (tame s (sheet-clear s ok)) .kinds k (omega (arith, h, kinds-are)) (positive s ok k h));
+        norm = λ k v. (kindNorm (cardOf s) k, limit-of k (under-kinds s k v), norms (cardOf s) (tame s (sheet-clear s ok)) .kinds k (positive s ok k v) .1);
       }

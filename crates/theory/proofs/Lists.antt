@@ -103,7 +103,7 @@ least-cases p i (suc m) = go (p i) refl (least-cases p (suc i) m)
         at k h l (yes q) t = rw (ap p q ∙ e) at t
         at k h l (no q) t = r .2 k (omega arith) l t
 
-is-true : (b : Bool) → T b → b ≡ true
+pub is-true : (b : Bool) → T b → b ≡ true
 is-true true t = refl
 is-true false t = absurd t
 

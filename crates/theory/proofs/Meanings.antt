@@ -8,8 +8,10 @@ use Rattle.model.specs.Card.{Line, Card, fire}
 use Rattle.theory.specs.Expansion.{Bisimulation, StepBisimulation}
 use Rattle.theory.specs.Game.{Side, first, second, sideOf, Turn, Answered}
 use Rattle.theory.specs.Meanings.{Games, Meanings}
-use Rattle.theory.proofs.Plays.{parts, parted-not}
-use Rattle.theory.proofs.Sheets.{firsts}
+use Rattle.theory.proofs.Plays.{parts as parted, parted-not}
+use Rattle.theory.proofs.Sheets.{firsts, sheet-reaches}
+use Rattle.theory.proofs.Used.{used}
+use Rattle.theory.proofs.Part.{parts}
 use Rattle.theory.proofs.Gain.{sheet-norms}
 use Rattle.theory.proofs.Headers.{headers}
 use Rattle.theory.proofs.Places.{sheet-places}
@@ -30,7 +32,7 @@ games : (c : Card) → Games c
 unfolding Answered
 games c = record {
   passed-over = λ f K past hs h a b n. turn-passed c (h .line) (f past h) (Answered c f K (h ∷ past) hs) (h .side) a b n;
-  parted-iff = λ r a b. (parted-not c r a b, parts c r a b);
+  parted-iff = λ r a b. (parted-not c r a b, parted c r a b);
 }
 
 -- Steps answered, read by read.
@@ -57,4 +59,4 @@ steps L R = (
 )
 
 pub meanings {ℓ} : Meanings {ℓ}
-meanings = record { firsts = firsts; headers = headers; places = sheet-places; norms = sheet-norms; steps = steps; games = games; walks = walks; settles = sheet-settles; primes = λ s ok. sheet-primes s ok; decimals = decimals; pages = pages; widths = widths; days = days; shelves = shelves; entries-fit = entries-fit; squads = λ s ok i j. squads s ok i j }
+meanings = record { firsts = firsts; headers = headers; places = sheet-places; reaches = sheet-reaches; used = used; parts = parts; norms = sheet-norms; steps = steps; games = games; walks = walks; settles = sheet-settles; primes = λ s ok. sheet-primes s ok; decimals = decimals; pages = pages; widths = widths; days = days; shelves = shelves; entries-fit = entries-fit; squads = λ s ok i j. squads s ok i j }

@@ -91,3 +91,13 @@ pub expands-plus {ℓ} : (L : Line → Type 0) (R Q S : Field → Field → Type
     → Expands L R a b → Expands L Q c d → Expands L S (a ⊕ c) (b ⊕ d)
 expands-plus L R Q S a b c d f g x y =
     (sim-plus L R Q S a b c d f g (x .0) (y .0), sim-plus L (flip R) (flip Q) (flip S) b a d c (λ u v. f v u) (λ u v. g v u) (x .1) (y .1))
+
+-- By other lines, where each that a side can use is one of both sorts.
+sim-on {ℓ} : (L M : Line → Type 0) (R : Field → Field → Type ℓ) (a b : Field) → ((l : Line) → M l → 0 < a (l .kind) → L l) → ((l : Line) → L l → 0 < b (l .kind) → M l)
+    → Simulates L R a b → Simulates M R a b
+sim-on L M R a b f g s l o h = let r = s l (f l o h) h in record { line = r .line; on = g (r .line) (r .on) (r .can); can = r .can; same = r .same; rel = r .rel }
+
+pub expands-on {ℓ} : (L M : Line → Type 0) (R : Field → Field → Type ℓ) (a b : Field)
+    → ((l : Line) → M l → 0 < a (l .kind) → L l) → ((l : Line) → M l → 0 < b (l .kind) → L l)
+    → ((l : Line) → L l → 0 < a (l .kind) → M l) → ((l : Line) → L l → 0 < b (l .kind) → M l) → Expands L R a b → Expands M R a b
+expands-on L M R a b f g f′ g′ x = (sim-on L M R a b f g′ (x .0), sim-on L M (flip R) b a g f′ (x .1))

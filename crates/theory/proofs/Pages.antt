@@ -11,17 +11,20 @@ use lib.Dec.{T, ltb, eqb}
 use lib.ListN.{length, take, drop, getD, length-take}
 use lib.Seq.{take-all, getD-take, getD-drop}
 use Rattle.model.specs.Field.{Field, unit, at}
-use Rattle.model.specs.Base.{settledRow}
+use Rattle.model.specs.Card.{Reached, reached}
+use Rattle.model.specs.Norm.{kindNorm}
+use Rattle.model.specs.Base.{settledStage, settledRow}
 use Rattle.model.specs.Sheet.{byte, u32At, kindCount, codeCount, lineCount, fieldCount, fieldsOffset, totalOf, cardOf}
 use Rattle.model.specs.Limits.{mostKinds, mostCodes, mostLines, mostFields, mostInput}
 use Rattle.model.specs.Refusal.{Check, check, Finding, clear, refusal, firstOf, outside, differ, headerChecks, lineChecks, normChecks, sheetChecks, Accepted}
 use Rattle.model.specs.Answer.{tableOf, rowOf, rowCheckOf}
-use Rattle.model.specs.Page.{itself, refusedLine, pageOf, printed}
+use Rattle.model.specs.Page.{bytes, number, newline, itself, wordsOf, kindLine, refusedLine, pageOf, printed}
 use Rattle.theory.specs.Terms.{Earlier, Before, Prime}
 use Rattle.theory.specs.Meanings.{Pages}
 use Rattle.theory.proofs.Field.{unit-same}
 use Rattle.theory.proofs.Exec.{Tells, tells-eq}
-use Rattle.theory.proofs.Sheets.{then, first-append, not-less}
+use Rattle.theory.proofs.Sheets.{then, first-append, not-less, sheet-reaches, tells-reached}
+use Rattle.theory.proofs.Reach.{dec-tells}
 use Rattle.theory.proofs.Checks.{from-outside, from-less, cons-none}
 use Rattle.theory.proofs.Limits.{accepted-limits}
 use Rattle.theory.proofs.Answers.{demand1}
@@ -159,12 +162,8 @@ module _ (s : List ℕ) where
         ap (λ (r : List ℕ). getD r j 0) (demand1 s .row-part n k (tableOf s) (row-clear k h)) ∙ getD-take n (drop (k * n) (tableOf s)) j 0 i
         ∙ getD-drop (k * n) (tableOf s) j 0 ∙ demand1 s .table-row k j h i
 
-    kinds-is : cardOf s .kinds ≡ n
-    unfolding cardOf
-    kinds-is = refl
-
-    own : (k : ℕ) → k < n → (settledRow (cardOf s) k k ≡ 1) ↔ (settledRow (cardOf s) k ≡ unit k)
-    own k h = ((λ e. go e (sheet-settles s ok .final .counts k (omega (arith, kinds-is)))), (λ e. ap (λ (f : Field). f k) e ∙ unit-same k))
+    own : (k : ℕ) → Reached (cardOf s) k → (settledRow (cardOf s) k k ≡ 1) ↔ (settledRow (cardOf s) k ≡ unit k)
+    own k v = ((λ e. go e (sheet-settles s ok .final .counts k v)), (λ e. ap (λ (f : Field). f k) e ∙ unit-same k))
       where
         not-earlier : ¬ Earlier (cardOf s) k k
         not-earlier (inl p) = omega arith
@@ -176,13 +175,55 @@ module _ (s : List ℕ) where
 
     prime-word {ℓ} : (k : ℕ) → k < n → T (itself k (rowOf n k (tableOf s))) ↔ Prime {ℓ} (cardOf s) k
     unfolding itself
-    prime-word k h =
-        let r = at (rowOf n k (tableOf s)) k in
-        let e = row-shown k k h h in
-        let p = sheet-primes s ok .own-row k (omega (arith, kinds-is)) in (
-          (λ t. p .0 (own k h .0 (sym e ∙ tells-eq r 1 .fact t))),
-          (λ x. tells-eq r 1 .test (e ∙ own k h .1 (p .1 x))),
+    prime-word k h = go (dec-tells _ (tells-reached s ok k))
+      where
+        r : ℕ
+        r = at (rowOf n k (tableOf s)) k
+
+        e : r ≡ settledRow (cardOf s) k k
+        e = row-shown k k h h
+
+        go : Dec (Reached (cardOf s) k) → T (eqb r 1) ↔ Prime {ℓ} (cardOf s) k
+        go (yes v) =
+            let p = sheet-primes s ok .own-row k v in (
+              (λ t. p .0 (own k v .0 (sym e ∙ tells-eq r 1 .fact t))),
+              (λ x. tells-eq r 1 .test (e ∙ own k v .1 (p .1 x))),
+            )
+        go (no n) = (
+          (λ t. absurd (omega (arith, e, tells-eq r 1 .fact t, ap (λ (f : Field). f k) (sheet-settles s ok .out-row (settledStage (cardOf s)) k n)))),
+          (λ x. absurd (n (x .0))),
         )
 
+  -- The line of a kind, reached or out.
+  abbrev Words : Bool → ℕ → List ℕ
+  Words b k = bytes "kind " ++ number k ++ elim b as (λ _. List ℕ) [ true ↦ wordsOf s (tableOf s) (kindNorm (cardOf s)) k | false ↦ bytes " out" ] ++ newline
+
+  line-is : (k : ℕ) → kindLine s (tableOf s) (kindNorm (cardOf s)) k ≡ Words (reached (cardOf s) k) k
+  unfolding kindLine
+  line-is k = refl
+
+  out-line : (k : ℕ) → ¬ Reached (cardOf s) k → kindLine s (tableOf s) (kindNorm (cardOf s)) k ≡ bytes "kind " ++ number k ++ bytes " out" ++ newline
+  out-line k n = line-is k ∙ go (reached (cardOf s) k) (sheet-reaches s .test-iff k .0)
+    where
+      go : (b : Bool) → (T b → Reached (cardOf s) k) → Words b k ≡ bytes "kind " ++ number k ++ bytes " out" ++ newline
+      go true f = absurd (n (f tt))
+      go false f = refl
+
+  reached-line : (k : ℕ) → Reached (cardOf s) k
+      → kindLine s (tableOf s) (kindNorm (cardOf s)) k ≡ bytes "kind " ++ number k ++ wordsOf s (tableOf s) (kindNorm (cardOf s)) k ++ newline
+  reached-line k v = line-is k ∙ go (reached (cardOf s) k) (sheet-reaches s .test-iff k .1)
+    where
+      go : (b : Bool) → (Reached (cardOf s) k → T b) → Words b k ≡ bytes "kind " ++ number k ++ wordsOf s (tableOf s) (kindNorm (cardOf s)) k ++ newline
+      go true f = refl
+      go false f = absurd (f v)
+
 pub pages {ℓ} : (s : List ℕ) → Pages {ℓ} s
-pages s = record { whole = whole s; longest = refl; too-long = long-refused s; row-shown = row-shown s; prime-word = λ ok. prime-word s ok }
+pages s = record {
+  whole = whole s;
+  longest = refl;
+  too-long = long-refused s;
+  out-line = out-line s;
+  reached-line = reached-line s;
+  row-shown = row-shown s;
+  prime-word = λ ok. prime-word s ok;
+}

@@ -63,14 +63,14 @@ module _ (c : Card) where
   parted-parting (suc r) a b (inr x) = by-second (x .0) (x .1) (x .2) (λ m p. parted-parting r _ _ (x .3 m p))
 
   -- No choice of challenges parts a pair of a relation whose pairs of fields in I satisfy expansion in it.
-  pub parting-not : (R : Field → Field → Type 0) (I : Field → Type 0) → ((l : Line) → On c l → (a : Field) → I a → I (fire l a))
+  pub parting-not : (R : Field → Field → Type 0) (I : Field → Type 0) → ((l : Line) → On c l → (a : Field) → 0 < a (l .kind) → I a → I (fire l a))
       → ((a b : Field) → I a → I b → R a b → Expands (On c) R a b) → {a b : Field} → Parting c a b → I a → I b → R a b → ⊥
   parting-not R I keep B (by-first {a = a} {b = b} l o h f) u v p =
       let m = B a b u v p .0 l o h in
-      parting-not R I keep B (f (m .line) (m .on, m .can, m .same)) (keep l o a u) (keep (m .line) (m .on) b v) (m .rel)
+      parting-not R I keep B (f (m .line) (m .on, m .can, m .same)) (keep l o a h u) (keep (m .line) (m .on) b (m .can) v) (m .rel)
   parting-not R I keep B (by-second {a = a} {b = b} l o h f) u v p =
       let m = B a b u v p .1 l o h in
-      parting-not R I keep B (f (m .line) (m .on, m .can, m .same)) (keep (m .line) (m .on) a u) (keep l o b v) (m .rel)
+      parting-not R I keep B (f (m .line) (m .on, m .can, m .same)) (keep (m .line) (m .on) a (m .can) u) (keep l o b h v) (m .rel)
 
   -- A strategy that answers every list of challenges keeps the pair at every number of rounds.
   pub strategy-holds : (f : Strategy c) (r : ℕ) (past : List (Challenge c)) (a b : Field)
@@ -102,7 +102,7 @@ module _ (c : Card) where
 
   -- A relation that is decided, and whose pairs of fields in I satisfy expansion in it, gives a strategy: reply by the first line that leaves a
   -- related pair, the pair being the one that the challenges so far and these replies to them have left.
-  module _ (R : Field → Field → Type 0) (d : (x y : Field) → Dec (R x y)) (I : Field → Type 0) (keep : (l : Line) → On c l → (a : Field) → I a → I (fire l a))
+  module _ (R : Field → Field → Type 0) (d : (x y : Field) → Dec (R x y)) (I : Field → Type 0) (keep : (l : Line) → On c l → (a : Field) → 0 < a (l .kind) → I a → I (fire l a))
       (B : (a b : Field) → I a → I b → R a b → Expands (On c) R a b) where
     abbrev Good : Field → Field → Type 0
     Good a b = I a × I b × R a b
@@ -180,7 +180,7 @@ module _ (c : Card) where
               let m = sym (strategy-is h past first e) in (
                 subst (λ (x : Line). Replies c (h .line) x (s .1)) m (u .0),
                 subst (Goes (h ∷ past) hs) q g
-                    (subst (λ (x : Line). Good (fire (h .line) (s .0)) (fire x (s .1))) m (keep (h .line) (h .on) (s .0) (p .0), keep _ (u .0 .0) (s .1) (p .1), u .1)),
+                    (subst (λ (x : Line). Good (fire (h .line) (s .0)) (fire x (s .1))) m (keep (h .line) (h .on) (s .0) can (p .0), keep _ (u .0 .0) (s .1) (u .0 .1) (p .1), u .1)),
               )),
           (λ n. subst (Goes (h ∷ past) hs) (state-next h past first e ∙ after-no (decLt 0 (s .0 (h .line .kind))) (fire (h .line) (s .0), fire (strategy past h) (s .1)) s n) g p),
         )
@@ -194,7 +194,7 @@ module _ (c : Card) where
               let m = sym (strategy-is h past second e) in (
                 subst (λ (x : Line). Replies c (h .line) x (s .0)) m (u .0),
                 subst (Goes (h ∷ past) hs) q g
-                    (subst (λ (x : Line). Good (fire x (s .0)) (fire (h .line) (s .1))) m (keep _ (u .0 .0) (s .0) (p .0), keep (h .line) (h .on) (s .1) (p .1), u .1)),
+                    (subst (λ (x : Line). Good (fire x (s .0)) (fire (h .line) (s .1))) m (keep _ (u .0 .0) (s .0) (u .0 .1) (p .0), keep (h .line) (h .on) (s .1) can (p .1), u .1)),
               )),
           (λ n. subst (Goes (h ∷ past) hs) (state-next h past second e ∙ after-no (decLt 0 (s .1 (h .line .kind))) (fire (strategy past h) (s .0), fire (h .line) (s .1)) s n) g p),
         )

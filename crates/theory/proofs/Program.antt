@@ -1,18 +1,20 @@
 -- What a program that settles a card tests, in the model's words: equal forms for related fields, and few candidates for a row.
+use mathlib.Core.Bool.{Bool, true, false}
 use mathlib.Core.Logic.{_↔_, _⊎_, inl, inr}
-use mathlib.Core.Path.{_≡_, sym, _∙_, ap, fun-ext}
-use Prim.Native.Nat.{ℕ, suc, _+_, _<_}
+use mathlib.Core.Path.{_≡_, refl, sym, _∙_, ap, fun-ext}
+use Prim.Native.Nat.{ℕ, suc, _+_, _*_, _<_}
 use native.Mathlib.Decide.{decLt}
 use native.Mathlib.Omega.{arith}
 use lib.Dec.{T}
-use Rattle.model.specs.Field.{Field, _⊕_, unit}
-use Rattle.model.specs.Card.{Line, Card, On, fire}
+use Rattle.model.specs.Field.{Field, none, _⊕_, unit, weigh}
+use Rattle.model.specs.Card.{Line, Card, On, reached, Reached, fire}
 use Rattle.model.specs.Norm.{normBy}
 use Rattle.theory.specs.Expansion.{Expands}
 use Rattle.model.specs.Stage.{equalNorm, stage}
 use Rattle.theory.specs.Stages.{Lowers}
 use Rattle.model.specs.Base.{earlier, row, formAt}
-use Rattle.theory.specs.Terms.{OfKinds}
+use Rattle.theory.specs.Terms.{OfKinds, OnReached}
+use Rattle.theory.proofs.Field.{weigh-each}
 use Rattle.theory.proofs.Moves.{expands-map, weigh-fire}
 use Rattle.theory.proofs.Normed.{Normed}
 use Rattle.theory.proofs.Stages.{Stage, level, level-cong}
@@ -23,16 +25,17 @@ use Rattle.theory.proofs.Settle.{tidy-within}
 use Rattle.theory.proofs.Decide.{Finite}
 use Rattle.theory.proofs.Count.{past, past-whole, level-low, level-base}
 use Rattle.theory.proofs.Exec.{Tells}
-use Rattle.theory.proofs.Certified.{Found}
-use Rattle.theory.proofs.Rows.{finite, tells-earlier, row-is, form-is}
+use Rattle.theory.proofs.Certified.{Found, under, left-reached}
+use Rattle.theory.proofs.Reach.{fire-kinds}
+use Rattle.theory.proofs.Rows.{finite, tells-earlier, row-is, row-out, form-is}
 use Rattle.theory.proofs.Plain.{plain, tidy, tells-equal, tells-plain, stages}
 
-module _ (c : Card) (w : ℕ → ℕ) (F : Found (c .lines) (c .kinds) w) where
+module _ (c : Card) (w : ℕ → ℕ) (F : Found c w) where
   abbrev N : Normed
   N = plain c w F
 
   abbrev fin : Finite (N .on)
-  fin = finite N (c .lines) (λ l o. o) (λ l o. o) (F .positive) (equalNorm c w) (tells-equal c w F)
+  fin = finite c w (λ _. 0) F (equalNorm c w) (tells-equal c w F)
 
   -- The form of a field at stage q + 1; two fields of equal forms.
   abbrev pub formBy : ℕ → Field → Field
@@ -44,30 +47,23 @@ module _ (c : Card) (w : ℕ → ℕ) (F : Found (c .lines) (c .kinds) w) where
   abbrev pub rowBy : ℕ → ℕ → Field
   rowBy q k = row c w (stage c w) (suc q) k
 
-  pub theirs : (q : ℕ) (a : Field) → formBy q a ≡ form N (level N q) (past N fin) (level-base N fin q) a
+  pub theirs : (q : ℕ) (a : Field) → OfKinds c a → formBy q a ≡ form N (level N q) (past N fin) (level-base N fin q) a
   unfolding stage
-  theirs q a = form-is N (c .lines) (λ l o. o) (λ l o. o) (F .positive) (equalNorm c w) (tells-equal c w F) q a
+  theirs q a u = form-is c w (λ _. 0) F (equalNorm c w) (tells-equal c w F) q a u
 
-  row-of : (q k : ℕ) → k < c .kinds → rowBy q k ≡ level-base N fin q .row k
+  row-of : (q k : ℕ) → Reached c k → rowBy q k ≡ level-base N fin q .row k
   unfolding stage
-  row-of q k h = row-is N (c .lines) (λ l o. o) (λ l o. o) (F .positive) (equalNorm c w) (tells-equal c w F) q k h
+  row-of q k h = row-is c w (λ _. 0) F (equalNorm c w) (tells-equal c w F) q k h
 
   tells-level : (q : ℕ) (a b : Field) → Tells (stage c w (suc q) a b) (level N q a b)
   unfolding Stage
   tells-level q a b = tells-plain c w F (suc q) a b
 
-  pub fire-kinds : (l : Line) (a : Field) → On c l → OfKinds c a → OfKinds c (fire l a)
-  fire-kinds l a o f k h = go (decLt 0 (a k))
-    where
-      go : Dec (0 < a k) → k < c .kinds
-      go (yes p) = f k p
-      go (no p) = F .counts l o k (omega arith)
-
   -- A stage from 1 up relates the fields of equal forms.
   pub stage-forms : (q : ℕ) (a b : Field) → OfKinds c a → OfKinds c b → T (stage c w (suc q) a b) ↔ Equal q a b
   stage-forms q a b u v = (
-    (λ t. theirs q a ∙ i .0 (tells-level q a b .fact t) ∙ sym (theirs q b)),
-    (λ e. tells-level q a b .test (i .1 (sym (theirs q a) ∙ e ∙ theirs q b))),
+    (λ t. theirs q a u ∙ i .0 (tells-level q a b .fact t) ∙ sym (theirs q b v)),
+    (λ e. tells-level q a b .test (i .1 (sym (theirs q a u) ∙ e ∙ theirs q b v))),
   )
     where
       within : (x : Field) → OfKinds c x → Within N (past N fin) x
@@ -83,8 +79,8 @@ module _ (c : Card) (w : ℕ → ℕ) (F : Found (c .lines) (c .kinds) w) where
 
     pub expands-forms : Expands L Related a b ↔ Expands L (Equal q) a b
     expands-forms = (
-      expands-map L Related (Equal q) a b (λ l m o _ p _. stage-forms q _ _ (fire-kinds l a (in-card l o) u) (fire-kinds m b (in-card m p) v) .0),
-      expands-map L (Equal q) Related a b (λ l m o _ p _. stage-forms q _ _ (fire-kinds l a (in-card l o) u) (fire-kinds m b (in-card m p) v) .1),
+      expands-map L Related (Equal q) a b (λ l m o h p i. stage-forms q _ _ (fire-kinds c l a (in-card l o, u (l .kind) h) u) (fire-kinds c m b (in-card m p, v (m .kind) i) v) .0),
+      expands-map L (Equal q) Related a b (λ l m o h p i. stage-forms q _ _ (fire-kinds c l a (in-card l o, u (l .kind) h) u) (fire-kinds c m b (in-card m p, v (m .kind) i) v) .1),
     )
 
   module _ (a b : Field) (u : OfKinds c a) (v : OfKinds c b) where
@@ -92,10 +88,10 @@ module _ (c : Card) (w : ℕ → ℕ) (F : Found (c .lines) (c .kinds) w) where
     pub test-one : Equal 0 a b ↔ ((normBy c w a ≡ normBy c w b) × Expands (Lowers c w) (Equal 0) a b)
     test-one =
         let f = stage-forms 0 a b u v in
-        let e = expands-forms (Lowers c w) (λ l o. o .0) 0 a b u v in
+        let e = expands-forms (Lowers c w) (λ l o. o .0 .0) 0 a b u v in
         let S = stages c w F in (
-          (λ x. let y = S .one a b .0 (f .1 x) in (S .start a b .0 (y .0), e .0 (y .1))),
-          (λ x. f .0 (S .one a b .1 (S .start a b .1 (x .0), e .1 (x .1)))),
+          (λ x. let y = S .one a b u v .0 (f .1 x) in (S .start a b u v .0 (y .0), e .0 (y .1))),
+          (λ x. f .0 (S .one a b u v .1 (S .start a b u v .1 (x .0), e .1 (x .1)))),
         )
 
     pub test-next : (q : ℕ) → Equal (suc q) a b ↔ (Equal q a b × Expands (On c) (Equal q) a b × Expands (Lowers c w) (Equal (suc q)) a b)
@@ -103,10 +99,10 @@ module _ (c : Card) (w : ℕ → ℕ) (F : Found (c .lines) (c .kinds) w) where
         let f = stage-forms (suc q) a b u v in
         let g = stage-forms q a b u v in
         let d = expands-forms (On c) (λ l o. o) q a b u v in
-        let e = expands-forms (Lowers c w) (λ l o. o .0) (suc q) a b u v in
+        let e = expands-forms (Lowers c w) (λ l o. o .0 .0) (suc q) a b u v in
         let S = stages c w F in (
-          (λ x. let y = S .next q a b .0 (f .1 x) in (g .0 (y .0), d .0 (y .1), e .0 (y .2))),
-          (λ x. f .0 (S .next q a b .1 (g .1 (x .0), d .1 (x .1), e .1 (x .2)))),
+          (λ x. let y = S .next q a b u v .0 (f .1 x) in (g .0 (y .0), d .0 (y .1), e .0 (y .2))),
+          (λ x. f .0 (S .next q a b u v .1 (g .1 (x .0), d .1 (x .1), e .1 (x .2)))),
         )
 
   -- What a line does to a form, and when two lines leave equal forms where the forms were equal: that depends on the lines alone.
@@ -121,6 +117,41 @@ module _ (c : Card) (w : ℕ → ℕ) (F : Found (c .lines) (c .kinds) w) where
     (λ x. fun-ext (λ j. omega (arith, form-fire q l a o h j, form-fire q m b p i j, ap (λ (f : Field). f j) e, ap (λ (f : Field). f j) x))),
   )
 
+  -- The tokens of reached kinds: the others add nothing to a form or a norm. (So lines of kinds that are out may stand in a table of forms.)
+  pub kept : Field → Field
+  kept a k = elim (reached c k) [ true ↦ a k | false ↦ 0 ]
+
+  pub kept-kinds : (a : Field) → OfKinds c (kept a)
+  unfolding kept
+  kept-kinds a k h = go (reached c k) (F .reach .test-iff k .0) h
+    where
+      go : (b : Bool) → (T b → Reached c k) → 0 < (elim b as (λ _. ℕ) [ true ↦ a k | false ↦ 0 ]) → Reached c k
+      go true f q = f tt
+      go false f q = absurd (omega arith)
+
+  kept-weigh : (v : ℕ → ℕ) → ((k : ℕ) → ¬ Reached c k → v k ≡ 0) → (a : Field) → weigh (c .kinds) v (kept a) ≡ weigh (c .kinds) v a
+  unfolding kept
+  kept-weigh v z a = weigh-each (c .kinds) v (kept a) a (λ k. go k (reached c k) (F .reach .test-iff k .1))
+    where
+      go : (k : ℕ) (b : Bool) → (Reached c k → T b) → (elim b as (λ _. ℕ) [ true ↦ a k | false ↦ 0 ]) * v k ≡ a k * v k
+      go k true f = refl
+      go k false f = let e = z k (λ x. absurd (f x)) in rw e (omega arith)
+
+  pub kept-norm : (a : Field) → normBy c w (kept a) ≡ normBy c w a
+  kept-norm a = kept-weigh w (λ k n. out k n (decLt 0 (w k))) a
+    where
+      out : (k : ℕ) → ¬ Reached c k → Dec (0 < w k) → w k ≡ 0
+      out k n (yes h) = absurd (n (F .out k h))
+      out k n (no h) = omega arith
+
+  pub row-none : (q k : ℕ) → ¬ Reached c k → rowBy q k ≡ none
+  unfolding stage
+  row-none q k n = row-out c w (λ _. 0) F (equalNorm c w) (tells-equal c w F) (suc q) k n
+
+  pub kept-form : (q : ℕ) (a : Field) → formBy q (kept a) ≡ formBy q a
+  unfolding formAt
+  kept-form q a = fun-ext (λ j. kept-weigh (λ k. rowBy q k j) (λ k n. ap (λ (x : Field). x j) (row-none q k n)) a)
+
   -- The candidates: whatever line l of a kind that lowers the norm is asked, if the kind is no atom its row is told by l and by a line m of an
   -- earlier atom, of l's code, that lowers the norm.
   pub record Candidate (q k : ℕ) (l : Line) : Type 0 where
@@ -131,9 +162,15 @@ module _ (c : Card) (w : ℕ → ℕ) (F : Found (c .lines) (c .kinds) w) where
     pub code : line .code ≡ l .code
     pub row-told : rowBy q k ⊕ formBy q (line .left) ≡ unit (line .kind) ⊕ formBy q (l .left)
 
-  pub row-candidate : (q k : ℕ) → k < c .kinds → ¬ (rowBy q k ≡ unit k) → (l : Line) → Lowers c w l → l .kind ≡ k → Candidate q k l
-  row-candidate q k h n l o e = go (D .sort k h (F .positive k h) (past-whole N fin k h))
+  pub row-candidate : (q k : ℕ) → Reached c k → ¬ (rowBy q k ≡ unit k) → (l : Line) → Lowers c w l → l .kind ≡ k → Candidate q k l
+  row-candidate q k v n l o e = go (D .sort k h (F .positive k v) (past-whole N fin k h))
     where
+      h : k < c .kinds
+      h = under c w F k v
+
+      kinds : (m : Line) → OnReached c m → OfKinds c (m .left)
+      kinds m i j p = left-reached c w F m i j p
+
       R : Field → Field → Type 0
       R = level N q
 
@@ -141,18 +178,18 @@ module _ (c : Card) (w : ℕ → ℕ) (F : Found (c .lines) (c .kinds) w) where
       D = level-base N fin q
 
       go : (Atom (D .row) k × Prime N R k) ⊎ Made N (D .row) k → Candidate q k l
-      go (inl p) = absurd (n (row-of q k h ∙ p .0))
+      go (inl p) = absurd (n (row-of q k v ∙ p .0))
       go (inr m) =
           let W = past-whole N fin in
           let t = candidate N R (past N fin) D (level-cong N q) (level-low N fin q) k (omega (arith, W k h)) (D .row k)
-          ((λ j i. let u = m j i in (u .0, u .1, W j (u .0))), (λ j i. m j i .3)) (D .rel k h (F .positive k h) (W k h)) l o e in
+          ((λ j i. let u = m j i in (u .0, u .1, W j (u .0))), (λ j i. m j i .3)) (D .rel k h (F .positive k v) (W k h)) l o e in
           let y = t .0 in
           let u = m (y .kind) (t .2) in
           record {
             line = y;
             lowers = t .1;
-            before = tells-earlier N (c .lines) (λ l o. o) (λ l o. o) (F .positive) (equalNorm c w) (tells-equal c w F) k (y .kind) h (u .0) .test (u .2);
-            own = row-of q (y .kind) (u .0) ∙ u .3;
+            before = tells-earlier c w (λ _. 0) F (equalNorm c w) (tells-equal c w F) k (y .kind) h (u .0) .test (u .2);
+            own = row-of q (y .kind) (F .out (y .kind) (u .1)) ∙ u .3;
             code = t .3;
-            row-told = rw (row-of q k h, theirs q (y .left), theirs q (l .left)) (t .4);
+            row-told = rw (row-of q k v, theirs q (y .left) (kinds y (t .1 .0)), theirs q (l .left) (kinds l (o .0))) (t .4);
           }

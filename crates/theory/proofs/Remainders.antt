@@ -1,6 +1,6 @@
 -- Joined fields under a bisimulation: a part may be exchanged for one that is related to it, and where one part can be cleared the other has a match.
 use mathlib.Core.Path.{_≡_, ap, _∙_, fun-ext}
-use Prim.Native.Nat.{ℕ, zero, suc}
+use Prim.Native.Nat.{ℕ, zero, suc, _<_}
 use native.Mathlib.Omega.{arith}
 use Rattle.model.specs.Field.{Field, _⊕_}
 use Rattle.model.specs.Card.{Line, Card, On, fire}
@@ -52,10 +52,10 @@ module _ {ℓ} (L : Line → Type 0) (R : Field → Field → Type ℓ) (B : Bis
 
 -- Where y can be cleared, what is related to y joined with z leads to what is related to z.
 module _ {ℓ} (c : Card) (R : Field → Field → Type ℓ) (B : Bisimulation (On c) R)
-    (kept : (l : Line) (a : Field) → On c l → OfKinds c a → OfKinds c (fire l a)) where
+    (kept : (l : Line) (a : Field) → On c l → 0 < a (l .kind) → OfKinds c a → OfKinds c (fire l a)) where
   pub left-over : (r : ℕ) (y z a : Field) → OfKinds c a → Clears (On c) r y → R a (y ⊕ z) → (x : Field) × OfKinds c x × R x z
   unfolding Clears
   left-over zero y z a u e p = (a, u, let h : y ⊕ z ≡ z = ap (λ (f : Field). f ⊕ z) e ∙ fun-ext (λ k. omega arith) in rw h at p)
   left-over (suc r) y z a u (l, o, h, t) p =
       let w = B a (y ⊕ z) p .1 l o (omega arith) in
-      left-over r (fire l y) z (fire (w .line) a) (kept (w .line) a (w .on) u) t (rw (fire-left l y z h) at (w .rel))
+      left-over r (fire l y) z (fire (w .line) a) (kept (w .line) a (w .on) (w .can) u) t (rw (fire-left l y z h) at (w .rel))

@@ -6,12 +6,12 @@ use Prim.Native.Nat.{ℕ, zero, suc, _≤_, _<_}
 use native.Mathlib.Decide.{decLt}
 use native.Mathlib.Omega.{arith}
 use lib.Dec.{T}
-use Rattle.model.specs.Field.{Field, unit}
-use Rattle.model.specs.Card.{Card, On}
+use Rattle.model.specs.Field.{Field, none, unit}
+use Rattle.model.specs.Card.{Card, Reached}
 use Rattle.model.specs.Norm.{kindNorm}
 use Rattle.model.specs.Stage.{equalNorm, stage}
 use Rattle.model.specs.Base.{row, settledStage, settledRow}
-use Rattle.theory.specs.Terms.{Earlier, Before, BaseOf, Settled}
+use Rattle.theory.specs.Terms.{Earlier, Before, BaseOf, Settled, OnReached}
 use Rattle.theory.specs.Meanings.{Settles, Primes}
 use Rattle.model.specs.Sheet.{cardOf}
 use Rattle.model.specs.Refusal.{Accepted}
@@ -25,16 +25,17 @@ use Rattle.theory.proofs.Decide.{Finite}
 use Rattle.theory.proofs.Count.{past, past-whole, level-low, level-base}
 use Rattle.theory.proofs.Further.{rows-unique, atom-prime, prime-atom}
 use Rattle.theory.proofs.Exec.{Tells}
-use Rattle.theory.proofs.Certified.{Found, gain-most}
-use Rattle.theory.proofs.Rows.{finite, order-iff, row-is}
-use Rattle.theory.proofs.Plain.{plain, tidy, tells-equal, tells-plain, stages}
+use Rattle.theory.proofs.Certified.{Found, gain-most, under}
+use Rattle.theory.proofs.Reach.{all-expands, expands-reached}
+use Rattle.theory.proofs.Rows.{finite, order-iff, row-is, row-out}
+use Rattle.theory.proofs.Plain.{plain, tidy, of-tidy, tells-equal, tells-plain, stages}
 use Rattle.theory.proofs.Paper.{stages-only}
 use Rattle.theory.proofs.Sheets.{certified}
 use Rattle.theory.proofs.Gain.{is-gain}
 use Rattle.theory.proofs.Verdicts
 use Rattle.theory.proofs.Verdicts.{L, q, R, B, D, prime-iff}
 
-module _ (c : Card) (F : Found (c .lines) (c .kinds) (kindNorm c)) where
+module _ (c : Card) (F : Found c (kindNorm c)) where
   abbrev w : ℕ → ℕ
   w = kindNorm c
 
@@ -42,7 +43,7 @@ module _ (c : Card) (F : Found (c .lines) (c .kinds) (kindNorm c)) where
   N = plain c (kindNorm c) F
 
   abbrev fin : Finite (N .on)
-  fin = finite N (c .lines) (λ l o. o) (λ l o. o) (F .positive) (equalNorm c w) (tells-equal c w F)
+  fin = finite c w (λ _. 0) F (equalNorm c w) (tells-equal c w F)
 
   abbrev Test : ℕ → Field → Field → Type 0
   Test s a b = T (stage c w s a b)
@@ -50,48 +51,55 @@ module _ (c : Card) (F : Found (c .lines) (c .kinds) (kindNorm c)) where
   abbrev found : ℕ → ℕ → Field
   found q k = row c w (stage c w) (suc q) k
 
-  pub row-of : (q k : ℕ) → k < c .kinds → found q k ≡ level-base N fin q .row k
+  num : (k : ℕ) → Reached c k → k < c .kinds
+  num k v = under c w F k v
+
+  pub row-of : (q k : ℕ) → Reached c k → found q k ≡ level-base N fin q .row k
   unfolding stage
-  row-of q k h = row-is N (c .lines) (λ l o. o) (λ l o. o) (F .positive) (equalNorm c w) (tells-equal c w F) q k h
+  row-of q k h = row-is c w (λ _. 0) F (equalNorm c w) (tells-equal c w F) q k h
+
+  pub out-row : (s k : ℕ) → ¬ Reached c k → row c w (stage c w) s k ≡ none
+  unfolding stage
+  out-row s k n = row-out c w (λ _. 0) F (equalNorm c w) (tells-equal c w F) s k n
 
   tells-level : (q : ℕ) (a b : Field) → Tells (stage c w (suc q) a b) (level N q a b)
   unfolding Stage
   tells-level q a b = tells-plain c w F (suc q) a b
 
   order : (k j : ℕ) → k < c .kinds → j < c .kinds → Earlier c j k ↔ (rank N j < rank N k)
-  order k j h i = order-iff N (c .lines) (λ l o. o) (λ l o. o) (F .positive) (equalNorm c w) (tells-equal c w F) k j h i
+  order k j h i = order-iff c w (λ _. 0) F (equalNorm c w) (tells-equal c w F) k j h i
 
-  pub within : (k : ℕ) → k < c .kinds → (a : Field) → Before c k a → Within N (rank N k) a
-  within k h a f j i = let u = f j i in (u .0, F .positive j (u .0), order k j h (u .0) .0 (u .1))
+  pub within : (k : ℕ) → Reached c k → (a : Field) → Before c k a → Within N (rank N k) a
+  within k h a f j i = let u = f j i in (num j (u .0), F .positive j (u .0), order k j (num k h) (num j (u .0)) .0 (u .1))
 
-  pub before : (k : ℕ) → k < c .kinds → (a : Field) → Within N (rank N k) a → Before c k a
-  before k h a f j i = let u = f j i in (u .0, order k j h (u .0) .1 (u .2))
+  pub before : (k : ℕ) → Reached c k → (a : Field) → Within N (rank N k) a → Before c k a
+  before k h a f j i = let u = f j i in (F .out j (u .1), order k j (num k h) (u .0) .1 (u .2))
 
   pub base : (q : ℕ) → BaseOf c (Test (suc q)) (found q)
   base q = record {
-    related = λ k h. tells-level q (unit k) (found q k) .test (rw (row-of q k h) (D .rel k h (F .positive k h) (past-whole N fin k h)));
-    counts = λ k h. sort k h (D .sort k h (F .positive k h) (past-whole N fin k h));
+    related = λ k h. tells-level q (unit k) (found q k) .test (rw (row-of q k h) (D .rel k (num k h) (F .positive k h) (past-whole N fin k (num k h))));
+    counts = λ k h. sort k h (D .sort k (num k h) (F .positive k h) (past-whole N fin k (num k h)));
   }
     where
       D : Base N (level N q) (past N fin)
       D = level-base N fin q
 
-      sort : (k : ℕ) → k < c .kinds → (Atom (D .row) k × Prime N (level N q) k) ⊎ Made N (D .row) k
+      sort : (k : ℕ) → Reached c k → (Atom (D .row) k × Prime N (level N q) k) ⊎ Made N (D .row) k
           → ((found q k ≡ unit k) × ((a : Field) → Before c k a → ¬ Test (suc q) (unit k) a)) ⊎ (Before c k (found q k) × ((j : ℕ) → 0 < found q k j → found q j ≡ unit j))
       sort k h (inl p) = inl (row-of q k h ∙ p .0, λ a f t. p .1 a (within k h a f) (tells-level q (unit k) a .fact t))
       sort k h (inr m) = inr (
         before k h (found q k) (λ j i. let u = made j i in (u .0, u .1, u .2)),
-        (λ j i. let u = made j i in row-of q j (u .0) ∙ u .3),
+        (λ j i. let u = made j i in row-of q j (F .out j (u .1)) ∙ u .3),
       )
         where
           made : (j : ℕ) → 0 < found q k j → (j < N .n) × (0 < N .w j) × (rank N j < rank N k) × Atom (D .row) j
           made j i = m j (rw (ap (λ (x : Field). x j) (row-of q k h)) at i)
 
-  only : (q : ℕ) (rows : ℕ → Field) → BaseOf c (Test (suc q)) rows → (k : ℕ) → k < c .kinds → rows k ≡ found q k
+  only : (q : ℕ) (rows : ℕ → Field) → BaseOf c (Test (suc q)) rows → (k : ℕ) → Reached c k → rows k ≡ found q k
   only q rows X k h =
-      rows-unique N (level N q) (past N fin) (level-cong N q) (level-low N fin q) other (level-base N fin q) k h (F .positive k h) (past-whole N fin k h) ∙ sym (row-of q k h)
+      rows-unique N (level N q) (past N fin) (level-cong N q) (level-low N fin q) other (level-base N fin q) k (num k h) (F .positive k h) (past-whole N fin k (num k h)) ∙ sym (row-of q k h)
     where
-      sort : (k : ℕ) → k < c .kinds → ((rows k ≡ unit k) × ((a : Field) → Before c k a → ¬ Test (suc q) (unit k) a)) ⊎ (Before c k (rows k) × ((j : ℕ) → 0 < rows k j → rows j ≡ unit j))
+      sort : (k : ℕ) → Reached c k → ((rows k ≡ unit k) × ((a : Field) → Before c k a → ¬ Test (suc q) (unit k) a)) ⊎ (Before c k (rows k) × ((j : ℕ) → 0 < rows k j → rows j ≡ unit j))
           → (Atom rows k × Prime N (level N q) k) ⊎ Made N rows k
       sort k h (inl p) = inl (p .0, λ a f t. p .1 a (before k h a f) (tells-level q (unit k) a .test t))
       sort k h (inr p) = inr (λ j i. let u = within k h (rows k) (p .0) j i in (u .0, u .1, u .2, p .1 j i))
@@ -99,24 +107,29 @@ module _ (c : Card) (F : Found (c .lines) (c .kinds) (kindNorm c)) where
       other : Base N (level N q) (past N fin)
       other = record {
         row = rows;
-        rel = λ k h _ _. tells-level q (unit k) (rows k) .fact (X .related k h);
-        sort = λ k h _ _. sort k h (X .counts k h);
+        rel = λ k _ p _. tells-level q (unit k) (rows k) .fact (X .related k (F .out k p));
+        sort = λ k _ p _. let v = F .out k p in sort k v (X .counts k v);
       }
 
   pub settled-to : (s : ℕ) → SettledAt N s → Settled c s
   settled-to s f a b u v t =
-      expands-mono (On c) (Stage N s) (Test s) (λ x y. tells-plain c w F s x y .test) a b (f a b (tidy c w F a u) (tidy c w F b v) (tells-plain c w F s a b .fact t))
+      all-expands c (Test s) a b u v
+      (expands-mono (OnReached c) (Stage N s) (Test s) (λ x y. tells-plain c w F s x y .test) a b (f a b (tidy c w F a u) (tidy c w F b v) (tells-plain c w F s a b .fact t)))
 
   to-settled : (s : ℕ) → Settled c s → SettledAt N s
   to-settled s f a b u v t =
-      expands-mono (On c) (Test s) (Stage N s) (λ x y. tells-plain c w F s x y .fact) a b
-      (f a b (λ k h. u k h .0) (λ k h. v k h .0) (tells-plain c w F s a b .test t))
+      let u′ = of-tidy c w F a u in
+      let v′ = of-tidy c w F b v in
+      expands-mono (OnReached c) (Test s) (Stage N s) (λ x y. tells-plain c w F s x y .fact) a b
+      (expands-reached c (Test s) a b u′ v′ (f a b u′ v′ (tells-plain c w F s a b .test t)))
 
 -- Of an accepted sheet.
 pub sheet-settles : (s : List ℕ) → Accepted s → Settles (cardOf s)
 sheet-settles s ok = record {
   stages = stages c (kindNorm c) F;
   stages-only = λ S X. stages-only c (kindNorm c) F S (λ s a b. T (stage c (kindNorm c) s a b)) X (stages c (kindNorm c) F);
+  out-row = out-row c F;
+  nothing = λ n. let z = F .reach .none-iff .1 n in omega (arith, L s ok .most, L s ok .is);
   base = base c F;
   only = only c F;
   final = rw (L s ok .is) (base c F (L s ok .before));
@@ -125,17 +138,17 @@ sheet-settles s ok = record {
   settled = settled-to c F _ (L s ok .settled);
   least = λ q h i f. first q h i f;
   gain-most = λ l a o h.
-      omega (arith, weigh-fire (c .kinds) (kindNorm c) l a (F .kinds l o) h, gain-most (c .kinds) (kindNorm c) l o);
+      omega (arith, weigh-fire (c .kinds) (kindNorm c) l a (F .kinds l (o .0)) h, gain-most (c .kinds) (kindNorm c) l (F .reach .lines-iff l .1 o));
   is-gain = is-gain s ok;
   lowers-iff = λ l a o h.
       let e = weigh-fire (c .kinds) (kindNorm c) l a (F .kinds l o) h in
-      ((λ x. (o, omega arith)), (λ x. omega (arith, x .1)));
+      ((λ x. ((o, F .out (l .kind) (omega arith)), omega arith)), (λ x. omega (arith, x .1)));
 }
   where
     c : Card
     c = cardOf s
 
-    F : Found (c .lines) (c .kinds) (kindNorm c)
+    F : Found c (kindNorm c)
     F = certified s ok
 
     first : (q : ℕ) → 1 ≤ q → q < settledStage (cardOf s) → ¬ Settled c q
@@ -156,17 +169,18 @@ settled-only s ok t h x f = go (decLt t (settledStage (cardOf s))) (decLt (settl
 
 module _ (s : List ℕ) (ok : Accepted s) where
   -- The row that is settled is the base's at the stage before.
-  pub settled-row : (k : ℕ) → k < cardOf s .kinds → settledRow (cardOf s) k ≡ D s ok .row k
+  pub settled-row : (k : ℕ) → Reached (cardOf s) k → settledRow (cardOf s) k ≡ D s ok .row k
   settled-row k h = rw (L s ok .is) (row-of (cardOf s) (certified s ok) (q s ok) k h)
 
   pub sheet-primes {ℓ} : Primes {ℓ} (cardOf s)
   sheet-primes = record {
     own-row = λ k h.
         let pos = certified s ok .positive k h in
-        let W = past-whole (Verdicts.N s ok) (Verdicts.fin s ok) k h in
+        let i = under (cardOf s) (kindNorm (cardOf s)) (certified s ok) k h in
+        let W = past-whole (Verdicts.N s ok) (Verdicts.fin s ok) k i in
         let C = level-cong (Verdicts.N s ok) (q s ok) in
         let X = level-low (Verdicts.N s ok) (Verdicts.fin s ok) (q s ok) in (
-          (λ e. prime-iff s ok k h .0 (atom-prime (Verdicts.N s ok) (R s ok) (B s ok) C X (D s ok) k h pos W (sym (settled-row k h) ∙ e))),
-          (λ p. settled-row k h ∙ prime-atom (Verdicts.N s ok) (R s ok) (B s ok) C X (D s ok) k h pos W (prime-iff s ok k h .1 p)),
+          (λ e. prime-iff s ok k h .0 (atom-prime (Verdicts.N s ok) (R s ok) (B s ok) C X (D s ok) k i pos W (sym (settled-row k h) ∙ e))),
+          (λ p. settled-row k h ∙ prime-atom (Verdicts.N s ok) (R s ok) (B s ok) C X (D s ok) k i pos W (prime-iff s ok k h .1 p)),
         );
   }

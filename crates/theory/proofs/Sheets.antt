@@ -1,25 +1,29 @@
 -- What an accepted sheet has, and what the checks come to.
 use mathlib.Core.Bool.{Bool, true, false, not}
 use mathlib.Core.List.{List, [], _∷_, _++_, List·Memᴰ, List·Memᴰ·head, List·Memᴰ·tail, Memᴰ·append-left}
+use mathlib.Core.Logic.{_↔_}
 use mathlib.Core.Path.{_≡_, refl, sym, _∙_, ap}
-use Prim.Native.Nat.{ℕ, _+_, _≤_, _<_}
+use Prim.Native.Nat.{ℕ, _+_, _*_, _≤_, _<_}
 use native.Mathlib.Decide.{decLt}
+use native.Mathlib.Nat.{mul-le-mul-left}
 use native.Mathlib.Omega.{arith}
 use lib.Dec.{T, eqb, ltb, ltb→lt, lt→ltb, T-not}
-use Rattle.model.specs.Finite.{either, listFrom}
-use Rattle.model.specs.Field.{at}
-use Rattle.model.specs.Card.{Line}
+use lib.ListN.{length, List·getD-eq-default}
+use Rattle.model.specs.Finite.{both, either, listFrom}
+use Rattle.model.specs.Field.{Field}
+use Rattle.model.specs.Card.{Line, On, Reached, held, reached}
 use Rattle.model.specs.Norm.{kindNorm}
 use Rattle.theory.specs.Terms.{OfKinds}
-use Rattle.theory.specs.Meanings.{Firsts}
-use Rattle.model.specs.Sheet.{kindCount, codeCount, lineCount, counts, lineOf, cardOf, fieldOf}
+use Rattle.theory.specs.Meanings.{Firsts, Reaches}
+use Rattle.model.specs.Sheet.{byte, kindCount, codeCount, lineCount, fieldCount, fieldsOffset, totalOf, counts, lineOf, cardOf, fieldOf}
 use Rattle.model.specs.Limits.{mostKinds, normLimit}
-use Rattle.model.specs.Refusal.{Check, check, Finding, clear, refusal, firstOf, outside, headerChecks, lineChecks, normChecks, sheetChecks, Accepted}
-use Rattle.theory.proofs.Exec.{Tells, tells-lt, tells-eq}
-use Rattle.theory.proofs.Lists.{mem-from, from-mem}
+use Rattle.model.specs.Refusal.{Check, check, Finding, clear, refusal, firstOf, outside, differ, headerChecks, lineChecks, normChecks, sheetChecks, Accepted}
+use Rattle.theory.proofs.Exec.{Tells, tells-and, tells-lt, tells-eq}
+use Rattle.theory.proofs.Lists.{mem-from, from-mem, is-true}
+use Rattle.theory.proofs.Reach.{reaches-all, reached-only}
 use Rattle.theory.proofs.Enumerate.{concat-mem}
 use Rattle.theory.proofs.Certified.{Found}
-use Rattle.theory.proofs.Fewest.{Tame, found}
+use Rattle.theory.proofs.Fewest.{Tame, norm-reached, found}
 
 -- A refusal hides what comes after it.
 unfoldable pub then : Finding → Finding → Finding
@@ -133,10 +137,51 @@ counts-kind n f k h = go (ltb k n) (tells-lt k n) h
     go true t q = t .fact tt
     go false t q = absurd (omega arith)
 
--- A field of the sheet is of its kinds.
-pub field-kinds : (s : List ℕ) (i : ℕ) → OfKinds (cardOf s) (fieldOf s i)
-unfolding fieldOf cardOf
-field-kinds s i k h = counts-kind (kindCount s) _ k h
+counts-none : (n : ℕ) (f : ℕ → ℕ) (k : ℕ) → f k ≡ 0 → counts n f k ≡ 0
+unfolding counts
+counts-none n f k e = go (ltb k n)
+  where
+    go : (b : Bool) → _≡_ {A = ℕ} (elim b as (λ _. ℕ) [ true ↦ f k | false ↦ 0 ]) 0
+    go true = e
+    go false = refl
+
+field-kind : (s : List ℕ) (i k : ℕ) → 0 < fieldOf s i k → k < kindCount s
+unfolding fieldOf
+field-kind s i k h = counts-kind (kindCount s) _ k h
+
+-- A field past the sheet's is empty: there are no bytes.
+field-past : (s : List ℕ) → length s ≡ totalOf s → (i : ℕ) → fieldCount s ≤ i → (k : ℕ) → fieldOf s i k ≡ 0
+unfolding fieldOf totalOf
+field-past s e i h k = counts-none (kindCount s) _ k (past (fieldsOffset s + 2 * kindCount s * i + 2 * k) (omega (arith, mul-le-mul-left (2 * kindCount s) h)))
+  where
+    past : (p : ℕ) → length s ≤ p → byte s p + 256 * byte s (p + 1) ≡ 0
+    past p q =
+        let q1 : length s ≤ p + 1 = omega arith in
+        let a : byte s p ≡ 0 = List·getD-eq-default s 0 q in
+        let b : byte s (p + 1) ≡ 0 = List·getD-eq-default s 0 q1 in
+        omega arith
+
+in-layout : (s : List ℕ) → List·Memᴰ (check 6 3 (differ (length s) (totalOf s))) (headerChecks s)
+unfolding headerChecks
+in-layout s =
+    List·Memᴰ·tail (List·Memᴰ·tail (List·Memᴰ·tail (List·Memᴰ·tail (List·Memᴰ·tail (List·Memᴰ·tail (List·Memᴰ·tail (List·Memᴰ·tail (List·Memᴰ·head refl))))))))
+
+whole-length : (s : List ℕ) → firstOf (sheetChecks s) ≡ clear → length s ≡ totalOf s
+unfolding sheetChecks
+whole-length s e = go (eqb (length s) (totalOf s)) (tells-eq (length s) (totalOf s)) (clear-none (Memᴰ·append-left (lineChecks s) (in-layout s)) e)
+  where
+    go : (b : Bool) → Tells b (length s ≡ totalOf s) → ¬ T (not b) → length s ≡ totalOf s
+    go true t n = t .fact tt
+    go false t n = absurd (n tt)
+
+-- A field of the sheet is of reached kinds.
+pub field-kinds : (s : List ℕ) → firstOf (sheetChecks s) ≡ clear → (i : ℕ) → OfKinds (cardOf s) (fieldOf s i)
+unfolding cardOf
+field-kinds s e i k h = go (decLt i (fieldCount s))
+  where
+    go : Dec (i < fieldCount s) → Reached (cardOf s) k
+    go (yes q) = let z : 0 + i ≡ i = omega arith in held (fieldOf s i) (rw z at (from-mem (fieldOf s) 0 (fieldCount s) i q)) h
+    go (no q) = absurd (omega (arith, field-past s (whole-length s e) i (omega arith) k))
 
 left-kind : (s : List ℕ) (j k : ℕ) → 0 < lineOf s j .left k → k < kindCount s
 unfolding lineOf
@@ -153,10 +198,51 @@ in-lines s j h =
     let f : ℕ → List Check = λ j. check 7 j (not (ltb (lineOf s j .kind) (kindCount s))) ∷ check 8 j (not (ltb (lineOf s j .code) (codeCount s))) ∷ [] in
     concat-mem (f j) _ (rw (ap f e) at (from-mem f 0 (lineCount s) j h)) (List·Memᴰ·head refl)
 
+line-left : (s : List ℕ) (l : Line) → On (cardOf s) l → (k : ℕ) → 0 < l .left k → k < kindCount s
+unfolding cardOf
+line-left s l m k h =
+    let t = mem-from (lineOf s) 0 (lineCount s) l m in
+    left-kind s (0 + t .0) k (rw (ap (λ (x : Line). x .left k) (t .2)) at h)
+
+entered : (s : List ℕ) (a : Field) → List·Memᴰ a (cardOf s .fields) → (k : ℕ) → 0 < a k → k < kindCount s
+unfolding cardOf
+entered s a m k h =
+    let t = mem-from (fieldOf s) 0 (fieldCount s) a m in
+    field-kind s (0 + t .0) k (rw (ap (λ (x : Field). x k) (t .2)) at h)
+
+-- Of any sheet: the kinds that are reached.
+pub sheet-reaches : (s : List ℕ) → Reaches (cardOf s)
+unfolding cardOf
+sheet-reaches s = reaches-all (cardOf s) (entered s) (line-left s)
+
+-- By the numbers of fields and lines: any test that holds of the kinds that fields hold, goes on along the lines and holds of reached kinds alone is the search's.
+pub sheet-reached-only : (s : List ℕ) (p : ℕ → Bool) → ((i : ℕ) → i < fieldCount s → (k : ℕ) → 0 < fieldOf s i k → p k ≡ true)
+    → ((j : ℕ) → j < lineCount s → p (lineOf s j .kind) ≡ true → (k : ℕ) → 0 < lineOf s j .left k → p k ≡ true) → ((k : ℕ) → p k ≡ true → Reached (cardOf s) k)
+    → (k : ℕ) → p k ≡ reached (cardOf s) k
+unfolding cardOf
+sheet-reached-only s p start next sound = reached-only (cardOf s) (entered s) (line-left s) p holds leaves (λ k t. sound k (is-true (p k) t))
+  where
+    holds : (a : Field) → List·Memᴰ a (cardOf s .fields) → (k : ℕ) → 0 < a k → T (p k)
+    holds a m k h =
+        let t = mem-from (fieldOf s) 0 (fieldCount s) a m in
+        let e = start (0 + t .0) (omega (arith, t .1)) k (rw (ap (λ (x : Field). x k) (t .2)) at h) in
+        rw e tt
+
+    leaves : (l : Line) → On (cardOf s) l → T (p (l .kind)) → (k : ℕ) → 0 < l .left k → T (p k)
+    leaves l m u k h =
+        let t = mem-from (lineOf s) 0 (lineCount s) l m in
+        let v = is-true _ (rw (ap (λ (x : Line). x .kind) (t .2)) at u) in
+        let e = next (0 + t .0) (omega (arith, t .1)) v k (rw (ap (λ (x : Line). x .left k) (t .2)) at h) in
+        rw e tt
+
+pub under-kinds : (s : List ℕ) (k : ℕ) → Reached (cardOf s) k → k < kindCount s
+unfolding cardOf
+under-kinds s k v = sheet-reaches s .under k v
+
 -- A sheet that passes 1 to 8 has lines of its kinds alone.
 pub tame : (s : List ℕ) → firstOf (sheetChecks s) ≡ clear → Tame (cardOf s)
 unfolding cardOf sheetChecks
-tame s e = record { kinds = kind; counts = left }
+tame s e = record { kinds = kind; counts = line-left s; entered = entered s }
   where
     lines : firstOf (lineChecks s) ≡ clear
     lines = then-clear (firstOf (headerChecks s)) (firstOf (lineChecks s)) (sym (first-append (headerChecks s) (lineChecks s)) ∙ e) .1
@@ -169,9 +255,6 @@ tame s e = record { kinds = kind; counts = left }
 
     kind : (l : Line) → List·Memᴰ l (listFrom (lineOf s) 0 (lineCount s)) → l .kind < kindCount s
     kind l m = let t = line l m in rw (t .2) (kind-of (0 + t .0) (omega (arith, t .1)))
-
-    left : (l : Line) → List·Memᴰ l (listFrom (lineOf s) 0 (lineCount s)) → (k : ℕ) → 0 < l .left k → k < kindCount s
-    left l m k h = let t = line l m in left-kind s (0 + t .0) k (rw (ap (λ (x : Line). x .left k) (t .2)) at h)
 
 module _ (s : List ℕ) (ok : Accepted s) where
   both-clear : (firstOf (sheetChecks s) ≡ clear) × (firstOf (normChecks s) ≡ clear)
@@ -201,27 +284,36 @@ module _ (s : List ℕ) (ok : Accepted s) where
           pos (yes h) = h
           pos (no h) = absurd (t .test (omega arith))
 
-  pub positive : (k : ℕ) → k < kindCount s → 0 < kindNorm (cardOf s) k
+  pub tells-reached : (k : ℕ) → Tells (reached (cardOf s) k) (Reached (cardOf s) k)
+  tells-reached k = record { fact = sheet-reaches s .test-iff k .0; test = sheet-reaches s .test-iff k .1 }
+
+  pub positive : (k : ℕ) → Reached (cardOf s) k → 0 < kindNorm (cardOf s) k
   unfolding normChecks
   positive k h = pos (decLt 0 (v k))
     where
       v : ℕ → ℕ
       v = kindNorm (cardOf s)
 
+      r : ℕ → Bool
+      r = reached (cardOf s)
+
       zero-left : (k : ℕ) → 0 + k ≡ k
       zero-left k = omega arith
 
-      missing : ¬ T (eqb (v k) 0)
+      missing : ¬ T (both (r k) (eqb (v k) 0))
       missing =
           clear-none
-          (Memᴰ·append-left (listFrom (λ k. check 10 k (ltb normLimit (v k))) 0 (kindCount s))
-          (rw (ap (λ j. check 9 j (eqb (v j) 0)) (zero-left k)) at (from-mem (λ k. check 9 k (eqb (v k) 0)) 0 (kindCount s) k h)))
+          (Memᴰ·append-left (listFrom (λ k. check 10 k (both (r k) (ltb normLimit (v k)))) 0 (kindCount s))
+          (rw (ap (λ j. check 9 j (both (r j) (eqb (v j) 0))) (zero-left k)) at (from-mem (λ k. check 9 k (both (r k) (eqb (v k) 0))) 0 (kindCount s) k (under-kinds s k h))))
           (both-clear .1)
 
       pos : Dec (0 < v k) → 0 < v k
       pos (yes q) = q
-      pos (no q) = absurd (missing (tells-eq (v k) 0 .test (omega arith)))
+      pos (no q) = absurd (missing (tells-and _ _ (tells-reached k) (tells-eq (v k) 0) .test (h, omega arith)))
 
-  pub certified : Found (cardOf s .lines) (cardOf s .kinds) (kindNorm (cardOf s))
-  unfolding cardOf
+  -- On an accepted sheet the norm tells: it is 0 just for a kind that is out.
+  pub norm-tells : (k : ℕ) → (0 < kindNorm (cardOf s) k) ↔ Reached (cardOf s) k
+  norm-tells k = (norm-reached (cardOf s) (tame s sheet-clear) k, positive k)
+
+  pub certified : Found (cardOf s) (kindNorm (cardOf s))
   certified = found (cardOf s) (tame s sheet-clear) positive

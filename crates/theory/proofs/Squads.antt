@@ -7,7 +7,7 @@ use native.Mathlib.Decide.{decLt}
 use native.Mathlib.Nat.{mul-zero, mul-le-mul-left}
 use native.Mathlib.Omega.{arith}
 use Rattle.model.specs.Field.{Field, _⊕_, times, unit, weigh, at, tokens}
-use Rattle.model.specs.Card.{Card, On}
+use Rattle.model.specs.Card.{Card, On, Reached}
 use Rattle.model.specs.Norm.{Clears, IsNorm, kindNorm, norm}
 use Rattle.model.specs.Base.{formAt, settledForm}
 use Rattle.model.specs.Squads.{remainder}
@@ -25,10 +25,11 @@ use Rattle.theory.proofs.Unique.{form-iff}
 use Rattle.theory.proofs.Settle.{tidy-within}
 use Rattle.theory.proofs.Count.{past-whole, level-low}
 use Rattle.theory.proofs.Lists.{getD-from, getD-past}
+use Rattle.theory.proofs.Reach.{fire-kinds}
 use Rattle.theory.proofs.Plain.{tidy}
-use Rattle.theory.proofs.Program.{theirs, fire-kinds}
+use Rattle.theory.proofs.Program.{theirs}
 use Rattle.theory.proofs.Gain.{sheet-norms}
-use Rattle.theory.proofs.Sheets.{sheet-clear, certified, field-kinds}
+use Rattle.theory.proofs.Sheets.{sheet-clear, sheet-reaches, under-kinds, certified, field-kinds}
 use Rattle.theory.proofs.Settling.{settled-row, sheet-primes}
 use Rattle.theory.proofs.Verdicts.{N, B, R, D, L, q, fin, at-form, written-is, form-prime, bisimilar, to-stage, from-stage, kinds-is}
 use Rattle.theory.proofs.Quotients.{times-largest, times-most, remainder-exact}
@@ -46,7 +47,7 @@ unfolding weigh
 weigh-times zero w m a = omega arith
 weigh-times (suc n) w m a = omega (arith, weigh-times n w m a)
 
--- The prime form of any field of the card's kinds.
+-- The prime form of any field of the reached kinds.
 module _ (s : List ℕ) (ok : Accepted s) where
   abbrev c : Card
   c = cardOf s
@@ -54,8 +55,11 @@ module _ (s : List ℕ) (ok : Accepted s) where
   abbrev prime : Field → Field
   prime x = settledForm c x
 
-  prime-is : (x : Field) → prime x ≡ form (N s ok) (R s ok) (B s ok) (D s ok) x
-  prime-is x = rw (L s ok .is) (theirs c (kindNorm c) (certified s ok) (q s ok) x)
+  of-kinds : (i : ℕ) → OfKinds c (fieldOf s i)
+  of-kinds i = field-kinds s (sheet-clear s ok) i
+
+  prime-is : (x : Field) → OfKinds c x → prime x ≡ form (N s ok) (R s ok) (B s ok) (D s ok) x
+  prime-is x u = rw (L s ok .is) (theirs c (kindNorm c) (certified s ok) (q s ok) x u)
 
   prime-joined : (m : ℕ) (x y : Field) (k : ℕ) → prime (times m x ⊕ y) k ≡ m * prime x k + prime y k
   unfolding formAt
@@ -64,29 +68,30 @@ module _ (s : List ℕ) (ok : Accepted s) where
   within : (x : Field) → OfKinds c x → Within (N s ok) (B s ok) x
   within x u = tidy-within (N s ok) (B s ok) (past-whole (N s ok) (fin s ok)) x (tidy c (kindNorm c) (certified s ok) x u)
 
-  prime-parts : (x : Field) → OfKinds c x → (k : ℕ) → 0 < prime x k → (k < c .kinds) × (D s ok .row k ≡ unit k)
+  prime-parts : (x : Field) → OfKinds c x → (k : ℕ) → 0 < prime x k → Reached c k × (D s ok .row k ≡ unit k)
   prime-parts x u k h =
       let t = form-within (N s ok) (R s ok) (B s ok) (D s ok) (B s ok) x (omega arith) (within x u) in
-      let i = rw (ap (λ (f : Field). f k) (prime-is x)) at h in
-      (t .0 k i .0, t .1 k i)
+      let i = rw (ap (λ (f : Field). f k) (prime-is x u)) at h in
+      (certified s ok .out k (t .0 k i .1), t .1 k i)
 
-  prime-self : (x : Field) → ((k : ℕ) → 0 < x k → (k < c .kinds) × (D s ok .row k ≡ unit k)) → prime x ≡ x
+  prime-self : (x : Field) → ((k : ℕ) → 0 < x k → Reached c k × (D s ok .row k ≡ unit k)) → prime x ≡ x
   prime-self x f =
-      prime-is x ∙ form-self (N s ok) (R s ok) (B s ok) (D s ok) x (within x (λ k h. f k h .0), λ k h. f k h .1)
+      let u : OfKinds c x = λ k h. f k h .0 in
+      prime-is x u ∙ form-self (N s ok) (R s ok) (B s ok) (D s ok) x (within x u, λ k h. f k h .1)
 
   same-prime {ℓ} : (x y : Field) → OfKinds c x → OfKinds c y → Bisimilar {ℓ} (On c) x y ↔ (prime x ≡ prime y)
   same-prime x y u v =
       let F = certified s ok in
       let b = bisimilar s ok x y (tidy c (kindNorm c) F x u) (tidy c (kindNorm c) F y v) in
       let f = form-iff (N s ok) (R s ok) (B s ok) (D s ok) (level-cong (N s ok) (q s ok)) (level-low (N s ok) (fin s ok) (q s ok)) x y (within x u) (within y v) in (
-        (λ p. prime-is x ∙ f .0 (from-stage s ok x y (b .1 p)) ∙ sym (prime-is y)),
-        (λ e. b .0 (to-stage s ok x y (f .1 (sym (prime-is x) ∙ e ∙ prime-is y)))),
+        (λ p. prime-is x u ∙ f .0 (from-stage s ok x y (b .1 p)) ∙ sym (prime-is y v)),
+        (λ e. b .0 (to-stage s ok x y (f .1 (sym (prime-is x u) ∙ e ∙ prime-is y v)))),
       )
 
   -- The form has the field's norm, and so a field with tokens has a form with some.
   prime-norm : (x : Field) → OfKinds c x → norm c (prime x) ≡ norm c x
   prime-norm x u =
-      ap (norm c) (prime-is x)
+      ap (norm c) (prime-is x u)
       ∙ sym (level-cong (N s ok) (q s ok) .norms x (form (N s ok) (R s ok) (B s ok) (D s ok) x)
       (form-rel (N s ok) (R s ok) (B s ok) (D s ok) (level-cong (N s ok) (q s ok)) (level-low (N s ok) (fin s ok) (q s ok)) x (within x u)))
 
@@ -94,7 +99,7 @@ module _ (s : List ℕ) (ok : Accepted s) where
   some-prime x u h =
       let t = weigh-some (c .kinds) (λ _. 1) x h in
       let p = weigh-part (c .kinds) (kindNorm c) x (t .0) (t .1) in
-      let m = mul-le-mul-left (x (t .0)) (certified s ok .positive (t .0) (t .1)) in
+      let m = mul-le-mul-left (x (t .0)) (certified s ok .positive (t .0) (u (t .0) (t .2))) in
       let r = weigh-some (c .kinds) (kindNorm c) (prime x) (omega (arith, prime-norm x u, p, m, t .2)) in
       (r .0, r .1, r .2)
 
@@ -107,14 +112,14 @@ module _ (s : List ℕ) (ok : Accepted s) where
   -- For the code: a field that is not empty has a form that is not.
   pub form-some : (j : ℕ) → 0 < tokens (kindCount s) (fieldOf s j) → 0 < tokens (kindCount s) (at (primeForm s j))
   form-some j full =
-      let v = some-prime (fieldOf s j) (field-kinds s j) (rw (kinds-is s ok) full) in
+      let v = some-prime (fieldOf s j) (of-kinds j) (rw (kinds-is s ok) full) in
       omega (arith, v .2, form-at j (v .0), weigh-part (kindCount s) (λ _. 1) (at (primeForm s j)) (v .0) (omega (arith, v .1, kinds-is s ok)))
 
   -- A form has no more tokens than its field has norm.
   form-small : (i : ℕ) → tokens (kindCount s) (at (primeForm s i)) ≤ norm c (fieldOf s i)
   form-small i =
       let e : at (primeForm s i) ≡ prime (fieldOf s i) = fun-ext (form-at i) in
-      rw (e, ← kinds-is s ok, ← prime-norm (fieldOf s i) (field-kinds s i)) (weigh-mono (c .kinds) (λ _. 1) (kindNorm c) (prime (fieldOf s i)) (λ k h _. certified s ok .positive k h))
+      rw (e, ← kinds-is s ok, ← prime-norm (fieldOf s i) (of-kinds i)) (weigh-mono (c .kinds) (λ _. 1) (kindNorm c) (prime (fieldOf s i)) (λ k h p. certified s ok .positive k (prime-parts (fieldOf s i) (of-kinds i) k p .0)))
 
   module _ (i j : ℕ) where
     abbrev whole : Field
@@ -130,7 +135,7 @@ module _ (s : List ℕ) (ok : Accepted s) where
     left = at (remainderForm s i j)
 
     form-kind : (n k : ℕ) → 0 < at (primeForm s n) k → k < kindCount s
-    form-kind n k h = omega (arith, prime-parts (fieldOf s n) (field-kinds s n) k (omega (arith, form-at n k)) .0, kinds-is s ok)
+    form-kind n k h = under-kinds s k (prime-parts (fieldOf s n) (of-kinds n) k (omega (arith, form-at n k)) .0)
 
     -- As many squads' forms as were counted, and what is written, are the whole's form.
     exact : (k : ℕ) → count * at (primeForm s j) k + left k ≡ at (primeForm s i) k
@@ -152,26 +157,26 @@ module _ (s : List ℕ) (ok : Accepted s) where
     exact-prime : (k : ℕ) → count * prime squad k + left k ≡ prime whole k
     exact-prime k = omega (arith, exact k, form-at i k, ap (λ n. count * n) (form-at j k))
 
-    left-parts : (k : ℕ) → 0 < left k → (k < c .kinds) × (D s ok .row k ≡ unit k)
-    left-parts k h = prime-parts whole (field-kinds s i) k (omega (arith, exact-prime k))
+    left-parts : (k : ℕ) → 0 < left k → Reached c k × (D s ok .row k ≡ unit k)
+    left-parts k h = prime-parts whole (of-kinds i) k (omega (arith, exact-prime k))
 
     joined-kinds : (m : ℕ) (x : Field) → OfKinds c x → OfKinds c (times m squad ⊕ x)
     joined-kinds m x u k h = go (decLt 0 (m * squad k)) (decLt 0 (x k))
       where
-        go : Dec (0 < m * squad k) → Dec (0 < x k) → k < c .kinds
-        go (yes p) _ = field-kinds s j k (some-times m (squad k) p)
+        go : Dec (0 < m * squad k) → Dec (0 < x k) → Reached c k
+        go (yes p) _ = of-kinds j k (some-times m (squad k) p)
         go (no p) (yes r) = u k r
         go (no p) (no r) = absurd (omega arith)
 
     joined {ℓ} : Joined {ℓ} c whole squad count left
     joined =
-        same-prime whole (times count squad ⊕ left) (field-kinds s i) (joined-kinds count left (λ k h. left-parts k h .0)) .1
+        same-prime whole (times count squad ⊕ left) (of-kinds i) (joined-kinds count left (λ k h. left-parts k h .0)) .1
         (fun-ext (λ k. sym (prime-joined count squad left k ∙ ap (λ n. count * prime squad k + n) (ap (λ (f : Field). f k) (prime-self left left-parts)) ∙ exact-prime k)))
 
     -- Squads and a remainder that are the same as the whole divide its form.
     divides {ℓ} : (m : ℕ) (x : Field) → OfKinds c x → Joined {ℓ} c whole squad m x → (k : ℕ) → m * prime squad k + prime x k ≡ prime whole k
     divides m x u p k =
-        sym (ap (λ (f : Field). f k) (same-prime whole (times m squad ⊕ x) (field-kinds s i) (joined-kinds m x u) .0 p) ∙ prime-joined m squad x k)
+        sym (ap (λ (f : Field). f k) (same-prime whole (times m squad ⊕ x) (of-kinds i) (joined-kinds m x u) .0 p) ∙ prime-joined m squad x k)
 
     form-of-rest {ℓ} : (x : Field) → OfKinds c x → Joined {ℓ} c whole squad count x → prime x ≡ left
     form-of-rest x u p = fun-ext (λ k. omega (arith, divides count x u p k, exact-prime k))
@@ -182,15 +187,15 @@ module _ (s : List ℕ) (ok : Accepted s) where
     clear-squads : (m : ℕ) → Clears (On c) (norm c (times m squad)) (times m squad)
     unfolding IsNorm
     clear-squads m =
-        sheet-norms s (sheet-clear s ok) .fields (times m squad) (λ k h. let v = field-kinds s j k (some-times m (squad k) h) in (v, certified s ok .positive k v)) .0
+        sheet-norms s (sheet-clear s ok) .fields (times m squad) (λ k h. let v = of-kinds j k (some-times m (squad k) h) in (sheet-reaches s .under k v, certified s ok .positive k v)) .0
 
     -- A remainder of any kinds is as good as one of the card's.
     no-larger {ℓ} : 0 < tokens (kindCount s) squad → (m : ℕ) (x : Field) → Joined {ℓ} c whole squad m x → m ≤ count
     unfolding Bisimilar squadCount
     no-larger full m x (Q, S, p) =
-        let t = left-over c Q S (fire-kinds c (kindNorm c) (certified s ok)) (norm c (times m squad)) (times m squad) x whole (field-kinds s i) (clear-squads m) p in
+        let t = left-over c Q S (λ l a o h u. fire-kinds c l a (o, u (l .kind) h) u) (norm c (times m squad)) (times m squad) x whole (of-kinds i) (clear-squads m) p in
         let d = divides m (t .0) (t .1) (exchange (On c) Q S whole (times m squad) x (t .0) p (t .2)) in
-        let v = some-prime squad (field-kinds s j) (rw (kinds-is s ok) full) in
+        let v = some-prime squad (of-kinds j) (rw (kinds-is s ok) full) in
         times-largest (kindCount s) (at (primeForm s i)) (at (primeForm s j)) m (v .0) (omega (arith, v .1, kinds-is s ok)) (omega (arith, v .2, form-at j (v .0)))
         (λ k h. omega (arith, d k, form-at i k, ap (λ n. m * n) (form-at j k)))
 
@@ -208,7 +213,7 @@ module _ (s : List ℕ) (ok : Accepted s) where
         no-token k = go (decLt 0 (squad k))
           where
             go : Dec (0 < squad k) → squad k ≡ 0
-            go (yes h) = absurd (omega (arith, weigh-part (kindCount s) (λ _. 1) squad k (omega (arith, field-kinds s j k h, kinds-is s ok))))
+            go (yes h) = absurd (omega (arith, weigh-part (kindCount s) (λ _. 1) squad k (omega (arith, under-kinds s k (of-kinds j k h)))))
             go (no h) = omega arith
 
         none-joined : times (suc m) squad ⊕ whole ≡ whole

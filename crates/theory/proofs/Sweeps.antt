@@ -11,7 +11,7 @@ use lib.Dec.{eqb}
 use Rattle.model.specs.Finite.{both}
 use Rattle.model.specs.Field.{Field, bit, weigh, at}
 use Rattle.model.specs.Card.{Line, Card, On}
-use Rattle.model.specs.Norm.{ready, sooner, best, sweeps, kindNorm}
+use Rattle.model.specs.Norm.{ready, sooner, best, sweeps, cardNorm}
 use Rattle.theory.proofs.Search.{dec-and, dec-implies, some-below}
 use Rattle.theory.proofs.Field.{bit-yes, bit-no, weigh-part, weigh-mono, weigh-less, weigh-ones}
 use Rattle.theory.proofs.Exec.{Tells, tells-and, tells-implies, tells-lt, tells-eq}
@@ -233,9 +233,9 @@ module _ (c : Card) where
       small i (inr t) = omega arith
 
   -- No line improves a norm.
-  pub norm-settled : (l : Line) → On c l → l .kind < c .kinds → Ready (c .kinds) (kindNorm c) (l .left)
-      → (0 < kindNorm c (l .kind)) × (kindNorm c (l .kind) ≤ suc (weigh (c .kinds) (kindNorm c) (l .left)))
-  unfolding kindNorm
+  pub norm-settled : (l : Line) → On c l → l .kind < c .kinds → Ready (c .kinds) (cardNorm c) (l .left)
+      → (0 < cardNorm c (l .kind)) × (cardNorm c (l .kind) ≤ suc (weigh (c .kinds) (cardNorm c) (l .left)))
+  unfolding cardNorm
   norm-settled l o i r =
       let u = best-least (c .kinds) (value (c .kinds)) (l .kind) l o (refl, r) in
       let e = value-next (c .kinds) (l .kind) i in
@@ -243,9 +243,9 @@ module _ (c : Card) where
       (t .0, omega (arith, t .1, u .1))
 
   -- Each norm is attained by a line.
-  pub norm-attained : (k : ℕ) → 0 < kindNorm c k
-      → (l : Line) × On c l × (l .kind ≡ k) × (kindNorm c k ≡ suc (weigh (c .kinds) (kindNorm c) (l .left))) × Ready (c .kinds) (kindNorm c) (l .left)
-  unfolding kindNorm
+  pub norm-attained : (k : ℕ) → 0 < cardNorm c k
+      → (l : Line) × On c l × (l .kind ≡ k) × (cardNorm c k ≡ suc (weigh (c .kinds) (cardNorm c) (l .left))) × Ready (c .kinds) (cardNorm c) (l .left)
+  unfolding cardNorm
   norm-attained k h =
       let f = falls (c .kinds) k h in
       let t = kept (c .kinds) k (done k) (f .0) in
@@ -253,6 +253,6 @@ module _ (c : Card) where
       let s = best-sound (c .kinds) (value (c .kinds)) k (c .lines) (omega (arith, f .0)) in
       (s .0, s .1, s .2 .0, omega (arith, s .3, f .1, t .1), s .2 .1)
 
-  pub norm-kind : (k : ℕ) → 0 < kindNorm c k → k < c .kinds
-  unfolding kindNorm
+  pub norm-kind : (k : ℕ) → 0 < cardNorm c k → k < c .kinds
+  unfolding cardNorm
   norm-kind k h = value-kind (c .kinds) k h

@@ -7,7 +7,7 @@ use Prim.Native.Nat.{ℕ, _*_, _≤_, _<_}
 use lib.Dec.{ltb}
 use lib.ListN.{length}
 use Rattle.model.specs.Field.{tokens}
-use Rattle.model.specs.Card.{liveCount}
+use Rattle.model.specs.Card.{reachedCount}
 use Rattle.model.specs.Shelf.{entry}
 use Rattle.model.specs.Sheet.{kindCount, fieldCount, cardOf, fieldOf}
 use Rattle.model.specs.Limits.{mostKinds, mostRounds, mostTokens, lastDesk, Limits}
@@ -103,7 +103,7 @@ module _ (s : List ℕ) where
 
   -- Shelf field takes a sheet within the limits, a size of few tokens, a number under its entry and a buffer with room.
   pub shelf-taken : (t x size : ℕ) → (firstOf (shelfFieldChecks s t x size) ≡ clear)
-      ↔ (Limits s × (t ≤ mostTokens) × (x < entry (liveCount (cardOf s)) t) × (kindCount s ≤ size))
+      ↔ (Limits s × (t ≤ mostTokens) × (x < entry (reachedCount (cardOf s)) t) × (kindCount s ≤ size))
   unfolding shelfFieldChecks
   shelf-taken t x size = (
     (λ e.
@@ -111,10 +111,10 @@ module _ (s : List ℕ) where
         let a = cons-none 14 0 _ _ (p .1) in
         let b = cons-none 15 0 _ _ (a .1) in
         let c = cons-none 12 0 _ _ (b .1) in
-        (p .0, from-less mostTokens t (a .0), small x (entry (liveCount (cardOf s)) t) (b .0), from-less size (kindCount s) (c .0))),
+        (p .0, from-less mostTokens t (a .0), small x (entry (reachedCount (cardOf s)) t) (b .0), from-less size (kindCount s) (c .0))),
     (λ p. call-checks s (limits-accepted s (p .0)) _
         ∙ clear-cons 14 0 _ _ (not-less mostTokens t (p .1))
-        (clear-cons 15 0 _ _ (not-small x (entry (liveCount (cardOf s)) t) (p .2)) (clear-cons 12 0 _ [] (not-less size (kindCount s) (p .3)) clear-nil))),
+        (clear-cons 15 0 _ _ (not-small x (entry (reachedCount (cardOf s)) t) (p .2)) (clear-cons 12 0 _ [] (not-less size (kindCount s) (p .3)) clear-nil))),
   )
 
   -- Squads takes a sheet within the limits, two of its fields, of which the second is not empty, and a buffer with room.

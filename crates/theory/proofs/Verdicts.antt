@@ -8,13 +8,13 @@ use native.Mathlib.Omega.{arith}
 use lib.ListN.{getD}
 use Rattle.model.specs.Finite.{listFrom}
 use Rattle.model.specs.Field.{Field, unit, at}
-use Rattle.model.specs.Card.{Card, On}
+use Rattle.model.specs.Card.{Line, Card, On, Reached, fire}
 use Rattle.model.specs.Norm.{IsNorm, kindNorm, norm}
 use Rattle.theory.specs.Expansion.{Expands, Bisimilar}
 use Rattle.model.specs.Stage.{equalNorm, stage}
 use Rattle.model.specs.Base.{gain, firstSettled, formAt, roundsAt}
 use Rattle.theory.specs.Game.{Always}
-use Rattle.theory.specs.Terms.{Earlier, Before, Prime, OfKinds}
+use Rattle.theory.specs.Terms.{Earlier, Before, Prime, OfKinds, OnReached}
 use Rattle.model.specs.Sheet.{kindCount, fieldCount, cardOf, fieldOf}
 use Rattle.model.specs.Refusal.{Finding, clear, refusal, firstOf, Accepted, compareChecks}
 use Rattle.model.specs.Answer.{Answer, refused, given, same, different, verdict, compareOf, primeForm}
@@ -23,17 +23,18 @@ use Rattle.theory.proofs.Moves.{expands-map}
 use Rattle.theory.proofs.Normed.{Normed, Tidy}
 use Rattle.theory.proofs.Stages.{Stage, level, level-cong}
 use Rattle.theory.proofs.Rank.{rank, Within}
-use Rattle.theory.proofs.Base.{Base, form, form-within, form-rel, unit-some}
+use Rattle.theory.proofs.Base.{Base, form, form-within, form-rel, unit-some, Prime as BasePrime}
 use Rattle.theory.proofs.Unique.{form-iff}
-use Rattle.theory.proofs.Base.{Prime as BasePrime}
 use Rattle.theory.proofs.Settle.{tidy-within, tidy-fire}
 use Rattle.theory.proofs.Decide.{Finite, dec-stage}
 use Rattle.theory.proofs.Count.{past, past-whole, level-low, level-base}
 use Rattle.theory.proofs.Further.{atom-prime}
 use Rattle.theory.proofs.Lists.{getD-from, getD-past}
+use Rattle.theory.proofs.Reach.{all-expands}
+use Rattle.theory.proofs.Certified.{Found, under, live}
 use Rattle.theory.proofs.Fewest.{norms}
 use Rattle.theory.proofs.Rows.{Least, finite, order-iff, form-is}
-use Rattle.theory.proofs.Plain.{plain, tidy, tells-equal, tells-plain, settled, settled-bisimilar, settled-always, same-iff, different-iff, different-parts}
+use Rattle.theory.proofs.Plain.{plain, tidy, of-tidy, tells-equal, tells-plain, settled, settled-bisimilar, settled-always, same-iff, different-iff, different-parts}
 use Rattle.theory.proofs.Plays.{parts, parted-parting, parting-not, strategy-holds, plays-all}
 use Rattle.theory.proofs.Gain.{is-gain}
 use Rattle.model.proofs.Plain as model
@@ -63,14 +64,14 @@ module _ (s : List ℕ) (ok : Accepted s) where
   abbrev pub t : ℕ
   t = firstSettled c w (stage c w)
 
-  pub L : Least N (c .lines) (λ l o. o) (λ l o. o) (certified s ok .positive) (equalNorm c w) (tells-equal c w (certified s ok)) t
-  L = settled c w (certified s ok) some
+  pub L : Least c w (λ _. 0) (certified s ok) (equalNorm c w) (tells-equal c w (certified s ok)) t
+  L = settled c w (certified s ok)
 
   abbrev pub field : ℕ → Field
   field i = fieldOf s i
 
   pub field-tidy : (i : ℕ) → Tidy N (field i)
-  field-tidy i = tidy c w (certified s ok) (field i) (field-kinds s i)
+  field-tidy i = tidy c w (certified s ok) (field i) (field-kinds s (sheet-clear s ok) i)
 
   pub compare-clear : (i j : ℕ) → i < fieldCount s → j < fieldCount s → firstOf (compareChecks s i j) ≡ clear
   unfolding compareChecks
@@ -86,7 +87,7 @@ module _ (s : List ℕ) (ok : Accepted s) where
   q = L .before
 
   abbrev pub fin : Finite (N .on)
-  fin = finite N (c .lines) (λ l o. o) (λ l o. o) (certified s ok .positive) (equalNorm c w) (tells-equal c w (certified s ok))
+  fin = finite c w (λ _. 0) (certified s ok) (equalNorm c w) (tells-equal c w (certified s ok))
 
   abbrev pub B : ℕ
   B = past N fin
@@ -114,7 +115,7 @@ module _ (s : List ℕ) (ok : Accepted s) where
 
   pub written-is : (i : ℕ) → formAt c w (stage c w) t (field i) ≡ form-of i
   unfolding form-of stage
-  written-is i = rw (L .is) (form-is N (c .lines) (λ l o. o) (λ l o. o) (certified s ok .positive) (equalNorm c w) (tells-equal c w (certified s ok)) q (field i))
+  written-is i = rw (L .is) (form-is c w (λ _. 0) (certified s ok) (equalNorm c w) (tells-equal c w (certified s ok)) q (field i) (field-kinds s (sheet-clear s ok) i))
 
   prime-form-is : (i : ℕ) → primeForm s i ≡ listFrom (form-of i) 0 (kindCount s)
   unfolding primeForm
@@ -150,23 +151,26 @@ module _ (s : List ℕ) (ok : Accepted s) where
   field-form i = form-rel N R B D (level-cong N q) (level-low N fin q) (field i) (field-within i)
 
   -- Prime at the settled stage is prime.
-  pub prime-iff {ℓ} : (k : ℕ) → k < c .kinds → BasePrime N R k ↔ Prime {ℓ} c k
+  pub prime-iff {ℓ} : (k : ℕ) → Reached c k → BasePrime N R k ↔ Prime {ℓ} c k
   prime-iff k h = (
     (λ p. (h, λ a f x. p a (within a f) (from-stage (unit k) a (bisimilar (unit k) a unit-tidy (within-tidy a (within a f)) .1 x)))),
     (λ p a f x. p .1 a (before a f) (bisimilar (unit k) a unit-tidy (within-tidy a f) .0 (to-stage (unit k) a x))),
   )
     where
+      F : Found c w
+      F = certified s ok
+
       order : (j : ℕ) → j < c .kinds → Earlier c j k ↔ (rank N j < rank N k)
-      order j i = order-iff N (c .lines) (λ l o. o) (λ l o. o) (certified s ok .positive) (equalNorm c w) (tells-equal c w (certified s ok)) k j h i
+      order j i = order-iff c w (λ _. 0) F (equalNorm c w) (tells-equal c w F) k j (under c w F k h) i
 
       within : (a : Field) → Before c k a → Within N (rank N k) a
-      within a f j x = let v = f j x in (v .0, certified s ok .positive j (v .0), order j (v .0) .0 (v .1))
+      within a f j x = let v = f j x in let u = live c w F j (v .0) in (u .0, u .1, order j (u .0) .0 (v .1))
 
       before : (a : Field) → Within N (rank N k) a → Before c k a
-      before a f j x = let v = f j x in (v .0, order j (v .0) .1 (v .2))
+      before a f j x = let v = f j x in (F .out j (v .1), order j (v .0) .1 (v .2))
 
       unit-tidy : Tidy N (unit k)
-      unit-tidy j x = rw (unit-some k j x) (h, certified s ok .positive k h)
+      unit-tidy j x = rw (unit-some k j x) (live c w F k h)
 
       within-tidy : (a : Field) → Within N (rank N k) a → Tidy N a
       within-tidy a f j x = let v = f j x in (v .0, v .1)
@@ -174,7 +178,7 @@ module _ (s : List ℕ) (ok : Accepted s) where
   pub form-prime {ℓ} : (i k : ℕ) → 0 < form-of i k → Prime {ℓ} c k
   form-prime i k h =
       let u = form-parts i .0 k h in
-      prime-iff k (u .0) .0 (atom-prime N R B (level-cong N q) (level-low N fin q) D k (u .0) (u .1) (u .2) (form-parts i .1 k h))
+      prime-iff k (certified s ok .out k (u .1)) .0 (atom-prime N R B (level-cong N q) (level-low N fin q) D k (u .0) (u .1) (u .2) (form-parts i .1 k h))
 
   module _ (i j : ℕ) (hi : i < fieldCount s) (hj : j < fieldCount s) where
     abbrev a : Field
@@ -220,9 +224,17 @@ module _ (s : List ℕ) (ok : Accepted s) where
     again a b u v h =
         let F = certified s ok in
         let at-all : (x : Field) → OfKinds c x → Tidy N x = λ x f. tidy c w F x f in
-        expands-map (On c) (Stage N t) (Always c) a b
+        all-expands c (Always c) a b u v
+        (expands-map (OnReached c) (Stage N t) (Always c) a b
         (λ l m o _ p _ z. settled-always c w F t (L .most) (L .settled) _ _ (tidy-fire N l a o (at-all a u)) (tidy-fire N m b p (at-all b v)) .0 z)
-        (L .settled a b (at-all a u) (at-all b v) (settled-always c w F t (L .most) (L .settled) a b (at-all a u) (at-all b v) .1 h))
+        (L .settled a b (at-all a u) (at-all b v) (settled-always c w F t (L .most) (L .settled) a b (at-all a u) (at-all b v) .1 h)))
+
+    -- A side keeps to reached kinds, and a settled pair expands by all lines.
+    kept : (l : Line) → On c l → (x : Field) → 0 < x (l .kind) → Tidy N x → Tidy N (fire l x)
+    kept l o x h u = tidy-fire N l x (o, of-tidy c w (certified s ok) x u (l .kind) h) u
+
+    expand : (x y : Field) → Tidy N x → Tidy N y → Stage N t x y → Expands (On c) (Stage N t) x y
+    expand x y u v z = all-expands c (Stage N t) x y (of-tidy c w (certified s ok) x u) (of-tidy c w (certified s ok) y v) (L .settled x y u v z)
 
     norm-is : (k : ℕ) → IsNorm c (fieldOf s k) (norm c (fieldOf s k))
     norm-is k = norms c (tame s (sheet-clear s ok)) .fields (fieldOf s k) (field-tidy k)
@@ -231,11 +243,11 @@ module _ (s : List ℕ) (ok : Accepted s) where
     unfolding roundsAt cardOf
     demand3 = record {
       same-plays = λ p.
-          plays-all c (Stage N t) (dec-stage N fin t) (Tidy N) (λ l o x u. tidy-fire N l x o u) (λ x y u v z. L .settled x y u v z) a b (Always c)
+          plays-all c (Stage N t) (dec-stage N fin t) (Tidy N) kept expand a b (Always c)
           (λ x y g. settled-always c w (certified s ok) t (L .most) (L .settled) x y (g .0) (g .1) .0 (g .2)) (field-tidy i, field-tidy j, same-stage .0 p);
       plays-same = λ f g. same-stage .1 (always .1 (λ r. strategy-holds c f r [] a b g));
       parted-different = λ x.
-          different-stage .1 (parting-not c (Stage N t) (Tidy N) (λ l o y u. tidy-fire N l y o u) (λ y z u v p. L .settled y z u v p) x (field-tidy i) (field-tidy j));
+          different-stage .1 (parting-not c (Stage N t) (Tidy N) kept expand x (field-tidy i) (field-tidy j));
       different-parted = λ d r e.
           let x = different-parts c w (certified s ok) t (L .most) (L .settled) a b (field-tidy i) (field-tidy j) d r (given-same _ _ (sym (compare-is i j hi hj) ∙ e)) in
           (parted-parting c r a b (parts c r a b (x .2)), parts c r a b (x .2), x .2, x .0, (norm c a, norm c b, gain c, norm-is i, norm-is j, is-gain s ok, (λ z. x .1 ∙ rw z (model.plain .rounds-none _ _)), (λ z. x .1 ∙ model.plain .rounds-some _ _ d z)));

@@ -12,7 +12,7 @@ use lib.Dec.{ltb}
 use lib.ListN.{getD}
 use Rattle.model.specs.Finite.{listFrom}
 use Rattle.model.specs.Field.{Field, unit, weigh, at}
-use Rattle.model.specs.Card.{Line, Card, On}
+use Rattle.model.specs.Card.{Line, Card, On, Reached, reachedLines}
 use Rattle.model.specs.Norm.{IsNorm, kindNorm, norm, gainOf}
 use Rattle.model.specs.Base.{stageRow, stageForm, settledForm, gain}
 use Rattle.model.specs.Sheet.{byte, u16At, kindCount, lineCount, fieldCount, fieldsOffset, counts, lineOf, cardOf, fieldOf}
@@ -31,12 +31,13 @@ use Rattle.theory.proofs.Count.{past, past-whole, level-low, level-base
 use Rattle.theory.proofs.Certified.{Found}
 use Rattle.theory.proofs.Plain.{tidy}
 use Rattle.theory.proofs.Lists.{mem-from, getD-from, getD-past}
-use Rattle.theory.proofs.Sheets.{sheet-clear, certified, field-kinds}
+use Rattle.theory.proofs.Sheets.{sheet-clear, sheet-reaches, tells-reached, certified}
+use Rattle.theory.proofs.Reach.{dec-tells}
 use Rattle.theory.proofs.Limits.{accepted-limits, limit-of}
 use Rattle.theory.proofs.Gain.{sheet-norms, gain-one, is-gain}
 use Rattle.theory.proofs.Verdicts.{N, L, fin, field-tidy, demand3}
-use Rattle.theory.proofs.Settling.{row-of, base, sheet-settles}
-use Rattle.theory.proofs.Program.{theirs}
+use Rattle.theory.proofs.Settling.{row-of, out-row, base, sheet-settles}
+use Rattle.theory.proofs.Program.{theirs, kept, kept-kinds, kept-norm, kept-form}
 
 -- A sum of n parts, none of them over x.
 weigh-most : (n : ℕ) (w : ℕ → ℕ) (a : Field) (x : ℕ) → ((k : ℕ) → k < n → a k * w k ≤ x) → weigh n w a ≤ n * x
@@ -99,8 +100,11 @@ module _ (s : List ℕ) (bytes : Bytes s) where
     most-kinds : cardOf s .kinds ≤ mostKinds
     most-kinds = omega (arith, kinds-is, accepted-limits s ok .kinds .1)
 
-    positive : (k : ℕ) → k < cardOf s .kinds → 0 < kindNorm (cardOf s) k
+    positive : (k : ℕ) → Reached (cardOf s) k → 0 < kindNorm (cardOf s) k
     positive = certified s ok .positive
+
+    num : (k : ℕ) → Reached (cardOf s) k → k < cardOf s .kinds
+    num k v = sheet-reaches s .under k v
 
     kind-norm : (k : ℕ) → k < cardOf s .kinds → kindNorm (cardOf s) k ≤ normLimit
     kind-norm k h = limit-of s ok k (omega (arith, kinds-is))
@@ -119,47 +123,49 @@ module _ (s : List ℕ) (bytes : Bytes s) where
     field-norm i = norm-most (fieldOf s i) 65535 (field-count i)
 
     gain-most : gain (cardOf s) ≤ mostLeftNorm
-    gain-most = gain-bound (cardOf s .kinds) (kindNorm (cardOf s)) mostLeftNorm (cardOf s .lines) left-norm
+    gain-most = gain-bound (cardOf s .kinds) (kindNorm (cardOf s)) mostLeftNorm (reachedLines (cardOf s)) (λ l m. left-norm l (sheet-reaches s .lines-iff l .0 m .0))
 
     -- At stage q + 1 a row has its kind's norm, and holds kinds of the card alone.
     module _ (q : ℕ) where
       abbrev c : Card
       c = cardOf s
 
-      abbrev F : Found (c .lines) (c .kinds) (kindNorm c)
+      abbrev F : Found c (kindNorm c)
       F = certified s ok
 
       abbrev all : Finite (N s ok .on)
       all = fin s ok
 
-      row-norm : (k : ℕ) → k < c .kinds → norm c (stageRow c (suc q) k) ≡ kindNorm c k
-      row-norm k h =
-          ap (norm c) (row-of c F q k h)
-          ∙ sym (level-cong (N s ok) q .norms (unit k) (level-base (N s ok) all q .row k) (level-base (N s ok) all q .rel k h (positive k h) (past-whole (N s ok) all k h)))
+      row-norm : (k : ℕ) → Reached c k → norm c (stageRow c (suc q) k) ≡ kindNorm c k
+      row-norm k v =
+          let h = num k v in
+          ap (norm c) (row-of c F q k v)
+          ∙ sym (level-cong (N s ok) q .norms (unit k) (level-base (N s ok) all q .row k) (level-base (N s ok) all q .rel k h (positive k v) (past-whole (N s ok) all k h)))
           ∙ weigh-unit (c .kinds) (kindNorm c) k h
 
-      row-kinds : (k : ℕ) → k < c .kinds → (j : ℕ) → 0 < stageRow c (suc q) k j → j < c .kinds
+      row-kinds : (k : ℕ) → Reached c k → (j : ℕ) → 0 < stageRow c (suc q) k j → Reached c j
       row-kinds k h j i = go (base c F q .counts k h)
         where
-          go : {A B : Type 0} → ((stageRow c (suc q) k ≡ unit k) × A) ⊎ (Before c k (stageRow c (suc q) k) × B) → j < c .kinds
+          go : {A B : Type 0} → ((stageRow c (suc q) k ≡ unit k) × A) ⊎ (Before c k (stageRow c (suc q) k) × B) → Reached c j
           go (inl p) = rw (unit-some k j (rw (ap (λ (f : Field). f j) (p .0)) at i)) h
           go (inr p) = p .0 j i .0
 
       row-count : (k j : ℕ) → k < c .kinds → stageRow c (suc q) k j ≤ normLimit
-      row-count k j h = go (decLt 0 (stageRow c (suc q) k j))
+      row-count k j h = go (decLt 0 (stageRow c (suc q) k j)) (dec-tells _ (tells-reached s ok k))
         where
-          go : Dec (0 < stageRow c (suc q) k j) → stageRow c (suc q) k j ≤ normLimit
-          go (yes p) =
-              let i = row-kinds k h j p in
-              omega (arith, count-weight (c .kinds) (kindNorm c) (stageRow c (suc q) k) j i (positive j i), row-norm k h, kind-norm k h)
-          go (no p) = omega arith
+          go : Dec (0 < stageRow c (suc q) k j) → Dec (Reached c k) → stageRow c (suc q) k j ≤ normLimit
+          go (yes p) (yes v) =
+              let i = row-kinds k v j p in
+              omega (arith, count-weight (c .kinds) (kindNorm c) (stageRow c (suc q) k) j (num j i) (positive j i), row-norm k v, kind-norm k h)
+          go (yes p) (no n) = omega (arith, ap (λ (f : Field). f j) (out-row c F (suc q) k n))
+          go (no p) d = omega arith
 
       formed : Field → Field
       formed a = form (N s ok) (level (N s ok) q) (past (N s ok) all) (level-base (N s ok) all q) a
 
-      form-count : (a : Field) → OfKinds c a → (j : ℕ) → stageForm c (suc q) a j ≤ norm c a
+      reached-count : (a : Field) → OfKinds c a → (j : ℕ) → stageForm c (suc q) a j ≤ norm c a
       unfolding formed
-      form-count a u j = rw (ap (λ (f : Field). f j) (theirs c (kindNorm c) F q a)) (go (decLt 0 (formed a j)))
+      reached-count a u j = rw (ap (λ (f : Field). f j) (theirs c (kindNorm c) F q a u)) (go (decLt 0 (formed a j)))
         where
           within : Within (N s ok) (past (N s ok) all) a
           within = tidy-within (N s ok) (past (N s ok) all) (past-whole (N s ok) all) a (tidy c (kindNorm c) F a u)
@@ -171,6 +177,15 @@ module _ (s : List ℕ) (bytes : Bytes s) where
               omega (arith, count-weight (c .kinds) (kindNorm c) (formed a) j (i .0) (i .1), level-cong (N s ok) q .norms a (formed a) r)
           go (no p) = omega arith
 
+      form-count : (a : Field) (j : ℕ) → stageForm c (suc q) a j ≤ norm c a
+      form-count a j =
+          omega (
+            arith,
+            reached-count (kept c (kindNorm c) F a) (kept-kinds c (kindNorm c) F a) j,
+            ap (λ (f : Field). f j) (kept-form c (kindNorm c) F q a),
+            kept-norm c (kindNorm c) F a,
+          )
+
     written-count : (i k : ℕ) → at (primeForm s i) k ≤ norm (cardOf s) (fieldOf s i)
     unfolding primeForm
     written-count i k = go (decLt k (kindCount s))
@@ -179,7 +194,7 @@ module _ (s : List ℕ) (bytes : Bytes s) where
         f = settledForm (cardOf s) (fieldOf s i)
 
         each : (j : ℕ) → f j ≤ norm (cardOf s) (fieldOf s i)
-        each j = rw (L s ok .is) (form-count (L s ok .before) (fieldOf s i) (field-kinds s i) j)
+        each j = rw (L s ok .is) (form-count (L s ok .before) (fieldOf s i) j)
 
         go : Dec (k < kindCount s) → getD (listFrom f 0 (kindCount s)) k 0 ≤ norm (cardOf s) (fieldOf s i)
         go (yes h) = rw (getD-from f 0 (kindCount s) k 0 h) (each (0 + k))
@@ -193,7 +208,7 @@ module _ (s : List ℕ) (bytes : Bytes s) where
         let z = d .4 in
         let x : z .0 ≤ mostFieldNorm = omega (arith, z .3 .1 (norm (cardOf s) (fieldOf s i)) (n .0), field-norm i) in
         let g : z .2 ≤ mostLeftNorm = omega (arith, gain-one (cardOf s) (z .2) (gain (cardOf s)) (z .5) (is-gain s ok), gain-most) in
-        let m : t ≤ mostKinds = omega (arith, d .3, accepted-limits s ok .kinds .1) in
+        let m : t ≤ mostKinds = omega (arith, d .3, sheet-reaches s .count-most, most-kinds) in
         (m, rounds-most r (min (z .0) (z .1)) (z .2) t mostFieldNorm mostLeftNorm (mostKinds - 1) (z .6) (z .7) (omega arith) g m)
 
     pub widths : Widths s
@@ -210,7 +225,7 @@ module _ (s : List ℕ) (bytes : Bytes s) where
       form-count = form-count;
       settled-count = λ k j h. rw (L s ok .is) (row-count (L s ok .before) k j (omega (arith, kinds-is)));
       written-count = written-count;
-      stage-most = omega (arith, sheet-settles s ok .most, most-kinds);
+      stage-most = omega (arith, sheet-settles s ok .most, sheet-reaches s .count-most, most-kinds);
       verdict-most = verdict-most;
       narrow = (le-by-compare _ _ tt, le-by-compare _ _ tt);
     }

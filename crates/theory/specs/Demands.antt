@@ -5,7 +5,7 @@ use mathlib.Core.Path.{_≡_}
 use Prim.Native.Nat.{ℕ, _+_, _-_, _*_, _≤_, _<_, min}
 use lib.ListN.{length, take, drop}
 use Rattle.model.specs.Field.{Field, at, tokens}
-use Rattle.model.specs.Card.{On, liveCount}
+use Rattle.model.specs.Card.{On, reachedCount}
 use Rattle.model.specs.Norm.{IsNorm}
 use Rattle.theory.specs.Expansion.{Expands, Bisimilar}
 use Rattle.model.specs.Base.{settledStage, settledRow}
@@ -79,7 +79,7 @@ pub record Demand1 (s : List ℕ) : Type 0 where
   pub number-refused : (i k p : ℕ) → firstOf (shelfNumberChecks s i) ≡ refusal k p → shelfNumberOf s i ≡ refused k p
   -- Number to field is not refused just when the sheet is within the limits, the size is at most 16, the number is under its entry and the buffer has room for n counts; then these are written.
   pub shelf-taken : (t x size : ℕ) → (firstOf (shelfFieldChecks s t x size) ≡ clear)
-      ↔ (Limits s × (t ≤ mostTokens) × (x < entry (liveCount (cardOf s)) t) × (kindCount s ≤ size))
+      ↔ (Limits s × (t ≤ mostTokens) × (x < entry (reachedCount (cardOf s)) t) × (kindCount s ≤ size))
   pub shelved : (t x : ℕ) (buffer : List ℕ) → firstOf (shelfFieldChecks s t x (length buffer)) ≡ clear
       → shelfFieldOf s t x buffer ≡ record { answer = given tt; lent = written (shelfCounts s t x) buffer }
   pub shelf-refused : (t x : ℕ) (buffer : List ℕ) (k p : ℕ) → firstOf (shelfFieldChecks s t x (length buffer)) ≡ refusal k p
@@ -122,10 +122,10 @@ pub record Demand3 (s : List ℕ) (i j : ℕ) : Type 0 where
       → ((hs : List (Challenge (cardOf s))) → Answered (cardOf s) f (λ _ _. Unit {0}) [] hs (fieldOf s i) (fieldOf s j)) → compareOf s i j ≡ given same
   -- "They are called different exactly when some choice of challenges, each made in view of the replies so far, parts them whatever the replies,
   -- and then within the number of rounds reported, which is N + 1 + (s - 1)(g + 1), or N + 1 if s is 0: N the smaller of the two norms, s the
-  -- stage reported, never above the number of kinds, g the most that one read adds to a norm."
+  -- stage reported, never above the number of [reached] kinds, g the most that one read adds to a norm."
   pub parted-different : Parting (cardOf s) (fieldOf s i) (fieldOf s j) → (t : ℕ) × (q : ℕ) × (compareOf s i j ≡ given (different t q))
   pub different-parted : (t r : ℕ) → compareOf s i j ≡ given (different t r) → Parting (cardOf s) (fieldOf s i) (fieldOf s j) × Parted (cardOf s) r (fieldOf s i) (fieldOf s j)
-      × (¬ Holds (cardOf s) r (fieldOf s i) (fieldOf s j)) × (t ≤ kindCount s)
+      × (¬ Holds (cardOf s) r (fieldOf s i) (fieldOf s j)) × (t ≤ reachedCount (cardOf s))
       × ((x : ℕ) × (y : ℕ) × (g : ℕ) × IsNorm (cardOf s) (fieldOf s i) x × IsNorm (cardOf s) (fieldOf s j) y × IsGain (cardOf s) g
       × (t ≡ 0 → r ≡ min x y + 1) × (0 < t → r ≡ min x y + 1 + (t - 1) * (g + 1)))
   -- "The stage is the least that does not relate the pair."

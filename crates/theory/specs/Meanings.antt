@@ -3,29 +3,30 @@ use mathlib.Core.Bool.{true}
 use mathlib.Core.List.{List, [], _∷_, _++_, List·Memᴰ}
 use mathlib.Core.Logic.{_↔_}
 use mathlib.Core.Path.{_≡_}
-use Prim.Native.Nat.{ℕ, suc, _+_, _*_, _/_, _%_, _≤_, _<_}
+use Prim.Native.Nat.{ℕ, suc, _+_, _*_, _/_, _%_, _≤_, _<_, max}
 use lib.Dec.{T}
 use lib.ListN.{length, take}
-use Rattle.model.specs.Field.{Field, unit, weighFrom, at}
-use Rattle.model.specs.Card.{Line, Card, Live, liveCount, On, fire}
-use Rattle.model.specs.Norm.{Clears, IsNorm, kindNorm, norm}
+use Rattle.model.specs.Finite.{below}
+use Rattle.model.specs.Field.{Field, none, unit, weighFrom, at}
+use Rattle.model.specs.Card.{Line, Card, Reached, reached, reachedKinds, reachedCount, reachedLines, On, fire}
+use Rattle.model.specs.Norm.{Clears, IsNorm, cardNorm, kindNorm, norm}
 use Rattle.theory.specs.Expansion.{Bisimulation, StepBisimulation}
 use Rattle.theory.specs.Stages.{Lowers, Stages}
-use Rattle.model.specs.Base.{stageRow, settledStage, settledRow, gain}
+use Rattle.model.specs.Base.{stageRow, settledStage, settledRow, settledForm, gain}
 use Rattle.theory.specs.Game.{Challenge, sideOf, Holds, Parted, Strategy, Answered}
 use Rattle.model.specs.Walk.{apart, together}
 use Rattle.model.specs.Sheet.{linesOffset, kindCount, codeCount, lineCount, fieldCount, lineOf, cardOf, fieldOf}
 use Rattle.model.specs.Limits.{mostKinds, mostLines, mostFields, normLimit, mostInput}
 use Rattle.model.specs.Refusal.{Check, check, clear, refusal, firstOf, headerChecks, sheetChecks, acceptChecks, Accepted}
-use Rattle.model.specs.Answer.{tableOf, rowOf, Session, fullWalk}
+use Rattle.model.specs.Answer.{verdict, tableOf, rowOf, Session, fullWalk}
 use Rattle.model.specs.Days.{WalkCall}
 use Rattle.model.specs.Plain.{headerBytes}
 use Rattle.theory.specs.Widths.{Bytes, Widths}
-use Rattle.model.specs.Page.{number, itself, refusedLine, pageOf, printed}
+use Rattle.model.specs.Page.{bytes, number, newline, itself, wordsOf, kindLine, refusedLine, pageOf, printed}
 use Rattle.theory.specs.Shelves.{Shelves, EntriesFit}
 use Rattle.theory.specs.Squads.{Squads}
 use Rattle.theory.specs.Days.{Day}
-use Rattle.theory.specs.Terms.{IsGain, Stage, BaseOf, Prime, Settled}
+use Rattle.theory.specs.Terms.{IsGain, Stage, BaseOf, Prime, Settled, OnReached, OfKinds}
 
 -- "the first that applies is given with its place"
 pub record Firsts (xs : List Check) : Type 0 where
@@ -42,18 +43,47 @@ pub record Places (s : List ℕ) : Type 0 where
   pub code-place : firstOf (headerChecks s) ≡ clear → (j : ℕ) → (firstOf (sheetChecks s) ≡ refusal 8 j)
       ↔ ((j < lineCount s) × ((lineOf s j .kind < kindCount s) × (¬ (lineOf s j .code < codeCount s)))
       × ((i : ℕ) → i < j → (lineOf s i .kind < kindCount s) × (lineOf s i .code < codeCount s)))
-  -- "a kind has no norm", at the "lowest such".
+  -- "a kind has no norm", at the "lowest such" of those that are reached.
   pub missing-place : firstOf (sheetChecks s) ≡ clear → (k : ℕ) → (firstOf (acceptChecks s) ≡ refusal 9 k)
-      ↔ ((k < kindCount s) × ((r : ℕ) → ¬ Clears (On (cardOf s)) r (unit k)) × ((j : ℕ) → j < k → (v : ℕ) × IsNorm (cardOf s) (unit j) v))
-  -- "a norm over" the greatest taken, at the "lowest such": every kind has a norm, and those of lower kinds are within the limit.
+      ↔ (Reached (cardOf s) k × ((r : ℕ) → ¬ Clears (On (cardOf s)) r (unit k)) × ((j : ℕ) → j < k → Reached (cardOf s) j → (v : ℕ) × IsNorm (cardOf s) (unit j) v))
+  -- "a norm over" the greatest taken, at the "lowest such" of those that are reached: each of these has a norm, and those of lower ones are within the limit.
   pub over-place : firstOf (sheetChecks s) ≡ clear → (k : ℕ) → (firstOf (acceptChecks s) ≡ refusal 10 k)
-      ↔ ((k < kindCount s) × ((v : ℕ) × (normLimit < v) × IsNorm (cardOf s) (unit k) v) × ((j : ℕ) → j < kindCount s → (v : ℕ) × IsNorm (cardOf s) (unit j) v)
-      × ((j : ℕ) → j < k → (v : ℕ) × (v ≤ normLimit) × IsNorm (cardOf s) (unit j) v))
+      ↔ (Reached (cardOf s) k × ((v : ℕ) × (normLimit < v) × IsNorm (cardOf s) (unit k) v) × ((j : ℕ) → Reached (cardOf s) j → (v : ℕ) × IsNorm (cardOf s) (unit j) v)
+      × ((j : ℕ) → j < k → Reached (cardOf s) j → (v : ℕ) × (v ≤ normLimit) × IsNorm (cardOf s) (unit j) v))
 
--- Of a sheet that passes 1 to 8. "A kind has a norm if it can be cleared."
+-- Of every sheet: the search finds the reached kinds, which are the kinds spoken of, and their lines.
+pub record Reaches (c : Card) : Type 0 where
+  pub test-iff : (k : ℕ) → T (reached c k) ↔ Reached c k
+  pub under : (k : ℕ) → Reached c k → k < c .kinds
+  pub kinds-iff : (k : ℕ) → List·Memᴰ k (reachedKinds c) ↔ Reached c k
+  pub lines-iff : (l : Line) → List·Memᴰ l (reachedLines c) ↔ OnReached c l
+  pub none-iff : (reachedCount c ≡ 0) ↔ ((k : ℕ) → ¬ Reached c k)
+  pub count-most : reachedCount c ≤ c .kinds
+
+-- Of a sheet that passes 1 to 8 and reaches every kind: no kind and no line is left out, so every answer is what it was before kinds could be out.
+pub record Used (c : Card) : Type 0 where
+  pub kinds : reachedKinds c ≡ below (c .kinds)
+  pub count : reachedCount c ≡ c .kinds
+  pub lines : reachedLines c ≡ c .lines
+  pub norms : kindNorm c ≡ cardNorm c
+
+-- The reached part of a card: its lines are those of the reached kinds.
+abbrev pub part : Card → Card
+part c = record { kinds = c .kinds; lines = reachedLines c; fields = c .fields }
+
+-- Of a sheet that passes 1 to 8: the answers are those of its reached part.
+pub record Parts (c : Card) : Type 0 where
+  pub reached-iff : (k : ℕ) → Reached (part c) k ↔ Reached c k
+  pub norms : kindNorm (part c) ≡ kindNorm c
+  pub stage : settledStage (part c) ≡ settledStage c
+  pub rows : settledRow (part c) ≡ settledRow c
+  pub forms : settledForm (part c) ≡ settledForm c
+  pub verdicts : (a b : Field) → verdict (part c) (kindNorm (part c)) a b ≡ verdict c (kindNorm c) a b
+
+-- Of a sheet that passes 1 to 8. "A kind has a norm if it can be cleared." A kind that is out is given none.
 pub record Norms (c : Card) : Type 0 where
-  pub kinds : (k : ℕ) → k < c .kinds → 0 < kindNorm c k → IsNorm c (unit k) (kindNorm c k)
-  pub missing : (k : ℕ) → k < c .kinds → kindNorm c k ≡ 0 → (r : ℕ) → ¬ Clears (On c) r (unit k)
+  pub kinds : (k : ℕ) → 0 < kindNorm c k → Reached c k × IsNorm c (unit k) (kindNorm c k)
+  pub missing : (k : ℕ) → Reached c k → kindNorm c k ≡ 0 → (r : ℕ) → ¬ Clears (On c) r (unit k)
   pub fields : (a : Field) → ((k : ℕ) → 0 < a k → (k < c .kinds) × (0 < kindNorm c k)) → IsNorm c a (norm c a)
   -- "the norm of its first kind's tokens plus the norm of the rest"
   pub first-rest : (a : Field) → norm c a ≡ weighFrom 0 (c .kinds) (kindNorm c) a
@@ -77,26 +107,30 @@ module _ (c : Card) where
   pub record Settles : Type 1 where
     -- The stages are those of the paper, and no others are.
     pub stages : Stages c (kindNorm c) (Stage c)
-    pub stages-only : (S : ℕ → Field → Field → Type 0) → Stages c (kindNorm c) S → (s : ℕ) (a b : Field) → S s a b ↔ Stage c s a b
+    pub stages-only : (S : ℕ → Field → Field → Type 0) → Stages c (kindNorm c) S → (s : ℕ) (a b : Field) → OfKinds c a → OfKinds c b → S s a b ↔ Stage c s a b
     -- From stage 1 up the rows are the base, the only one.
     pub base : (s : ℕ) → BaseOf c (Stage c (suc s)) (stageRow c (suc s))
-    pub only : (s : ℕ) (rows : ℕ → Field) → BaseOf c (Stage c (suc s)) rows → (k : ℕ) → Live c k → rows k ≡ stageRow c (suc s) k
+    pub only : (s : ℕ) (rows : ℕ → Field) → BaseOf c (Stage c (suc s)) rows → (k : ℕ) → Reached c k → rows k ≡ stageRow c (suc s) k
+    -- "Other kinds get a row of zeros."
+    pub out-row : (s k : ℕ) → ¬ Reached c k → stageRow c s k ≡ none
     -- "the final base"
     pub final : BaseOf c (Stage c (settledStage c)) (settledRow c)
-    -- "The settled stage is the least s from 1 up in which every related pair satisfies expansion; it is at most n."
+    -- "The settled stage is the least s from 1 up in which every related pair satisfies expansion; it is at most n." "A sheet that reaches no kind
+    -- settles at stage 1."
     pub from : 1 ≤ settledStage c
-    pub most : settledStage c ≤ liveCount c
+    pub most : settledStage c ≤ max 1 (reachedCount c)
+    pub nothing : ((k : ℕ) → ¬ Reached c k) → settledStage c ≡ 1
     pub settled : Settled c (settledStage c)
     pub least : (s : ℕ) → 1 ≤ s → s < settledStage c → ¬ Settled c s
     -- "reads that lower the norm": those by a line that leaves less than its kind's norm, whatever field uses it.
     pub lowers-iff : (l : Line) (a : Field) → On c l → 0 < a (l .kind) → (norm c (fire l a) < norm c a) ↔ Lowers c (kindNorm c) l
     -- g, "the most that one read adds to a norm".
     pub is-gain : IsGain c (gain c)
-    pub gain-most : (l : Line) (a : Field) → On c l → 0 < a (l .kind) → norm c (fire l a) ≤ norm c a + gain c
+    pub gain-most : (l : Line) (a : Field) → OnReached c l → 0 < a (l .kind) → norm c (fire l a) ≤ norm c a + gain c
 
   -- Of the same card: "A prime kind's row is itself once."
   pub record Primes {ℓ} : Type (ℓ + 1) where
-    pub own-row : (k : ℕ) → Live c k → (settledRow c k ≡ unit k) ↔ Prime {ℓ} c k
+    pub own-row : (k : ℕ) → Reached c k → (settledRow c k ≡ unit k) ↔ Prime {ℓ} c k
 
 -- A number of the page stands in decimal: a digit, or the number without its last digit and then that digit.
 pub record Decimal (x : ℕ) : Type 0 where
@@ -110,6 +144,10 @@ pub record Pages {ℓ} (s : List ℕ) : Type (ℓ + 1) where
   -- "12,821 bytes" are one more than the longest sheet has; longer input is refused, by the header's checks.
   pub longest : mostInput ≡ linesOffset + mostLines * (2 + mostKinds) + 2 * mostKinds * mostFields + 1
   pub too-long : mostInput ≤ length s → (k : ℕ) × (p : ℕ) × (firstOf (headerChecks s) ≡ refusal k p) × (printed s ≡ refusedLine k p)
+  -- "Other kinds .. the page prints `kind I out`."
+  pub out-line : (k : ℕ) → ¬ Reached (cardOf s) k → kindLine s (tableOf s) (kindNorm (cardOf s)) k ≡ bytes "kind " ++ number k ++ bytes " out" ++ newline
+  pub reached-line : (k : ℕ) → Reached (cardOf s) k
+      → kindLine s (tableOf s) (kindNorm (cardOf s)) k ≡ bytes "kind " ++ number k ++ wordsOf s (tableOf s) (kindNorm (cardOf s)) k ++ newline
   -- The row that the page shows, and its word prime, which is given to the prime kinds alone.
   pub row-shown : Accepted s → (k j : ℕ) → k < kindCount s → j < kindCount s → at (rowOf (kindCount s) k (tableOf s)) j ≡ settledRow (cardOf s) k j
   pub prime-word : Accepted s → (k : ℕ) → k < kindCount s → T (itself k (rowOf (kindCount s) k (tableOf s))) ↔ Prime {ℓ} (cardOf s) k
@@ -121,6 +159,9 @@ pub record Meanings {ℓ} : Type (ℓ + 1) where
   pub headers : (s : List ℕ) → Bytes s → firstOf (headerChecks s) ≡ clear
       → take linesOffset s ≡ headerBytes (kindCount s) (codeCount s) (lineCount s) (fieldCount s)
   pub places : (s : List ℕ) → Places s
+  pub reaches : (s : List ℕ) → Reaches (cardOf s)
+  pub used : (s : List ℕ) → firstOf (sheetChecks s) ≡ clear → ((k : ℕ) → k < kindCount s → Reached (cardOf s) k) → Used (cardOf s)
+  pub parts : (s : List ℕ) → firstOf (sheetChecks s) ≡ clear → Parts (cardOf s)
   pub norms : (s : List ℕ) → firstOf (sheetChecks s) ≡ clear → Norms (cardOf s)
   pub steps : (L : Line → Type 0) (R : Field → Field → Type ℓ) → Bisimulation L R ↔ StepBisimulation L R
   pub games : (c : Card) → Games c
@@ -132,6 +173,6 @@ pub record Meanings {ℓ} : Type (ℓ + 1) where
   pub widths : (s : List ℕ) → Bytes s → Accepted s → Widths s
   -- The desks of a session, of every list of walks.
   pub days : (calls : List WalkCall) (v : Session) (d : ℕ) → Day calls v d
-  pub shelves : (c : Card) (t : ℕ) → Shelves c t
+  pub shelves : (s : List ℕ) (t : ℕ) → Shelves (cardOf s) t
   pub entries-fit : EntriesFit
   pub squads : (s : List ℕ) → Accepted s → (i j : ℕ) → Squads {ℓ} s i j

@@ -6,17 +6,19 @@ use Rattle.model.specs.Field.{Field}
 use Rattle.model.specs.Card.{Line, Card, On}
 use Rattle.model.specs.Norm.{normBy}
 use Rattle.theory.specs.Expansion.{Expands}
+use Rattle.theory.specs.Terms.{OnReached, OfKinds}
 
 module _ (c : Card) (w : ℕ → ℕ) where
   -- "reads that lower the norm": the line leaves less than the norm of its kind (Meanings, `lowers-iff`).
   abbrev pub Lowers : Line → Type 0
-  Lowers l = On c l × (normBy c w (l .left) < w (l .kind))
+  Lowers l = OnReached c l × (normBy c w (l .left) < w (l .kind))
 
-  -- The sentences on stages, one by one. They leave one relation for each stage.
+  -- The sentences on stages, one by one, of "the fields that the stages .. speak of". They leave one relation for each stage.
   pub record Stages (S : ℕ → Field → Field → Type 0) : Type 0 where
     -- "Stage 0 relates fields of equal norm."
-    pub start : (a b : Field) → S 0 a b ↔ (normBy c w a ≡ normBy c w b)
+    pub start : (a b : Field) → OfKinds c a → OfKinds c b → S 0 a b ↔ (normBy c w a ≡ normBy c w b)
     -- "Stage 1 holds for a pair in stage 0 that satisfies norm-reducing expansion in stage 1."
-    pub one : (a b : Field) → S 1 a b ↔ (S 0 a b × Expands Lowers (S 1) a b)
+    pub one : (a b : Field) → OfKinds c a → OfKinds c b → S 1 a b ↔ (S 0 a b × Expands Lowers (S 1) a b)
     -- "Stage s + 1 holds for a pair in stage s that satisfies expansion in stage s and norm-reducing expansion in stage s + 1."
-    pub next : (s : ℕ) (a b : Field) → S (suc (suc s)) a b ↔ (S (suc s) a b × Expands (On c) (S (suc s)) a b × Expands Lowers (S (suc (suc s))) a b)
+    pub next : (s : ℕ) (a b : Field) → OfKinds c a → OfKinds c b
+        → S (suc (suc s)) a b ↔ (S (suc s) a b × Expands (On c) (S (suc s)) a b × Expands Lowers (S (suc (suc s))) a b)

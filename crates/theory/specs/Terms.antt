@@ -1,22 +1,26 @@
--- Terms of document 01 as types: fields of the card's kinds, g, the order of kinds, a base, primes, settled.
+-- Terms of document 01 as types: lines and fields of the reached kinds, g, the order of kinds, a base, primes, settled.
 use mathlib.Core.Logic.{_⊎_}
 use mathlib.Core.Path.{_≡_}
 use Prim.Native.Nat.{ℕ, _+_, _≤_, _<_}
 use lib.Dec.{T}
 use Rattle.model.specs.Field.{Field, unit}
-use Rattle.model.specs.Card.{Line, Card, Live, On}
+use Rattle.model.specs.Card.{Line, Card, Reached, On}
 use Rattle.model.specs.Norm.{IsNorm, kindNorm}
 use Rattle.theory.specs.Expansion.{Expands, Bisimilar}
 use Rattle.model.specs.Stage.{stage}
 
--- A field of the kinds that are spoken of.
-abbrev pub OfKinds : Card → Field → Type 0
-OfKinds c a = (k : ℕ) → 0 < a k → Live c k
+-- The line is one of the card's, and of a reached kind.
+abbrev pub OnReached : Card → Line → Type 0
+OnReached c l = On c l × Reached c (l .kind)
 
--- "g is the greatest of 0 and, over all lines, the norm left minus the kind's norm."
+-- A field of the reached kinds: one of "the fields that the stages and the settled stage speak of".
+abbrev pub OfKinds : Card → Field → Type 0
+OfKinds c a = (k : ℕ) → 0 < a k → Reached c k
+
+-- "g is the greatest of 0 and, over all lines [of reached kinds], the norm left minus the kind's norm."
 pub record IsGain (c : Card) (g : ℕ) : Type 0 where
-  pub most : (l : Line) → On c l → (x y : ℕ) → IsNorm c (l .left) x → IsNorm c (unit (l .kind)) y → x ≤ y + g
-  pub reached : (g ≡ 0) ⊎ ((l : Line) × On c l × (x : ℕ) × (y : ℕ) × IsNorm c (l .left) x × IsNorm c (unit (l .kind)) y × (x ≡ y + g))
+  pub most : (l : Line) → OnReached c l → (x y : ℕ) → IsNorm c (l .left) x → IsNorm c (unit (l .kind)) y → x ≤ y + g
+  pub reached : (g ≡ 0) ⊎ ((l : Line) × OnReached c l × (x : ℕ) × (y : ℕ) × IsNorm c (l .left) x × IsNorm c (unit (l .kind)) y × (x ≡ y + g))
 
 module _ (c : Card) where
   -- "Stage s": the relation that the test decides.
@@ -29,18 +33,18 @@ module _ (c : Card) where
 
   -- "a field of earlier kinds"
   abbrev pub Before : ℕ → Field → Type 0
-  Before k a = (j : ℕ) → 0 < a j → Live c j × Earlier j k
+  Before k a = (j : ℕ) → 0 < a j → Reached c j × Earlier j k
 
   -- "A base at a stage gives each kind the counts of earlier atoms that the stage relates to it; where there are none it gives the
   -- kind itself, an atom."
   pub record BaseOf (R : Field → Field → Type 0) (row : ℕ → Field) : Type 0 where
-    pub related : (k : ℕ) → Live c k → R (unit k) (row k)
-    pub counts : (k : ℕ) → Live c k
+    pub related : (k : ℕ) → Reached c k → R (unit k) (row k)
+    pub counts : (k : ℕ) → Reached c k
         → ((row k ≡ unit k) × ((a : Field) → Before k a → ¬ R (unit k) a)) ⊎ (Before k (row k) × ((j : ℕ) → 0 < row k j → row j ≡ unit j))
 
   -- "A kind is prime if no field of earlier kinds is bisimilar to it."
   abbrev pub Prime {ℓ} : ℕ → Type (ℓ + 1)
-  Prime k = Live c k × ((a : Field) → Before k a → ¬ Bisimilar {ℓ} (On c) (unit k) a)
+  Prime k = Reached c k × ((a : Field) → Before k a → ¬ Bisimilar {ℓ} (On c) (unit k) a)
 
   -- "every related pair satisfies expansion"
   abbrev pub Settled : ℕ → Type 0

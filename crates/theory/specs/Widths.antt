@@ -6,7 +6,6 @@ use Rattle.model.specs.Field.{Field, at}
 use Rattle.model.specs.Card.{Line, On, fire}
 use Rattle.model.specs.Norm.{kindNorm, norm}
 use Rattle.model.specs.Base.{settledStage, stageRow, stageForm, settledRow, gain}
-use Rattle.theory.specs.Terms.{OfKinds}
 use Rattle.model.specs.Sheet.{byte, kindCount, fieldCount, cardOf, fieldOf}
 use Rattle.model.specs.Limits.{mostKinds, normLimit}
 use Rattle.model.specs.Answer.{given, different, compareOf, primeForm}
@@ -38,7 +37,7 @@ pub record Widths (s : List ℕ) : Type 0 where
   pub gain-most : gain (cardOf s) ≤ mostLeftNorm
   -- The rows, and the decompositions by them, at every stage from 1 up; the settled stage is one of them.
   pub row-count : (q k j : ℕ) → k < kindCount s → stageRow (cardOf s) (suc q) k j ≤ normLimit
-  pub form-count : (q : ℕ) (a : Field) → OfKinds (cardOf s) a → (j : ℕ) → stageForm (cardOf s) (suc q) a j ≤ norm (cardOf s) a
+  pub form-count : (q : ℕ) (a : Field) (j : ℕ) → stageForm (cardOf s) (suc q) a j ≤ norm (cardOf s) a
   pub settled-count : (k j : ℕ) → k < kindCount s → settledRow (cardOf s) k j ≤ normLimit
   pub written-count : (i k : ℕ) → at (primeForm s i) k ≤ norm (cardOf s) (fieldOf s i)
   pub stage-most : settledStage (cardOf s) ≤ mostKinds

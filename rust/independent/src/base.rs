@@ -13,7 +13,8 @@ use crate::sheet::{MOST_KINDS, MOST_LINES};
 pub type Counts = [i64; MOST_KINDS];
 
 /// "A base at a stage gives each kind the counts of earlier atoms that the stage relates to it; where
-/// there are none it gives the kind itself, an atom."
+/// there are none it gives the kind itself, an atom." It speaks of the kinds that are reached: "other kinds get
+/// a row of zeros".
 #[derive(Clone, Debug)]
 pub struct Base {
     rows: Vec<Counts>,
@@ -161,9 +162,9 @@ impl<'a, 'b> Refinement<'a, 'b> {
     }
 
     /// Whether every related pair satisfies expansion. By document 000's Lemma 3 it is enough that
-    /// each kind does with its row.
+    /// each kind does with its row, of those that are reached.
     pub fn is_settled(&self) -> bool {
-        (0..self.normed.card.kinds).all(|kind| {
+        self.normed.reached.iter().all(|&kind| {
             self.base.is_atom(kind) || self.classes.of_kind[kind] == self.classes.usable(self.base.row(kind))
         })
     }
@@ -202,7 +203,7 @@ impl<'a, 'b> Extension<'a, 'b> {
         Extension { normed, before, base, reductions: Vec::new(), reducing_lines }
     }
 
-    /// Gives each kind its row.
+    /// Gives each kind that is reached its row.
     fn finish(mut self) -> Base {
         for &kind in &self.normed.order {
             let lefts = self.lefts(kind);

@@ -13,7 +13,8 @@ use crate::filer::{Verdict, compare, prime_form, row, row_check, settle};
 use crate::generator::sample;
 use crate::page::{page, write_page};
 use crate::random::Random;
-use crate::sheet::{MOST_KINDS, Numbers, Refusal, numbers};
+use crate::reached::reached_kinds;
+use crate::sheet::{MOST_KINDS, Numbers, Refusal, numbers, read};
 use crate::shelf::{Entries, MOST_TOKENS, ShelfNumber, shelf_field, shelf_number};
 use crate::squads::squads;
 use crate::walker::{self, DESKS, Walked, walk_lent};
@@ -245,6 +246,7 @@ fn header(sheet: &[u8], place: usize) -> usize {
 pub fn calls(sheets: &[Vec<u8>], random: &mut Random) -> Vec<Call> {
     let sheet = &sheets[0];
     let (kinds, fields) = (header(sheet, 0).min(40), header(sheet, 6));
+    let reached = read(sheet).map_or(kinds, |card| reached_kinds(&card).len());
     let mut calls = vec![Call::Settle { entries: around(kinds * kinds, random) }];
     for _ in 0..2 {
         let (kinds, kind) =
@@ -264,7 +266,8 @@ pub fn calls(sheets: &[Vec<u8>], random: &mut Random) -> Vec<Call> {
     for _ in 0..2 {
         calls.push(Call::ShelfNumber { field: number_near(fields, random) });
         let size = number_near(MOST_TOKENS as usize + 1, random);
-        let number = shelf_number_near(kinds, size, random);
+        let numbered = if random.once_in(4) { kinds } else { reached };
+        let number = shelf_number_near(numbered, size, random);
         calls.push(Call::ShelfField { size, number, entries: around(kinds, random) });
     }
     for _ in 0..4 {
@@ -385,6 +388,8 @@ pub struct Comparison {
     pub days: u64,
     /// How often each answer was given by the first implementation, by its name and number.
     pub answers: BTreeMap<String, u64>,
+    /// Of these, those on sheets that have a kind that is out. Where they are walks of a day, this is its first sheet.
+    pub part_used: BTreeMap<String, u64>,
     pub differences: Vec<Difference>,
 }
 
@@ -399,6 +404,7 @@ pub fn compare_implementations(
     for number in numbers {
         let sheets = sheets(seed, number);
         let mut random = Random::new(seed.rotate_left(32) ^ number);
+        let part_used = read(&sheets[0]).is_ok_and(|card| reached_kinds(&card).len() < card.kinds);
         comparison.sheets += 1;
         for call in calls(&sheets, &mut random) {
             let mut lent = [Lent::new(&call, &sheets), Lent::new(&call, &sheets)];
@@ -407,6 +413,7 @@ pub fn compare_implementations(
             comparison.days += u64::from(matches!(call, Call::Day(_)));
             for name in names(&call, &answers[0]) {
                 comparison.calls += 1;
+                *comparison.part_used.entry(name.clone()).or_default() += u64::from(part_used);
                 *comparison.answers.entry(name).or_default() += 1;
             }
             if answers[0] != answers[1] || lent_differs {

@@ -1,6 +1,6 @@
-//! Norms, stages, rows, primes, the settled stage, squads, the round game, the walk and the list of the fields
-//! of a size straight from their definitions, by search. Only for small cards: nothing here is meant to be
-//! fast, and nothing here uses `base`, `filer`, `walker`, `shelf` or `squads`.
+//! The reached kinds, norms, stages, rows, primes, the settled stage, squads, the round game, the walk and the list of
+//! the fields of a size straight from their definitions, by search. Only for small cards: nothing here is meant to be
+//! fast, and nothing here uses `reached`, `base`, `filer`, `walker`, `shelf` or `squads`.
 
 use std::cmp::Ordering;
 use std::collections::HashMap;
@@ -27,6 +27,8 @@ enum Reads {
 /// A card with what has been found about it so far.
 pub struct Definitions<'a> {
     card: &'a Card<'a>,
+    /// The kinds that are reached, in number order.
+    reached: Vec<usize>,
     norms: Vec<u64>,
     order: Vec<usize>,
     stages: HashMap<(u32, Field, Field), bool>,
@@ -66,17 +68,40 @@ pub fn one_token(card: &Card, kind: usize) -> Field {
     (0..card.kinds).map(|other| u64::from(other == kind)).collect()
 }
 
+/// Whether a field, or one that some reads, at most `reads` of them, leave of it, holds a token of a kind.
+fn comes_to_hold(card: &Card, field: &Field, kind: usize, reads: usize) -> bool {
+    field[kind] > 0
+        || reads > 0
+            && (0..card.lines.len())
+                .any(|line| use_line(card, field, line).is_some_and(|left| comes_to_hold(card, &left, kind, reads - 1)))
+}
+
+/// Whether a kind is reached: "that some field of the sheet holds, or that a line can leave starting from those". Each
+/// read on the way brings a kind that was not there before, so that no more reads are needed than there are other kinds.
+pub fn is_reached(card: &Card, kind: usize) -> bool {
+    (0..card.fields).any(|field| comes_to_hold(card, &card.field(field), kind, card.kinds - 1))
+}
+
 impl<'a> Definitions<'a> {
-    /// A card all of whose kinds have norms of at most `most`; none for another.
+    /// A card whose reached kinds all have norms of at most `most`; none for another.
     pub fn new(card: &'a Card<'a>, most: u64, work: u64) -> Option<Definitions<'a>> {
-        let norms: Vec<u64> =
-            (0..card.kinds).map(|kind| fewest_reads(card, &one_token(card, kind), most)).collect::<Option<_>>()?;
-        let mut order: Vec<usize> = (0..card.kinds).collect();
+        let reached: Vec<usize> = (0..card.kinds).filter(|&kind| is_reached(card, kind)).collect();
+        let mut norms = vec![0; card.kinds];
+        for &kind in &reached {
+            norms[kind] = fewest_reads(card, &one_token(card, kind), most)?;
+        }
+        let mut order = reached.clone();
         order.sort_by_key(|&kind| (norms[kind], kind));
-        Some(Definitions { card, norms, order, stages: HashMap::new(), rounds: HashMap::new(), work_left: work })
+        let (stages, rounds) = (HashMap::new(), HashMap::new());
+        Some(Definitions { card, reached, norms, order, stages, rounds, work_left: work })
     }
 
-    /// The norm of each kind.
+    /// The kinds that are reached, in number order.
+    pub fn reached(&self) -> &[usize] {
+        &self.reached
+    }
+
+    /// The norm of each kind that is reached; 0 for one that is out.
     pub fn norms(&self) -> &[u64] {
         &self.norms
     }
@@ -86,10 +111,11 @@ impl<'a> Definitions<'a> {
         field.iter().zip(&self.norms).map(|(count, norm)| count * norm).sum()
     }
 
-    /// "g is the greatest of 0 and, over all lines, the norm left minus the kind's norm."
+    /// "g is the greatest of 0 and, over all lines, the norm left minus the kind's norm": over those of reached kinds.
     pub fn gain(&self) -> u64 {
         let left = |line: usize| self.norm(&self.card.lines[line].left.iter().map(|&count| u64::from(count)).collect());
         (0..self.card.lines.len())
+            .filter(|&line| self.reached.contains(&self.card.lines[line].kind))
             .map(|line| left(line).saturating_sub(self.norms[self.card.lines[line].kind]))
             .max()
             .unwrap_or(0)
@@ -156,9 +182,10 @@ impl<'a> Definitions<'a> {
     }
 
     /// "A base at a stage gives each kind the counts of earlier atoms that the stage relates to it; where
-    /// there are none it gives the kind itself, an atom." All such counts are searched for.
+    /// there are none it gives the kind itself, an atom." All such counts are searched for. Kinds that are not reached
+    /// "get a row of zeros".
     pub fn base(&mut self, stage: u32) -> Result<Vec<Field>, TooLarge> {
-        let mut rows = vec![Vec::new(); self.card.kinds];
+        let mut rows = vec![vec![0; self.card.kinds]; self.card.kinds];
         let mut atoms: Vec<usize> = Vec::new();
         for kind in self.order.clone() {
             let found = self.related_fields(stage, kind, &atoms)?;
@@ -202,13 +229,13 @@ impl<'a> Definitions<'a> {
     }
 
     /// "The settled stage is the least s from 1 up in which every related pair satisfies expansion."
-    /// The pairs tried are each kind's with its row; that these are enough is document 000's Lemma 3.
+    /// The pairs tried are each reached kind's with its row; that these are enough is document 000's Lemma 3.
     pub fn settled_stage(&mut self) -> Result<u32, TooLarge> {
         for stage in 1.. {
             let rows = self.base(stage)?;
             let mut settled = true;
-            for (kind, row) in rows.iter().enumerate() {
-                settled = settled && self.satisfies_expansion(stage, &one_token(self.card, kind), row)?;
+            for kind in self.reached.clone() {
+                settled = settled && self.satisfies_expansion(stage, &one_token(self.card, kind), &rows[kind])?;
             }
             if settled {
                 return Ok(stage);
@@ -217,7 +244,8 @@ impl<'a> Definitions<'a> {
         unreachable!("the stages do not end")
     }
 
-    /// "A kind is prime if no field of earlier kinds is bisimilar to it": the settled stage is bisimilarity.
+    /// "A kind is prime if no field of earlier kinds is bisimilar to it": the settled stage is bisimilarity. The kind is
+    /// one that is reached.
     pub fn is_prime(&mut self, settled: u32, kind: usize) -> Result<bool, TooLarge> {
         let earlier: Vec<usize> = self.order.iter().copied().take_while(|&other| other != kind).collect();
         Ok(self.related_fields(settled, kind, &earlier)?.is_empty())
@@ -240,7 +268,7 @@ impl<'a> Definitions<'a> {
     /// has room for, and of remainders those of the norm that is left.
     pub fn squads(&mut self, settled: u32, whole: &Field, squad: &Field) -> Result<(u64, Vec<Field>), TooLarge> {
         let (norm, taken) = (self.norm(whole), self.norm(squad));
-        let kinds: Vec<usize> = (0..self.card.kinds).collect();
+        let kinds = self.reached.clone();
         for times in (0..=norm / taken).rev() {
             let mut remainders = Vec::new();
             for remainder in self.fields_of_norm(norm - times * taken, &kinds) {
@@ -364,5 +392,14 @@ pub fn shelf(kinds: usize, tokens: u64) -> Vec<Field> {
     }
     fields.retain(|field| field.iter().sum::<u64>() == tokens);
     fields.sort_by(shelf_order);
+    fields
+}
+
+/// The fields of so many tokens that a sheet numbers, as they are listed: "over the reached kinds alone, .. and every
+/// other count 0".
+pub fn shelf_of(card: &Card, tokens: u64) -> Vec<Field> {
+    let out: Vec<usize> = (0..card.kinds).filter(|&kind| !is_reached(card, kind)).collect();
+    let mut fields = shelf(card.kinds, tokens);
+    fields.retain(|field| out.iter().all(|&kind| field[kind] == 0));
     fields
 }

@@ -144,6 +144,7 @@ pub struct Sample {
 
 /// Sheet number `number` of a seed. Most are small; one in 25 is at the limits; two in five are damaged.
 /// One in four has some fields of few tokens in the place of others, and one in two some multiples of others.
+/// One in three is made to use a part of its card, and one in two to use all of it.
 pub fn sample(seed: u64, number: u64) -> Sample {
     let state = seed ^ number.wrapping_mul(0xd134_2543_de82_ef95);
     let mut random = Random::new(state);
@@ -164,6 +165,7 @@ pub fn sample(seed: u64, number: u64) -> Sample {
     if of_multiples.once_in(2) {
         put_multiples(&mut draft, &mut of_multiples);
     }
+    use_some(&mut draft, &mut Random::new(state.rotate_left(16)));
     let mut bytes = draft.bytes();
     let damage = match random.below(10) {
         0..=5 => Damage::None,
@@ -195,11 +197,12 @@ pub fn draft(family: Family, size: Size, random: &mut Random) -> Draft {
     draft
 }
 
-/// A sheet of a family with two fields, for measuring.
+/// A sheet of a family with two fields, for measuring. One of them holds each kind, so that none is out.
 pub fn measured(family: Family, kinds: usize, lines: usize, seed: u64) -> Vec<u8> {
     let mut random = Random::new(seed);
     let mut draft = card(family, kinds, lines, Size::Limit, &mut random);
     add_fields(&mut draft, 2, Size::Small, &mut random);
+    hold_every_kind(&mut draft);
     draft.bytes()
 }
 
@@ -722,6 +725,94 @@ fn exchange(draft: &Draft, field: &mut [u16], random: &mut Random) {
         field[random.choose(&held)] -= 1;
         let other = random.below(draft.kinds);
         field[other] = field[other].saturating_add(1);
+    }
+}
+
+/// Of six sheets makes two use a part of their card, and three all of it, with one field more; the last stays as it is.
+pub fn use_some(draft: &mut Draft, random: &mut Random) {
+    let chosen = random.below(6);
+    let is_held = |kind: usize| draft.fields.iter().any(|field| field[kind] > 0);
+    if chosen < 5 && !(0..draft.kinds).all(is_held) {
+        if draft.fields.len() < MOST_FIELDS {
+            draft.fields.push(vec![0; draft.kinds]);
+        }
+        hold_every_kind(draft);
+    }
+    if chosen < 2 {
+        use_part(draft, random);
+    }
+}
+
+/// Puts one token of each kind that no field holds into the last field.
+fn hold_every_kind(draft: &mut Draft) {
+    let last = draft.fields.len() - 1;
+    for kind in 0..draft.kinds {
+        if draft.fields.iter().all(|field| field[kind] == 0) {
+            draft.fields[last][kind] = 1;
+        }
+    }
+}
+
+/// Makes a sheet use a part of its card: it has no fields, or only empty ones; or its fields hold one to three kinds
+/// alone, so that any other is reached through lines, if at all; or one alone, where each kind leaves 255 of the one
+/// before it in a random order, and the last may have no line; or some kinds are set apart.
+fn use_part(draft: &mut Draft, random: &mut Random) {
+    let order = shuffled(draft.kinds, random);
+    match random.below(10) {
+        0 => draft.fields.clear(),
+        1 => draft.fields.iter_mut().for_each(|field| field.fill(0)),
+        2..=4 => hold_alone(draft, &order[..random.between(1, draft.kinds.min(3))], random),
+        5 => {
+            draft.lines.iter_mut().for_each(|line| line.left.fill(0));
+            raise(draft, &order);
+            hold_alone(draft, &[random.choose(&order)], random);
+            if random.once_in(2) {
+                draft.lines.retain(|line| Some(&line.kind) != order.last());
+            }
+        }
+        _ => set_apart(draft, order, random),
+    }
+}
+
+/// Turns the tokens of all other kinds that the fields hold into ones of some kinds, or into none where there are no
+/// such kinds.
+fn hold_alone(draft: &mut Draft, held: &[usize], random: &mut Random) {
+    for field in &mut draft.fields {
+        for kind in (0..draft.kinds).filter(|kind| !held.contains(kind)) {
+            let count = std::mem::take(&mut field[kind]);
+            if !held.is_empty() {
+                let other = random.choose(held);
+                field[other] = field[other].saturating_add(count);
+            }
+        }
+    }
+}
+
+/// Sets the first of some kinds apart, all but one at most where there are several: neither a field holds one nor does a line of
+/// another kind leave one. Their own lines leave what they left, or are made such that they have no norms or that these
+/// pass the greatest norm taken.
+fn set_apart(draft: &mut Draft, mut apart: Vec<usize>, random: &mut Random) {
+    let used = apart.split_off(random.between(1, (draft.kinds - 1).max(1)));
+    hold_alone(draft, &used, random);
+    for line in draft.lines.iter_mut().filter(|line| used.contains(&line.kind)) {
+        apart.iter().for_each(|&kind| line.left[kind] = 0);
+    }
+    match random.below(4) {
+        0 => {}
+        1 => draft.lines.retain(|line| used.contains(&line.kind) || !random.once_in(3)),
+        2 => {
+            let lines = draft.lines.iter_mut().filter(|line| apart.contains(&line.kind));
+            lines.for_each(|line| line.left[line.kind] |= 1);
+        }
+        _ => raise(draft, &apart),
+    }
+}
+
+/// Makes each line of some kinds but the first of them leave 255 of the one before: the fifth and any after it are over
+/// the greatest norm taken, if they have a norm.
+fn raise(draft: &mut Draft, kinds: &[usize]) {
+    for pair in kinds.windows(2) {
+        draft.lines.iter_mut().filter(|line| line.kind == pair[1]).for_each(|line| line.left[pair[0]] = 255);
     }
 }
 

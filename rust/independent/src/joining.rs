@@ -154,13 +154,13 @@ impl Asked<'_> {
         Some(bytes)
     }
 
-    /// Some field of a norm: of some kinds any number, then of each kind, from the last in order to the first, as many
-    /// as there is norm left for. The first has norm 1.
+    /// Some field of a norm, of kinds that are reached: of some any number, then of each, from the last in order to the
+    /// first, as many as there is norm left for. The first has norm 1. Some kind is reached: a squad is not empty.
     fn field_of_norm(&self, norm: u64, random: &mut Random) -> Vec<u64> {
         let mut counts = vec![0; self.normed.card.kinds];
         let mut left = norm;
         for _ in 0..random.below(2 * counts.len() + 2) {
-            let kind = random.below(counts.len());
+            let kind = random.choose(&self.normed.reached);
             let most = (left / self.normed.norms[kind]).min(9);
             let count = random.below(most as usize + 1) as u64;
             counts[kind] += count;

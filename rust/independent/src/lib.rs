@@ -1,5 +1,5 @@
 //! Document 01 ("Race cards, fields and their prime forms", the paper that asks for Limbatue), as
-//! requests 1, 2, 4 and 5 of document 02 change it, implemented a second time, from that document's definitions
+//! requests 1, 2 and 4 to 6 of document 02 change it, implemented a second time, from that document's definitions
 //! and document 000 (Hirshfeld, Jerrum, Moller, 1996, the algorithm). It shares no code with the verified library. The tests hold the two against each other, and the measurements compare
 //! their times. Sentences in quotes are these documents' own.
 
@@ -17,12 +17,16 @@ pub mod filer;
 pub mod generator;
 /// What is promised of squads, held against Compare and Prime form.
 pub mod joining;
-/// Norms of kinds, their order, g, and refusals 9 and 10.
+/// Norms of the reached kinds, their order, g, and refusals 9 and 10.
 pub mod norm;
 /// The printed page.
 pub mod page;
+/// What is promised of sheets that use a part of their card.
+pub mod parts;
 /// Pseudorandom numbers from a seed.
 pub mod random;
+/// Which kinds are reached, and which are out.
+pub mod reached;
 /// The bytes of a sheet, and refusals 1 to 8.
 pub mod sheet;
 /// Shelf number and Shelf field.

@@ -1,24 +1,36 @@
 //! "The norm of a field is the fewest reads to the empty field."
+//!
+//! Only the kinds that are reached "must have norms", and their order and g "are taken over these alone". Lines of
+//! reached kinds leave reached kinds, so that what is said of them needs no other line.
 
+use crate::reached::reached_kinds;
 use crate::sheet::{Card, Refusal, read, refused};
 
 /// "The greatest norm taken", which document 02 raises to 1,000,000,000.
 pub const NORM_LIMIT: u64 = 1_000_000_000;
 
-/// A card whose kinds all have a norm within the limit.
+/// A card whose reached kinds all have a norm within the limit.
 #[derive(Clone, Debug)]
 pub struct NormedCard<'a> {
+    /// The card with the lines of its reached kinds alone.
     pub card: Card<'a>,
-    /// The norm of each kind.
+    /// The kinds that are reached, in number order.
+    pub reached: Vec<usize>,
+    /// The norm of each kind that is reached; 0 for one that is out.
     pub norms: Vec<u64>,
-    /// "Kinds are ordered by norm, then by number."
+    /// The kinds that are reached: "kinds are ordered by norm, then by number".
     pub order: Vec<usize>,
     /// For each line, the norm of what it leaves.
     pub left_norms: Vec<u64>,
 }
 
 impl NormedCard<'_> {
-    /// The norm of a field.
+    /// Whether a kind is reached.
+    pub fn is_reached(&self, kind: usize) -> bool {
+        self.reached.contains(&kind)
+    }
+
+    /// The norm of a field of reached kinds.
     pub fn norm(&self, counts: &[u64]) -> u64 {
         counts.iter().zip(&self.norms).map(|(count, norm)| count * norm).sum()
     }
@@ -37,23 +49,26 @@ impl NormedCard<'_> {
 
 /// The card that the bytes hold with its norms, or the first of refusals 1 to 10 that applies.
 pub fn accept(bytes: &[u8]) -> Result<NormedCard<'_>, Refusal> {
-    let card = read(bytes)?;
-    let found = kind_norms(&card);
-    if let Some(kind) = found.iter().position(|norm| norm.is_none()) {
+    let mut card = read(bytes)?;
+    let reached = reached_kinds(&card);
+    card.lines.retain(|line| reached.contains(&line.kind));
+    let norms = kind_norms(&card);
+    if let Some(&kind) = reached.iter().find(|&&kind| norms[kind].is_none()) {
         return refused(9, kind);
     }
-    let norms: Vec<u64> = found.into_iter().flatten().collect();
-    if let Some(kind) = norms.iter().position(|&norm| norm > NORM_LIMIT) {
+    // A kind that is out has no line left, and so no norm.
+    let norms: Vec<u64> = norms.into_iter().map(|norm| norm.unwrap_or(0)).collect();
+    if let Some(&kind) = reached.iter().find(|&&kind| norms[kind] > NORM_LIMIT) {
         return refused(10, kind);
     }
-    let mut order: Vec<usize> = (0..card.kinds).collect();
+    let mut order = reached.clone();
     order.sort_by_key(|&kind| (norms[kind], kind));
     let left_norms = card
         .lines
         .iter()
         .map(|line| line.left.iter().zip(&norms).map(|(&count, norm)| u64::from(count) * norm).sum())
         .collect();
-    Ok(NormedCard { card, norms, order, left_norms })
+    Ok(NormedCard { card, reached, norms, order, left_norms })
 }
 
 /// The norm of each kind, cut one past the limit; none where a kind cannot be cleared.

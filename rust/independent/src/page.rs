@@ -35,12 +35,7 @@ fn accepted_page(normed: &NormedCard) -> String {
     let settled = &bases[bases.len() - 1];
     let mut page = format!("kinds {kinds} stages {}\n", bases.len());
     for kind in 0..kinds {
-        push(&mut page, format_args!("kind {kind} norm {}", normed.norms[kind]));
-        if settled.is_atom(kind) {
-            page.push_str(" prime\n");
-        } else {
-            push_counts(&mut page, settled.row(kind));
-        }
+        push_kind(&mut page, kind, normed, settled);
     }
     let fields: Vec<Vec<u64>> = (0..normed.card.fields).map(|number| normed.card.field(number)).collect();
     for (number, field) in fields.iter().enumerate() {
@@ -56,6 +51,19 @@ fn accepted_page(normed: &NormedCard) -> String {
         }
     }
     page
+}
+
+/// Adds the line of a kind: its norm, and that it is prime or what its row is; or that it is out.
+fn push_kind(page: &mut String, kind: usize, normed: &NormedCard, settled: &Base) {
+    if !normed.is_reached(kind) {
+        return push(page, format_args!("kind {kind} out\n"));
+    }
+    push(page, format_args!("kind {kind} norm {}", normed.norms[kind]));
+    if settled.is_atom(kind) {
+        page.push_str(" prime\n");
+    } else {
+        push_counts(page, settled.row(kind));
+    }
 }
 
 /// The bases of the stages from 1 to the settled one.

@@ -2,7 +2,8 @@
 //!
 //! A field's number is counted, from the last kind down, as the fields that have a smaller count there;
 //! the field of a number is found by trying the counts 0, 1, 2 and so on of the last kind, then of the
-//! one before it.
+//! one before it. The kinds are those that are reached (request 6): "shelf numbers run over the reached kinds
+//! alone, in number order, with k their number and every other count 0".
 
 use crate::norm::accept;
 use crate::sheet::{Refusal, refused};
@@ -91,7 +92,8 @@ pub fn shelf_number(sheet: &[u8], field: usize) -> Result<ShelfNumber, Refusal> 
     if size > MOST_TOKENS {
         return refused(14, 0);
     }
-    Ok(ShelfNumber { size, number: number_of(&counts) })
+    let of_reached: Vec<u64> = normed.reached.iter().map(|&kind| counts[kind]).collect();
+    Ok(ShelfNumber { size, number: number_of(&of_reached) })
 }
 
 /// Shelf field: "a field found by number is written as n counts of 16 bits to a lent buffer". It checks
@@ -102,14 +104,15 @@ pub fn shelf_field(sheet: &[u8], size: usize, number: u64, counts: &mut [u16]) -
     if tokens > MOST_TOKENS {
         return refused(14, 0);
     }
-    let Some(field) = field_of(normed.card.kinds, tokens, number) else {
+    let Some(of_reached) = field_of(normed.reached.len(), tokens, number) else {
         return refused(15, 0);
     };
-    if counts.len() < field.len() {
+    let Some(written) = counts.get_mut(..normed.card.kinds) else {
         return refused(12, 0);
-    }
-    for (written, count) in counts.iter_mut().zip(field) {
-        *written = count as u16;
+    };
+    written.fill(0);
+    for (&kind, count) in normed.reached.iter().zip(of_reached) {
+        written[kind] = count as u16;
     }
     Ok(())
 }

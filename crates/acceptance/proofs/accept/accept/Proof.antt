@@ -23,11 +23,14 @@ refuse-requires c κs = search needs
 enum-known-card : tie.Need-enum-known-card
 enum-known-card c = search needs
 
+reached-kinds-requires : tie.Need-reached-kinds-requires
+reached-kinds-requires c κs = card-told (c .before)
+
 kind-norms-requires : tie.Need-kind-norms-requires
-kind-norms-requires c κs = card-told (c .before)
+kind-norms-requires c κs = (card-told (c .before .before .before), c .before .reached-kinds .ensures)
 
 check-norms-requires : tie.Need-check-norms-requires
-check-norms-requires c κs = kinds-most (card-told (c .before .before .before))
+check-norms-requires c κs = kinds-most (card-told (c .before .before .before .before .before .before))
 
 enum-known-number-2 : tie.Need-enum-known-number-2
 enum-known-number-2 c = search needs
@@ -45,18 +48,20 @@ returns c =
 
 returns-2 : tie.Need-returns-2
 returns-2 c =
-    let after-card = c .before .before .before .before .before .before .before .before in
-    let kind-norms = c .before .before .before .before .before .before .kind-norms in
+    let after-card = c .before .before .before .before .before .before .before .before .before .before .before in
+    let reached-kinds = c .before .before .before .before .before .before .before .before .before .reached-kinds in
+    let kind-norms = c .before .before .before .before .before .before .before .kind-norms in
     let check-norms = c .before .before .before .before .check-norms in
     c .refuse2 .ensures
-    ∙ norms-refused (card-told after-card) _ (kind-norms .ensures) _ _
+    ∙ norms-refused (card-told after-card) _ (reached-kinds .ensures) _ (kind-norms .ensures) _ _
     (sym (check-norms .ensures) ∙ c .before .before .number2 .given .1)
 
 returns-3 : tie.Need-returns-3
 returns-3 c =
-    let after-card = c .before .before .before .before .before .before .before in
-    let kind-norms = c .before .before .before .before .before .kind-norms in
-    norms-passed (card-told after-card) _ (kind-norms .ensures) _
+    let after-card = c .before .before .before .before .before .before .before .before .before .before in
+    let reached-kinds = c .before .before .before .before .before .before .before .before .reached-kinds in
+    let kind-norms = c .before .before .before .before .before .before .kind-norms in
+    norms-passed (card-told after-card) _ (reached-kinds .ensures) _ (kind-norms .ensures) _
     (sym (c .before .before .before .check-norms .ensures) ∙ c .before .card2 .given .1)
 
 pub accept-spec : {M : Type 1} → statement M
@@ -67,6 +72,7 @@ accept-spec =
     enum-known-number
     refuse-requires
     enum-known-card
+    reached-kinds-requires
     kind-norms-requires
     check-norms-requires
     enum-known-number-2

@@ -3,15 +3,12 @@ use borrow.Author.Needs.{needs}
 use mathlib.Core.Path.{_≡_}
 use Prim.Native.Nat.{_-_, _≤_}
 use native.Mathlib.Omega.{arith}
-use Rattle.model.specs.Finite.{listFrom}
-use Rattle.model.specs.Norm.{kindNorm, gainOf}
-use Rattle.model.specs.Sheet.{lineOf, cardOf}
-use Rattle.norms.proofs.Gains.{gain-start, gain-more, gain-end}
+use Rattle.norms.proofs.Gains.{gainFrom, gain-start, gain-more, gain-end}
 use Rattle.norms.proofs.lines.gain.Statement.{statement}
 use Rattle.norms.proofs.lines.gain.Tie as tie
 
 abbrev Inv-loop : tie.InvT-loop
-Inv-loop s card norms most₀ j₀ most j = (j ≤ card .lines) × (most ≡ gainOf (cardOf s .kinds) (kindNorm (cardOf s)) (listFrom (lineOf s) j (card .lines - j)))
+Inv-loop s card norms most₀ j₀ most j = (j ≤ card .lines) × (most ≡ gainFrom s (card .lines) j)
 
 abbrev μ-loop : tie.MeasureT-loop
 μ-loop s card norms most₀ j₀ most j = j

@@ -16,10 +16,10 @@ enum-known-checked-2 : tie.Need-enum-known-checked-2
 enum-known-checked-2 c = search needs
 
 number-accepted-requires : tie.Need-number-accepted-requires
-number-accepted-requires c κs = let A = acceptance-accepts _ _ (c .before .before .before .accept .ensures) _ (c .before .checked2 .given .1) in (A .reads, A .accepted)
+number-accepted-requires c κs = acceptance-accepts _ _ (c .before .before .before .before .before .accept .ensures) _ (c .before .before .checked2 .given .1)
 
 returns : tie.Need-returns
-returns c = sym (number-refused _ _ _ (acceptance-refuses _ _ (c .before .before .before .accept .ensures) _ _ (c .before .checked .given .1)) _)
+returns c = sym (number-refused _ _ _ (acceptance-refuses _ _ (c .before .before .before .before .accept .ensures) _ _ (c .before .checked .given .1)) _)
 
 returns-2 : tie.Need-returns-2
 returns-2 c = search needs

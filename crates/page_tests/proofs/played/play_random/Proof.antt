@@ -9,7 +9,7 @@ abbrev Inv-loop : tie.InvT-loop
 Inv-loop count₀ seed₀ t3 count seed = Unit {0}
 
 abbrev μ-loop : tie.MeasureT-loop
-μ-loop count₀ seed₀ t3 count seed = 5500 - seed
+μ-loop count₀ seed₀ t3 count seed = 8000 - seed
 
 new-requires : tie.Need-new-requires Inv-loop μ-loop
 new-requires c κs = tt

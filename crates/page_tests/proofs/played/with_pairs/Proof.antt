@@ -5,16 +5,16 @@ use Rattle.page_tests.proofs.played.with_pairs.Statement.{statement}
 use Rattle.page_tests.proofs.played.with_pairs.Tie as tie
 
 abbrev Inv-loop : tie.InvT-loop
-Inv-loop s settlement fields next₀ later₀ next later = Unit {0}
+Inv-loop s played settlement fields next₀ later₀ next later = Unit {0}
 
 abbrev μ-loop : tie.MeasureT-loop
-μ-loop s settlement fields next₀ later₀ next later = fields - later
+μ-loop s played settlement fields next₀ later₀ next later = fields - later
 
 loop-holds : tie.Need-loop-holds Inv-loop μ-loop
 loop-holds c = tt
 
 with-pair-requires : tie.Need-with-pair-requires Inv-loop μ-loop
-with-pair-requires c κs = c .before .before .before .pre
+with-pair-requires c κs = c .before .before .before .before .pre
 
 add-later : tie.Need-add-later Inv-loop μ-loop
 add-later c = omega arith

@@ -10,17 +10,17 @@ use Rattle.row_tests.proofs.expansion.rows_expand.Statement.{statement}
 use Rattle.row_tests.proofs.expansion.rows_expand.Tie as tie
 
 abbrev Inv-loop : tie.InvT-loop
-Inv-loop lines classes rows kinds marks kind₀ kind = (kind ≤ kinds) × RowsExpand lines classes rows kind
+Inv-loop lines classes rows norms kinds marks kind₀ kind = (kind ≤ kinds) × RowsExpand lines classes rows norms kind
 
 abbrev μ-loop : tie.MeasureT-loop
-μ-loop lines classes rows kinds marks kind₀ kind = kinds - kind
+μ-loop lines classes rows norms kinds marks kind₀ kind = kinds - kind
 
 slice-aggregate-kind-marks : tie.Need-slice-aggregate-kind-marks Inv-loop μ-loop
 slice-aggregate-kind-marks c = search needs
 
 kind-marks-requires : tie.Need-kind-marks-requires Inv-loop μ-loop
 kind-marks-requires c κs =
-    let start = c .before .before .before .before in
+    let start = c .before .before .before .before .before in
     (start .pre .0, refl)
 
 loop-holds : tie.Need-loop-holds Inv-loop μ-loop
@@ -33,10 +33,10 @@ slice-aggregate-row-expands c =
 
 row-expands-requires : tie.Need-row-expands-requires Inv-loop μ-loop
 row-expands-requires c κs =
-    let start = c .before .before .before .before .before .before .before .before .before in
+    let start = c .before .before .before .before .before .before .before .before .before .before in
     let at-kind-marks = c .before .before .before .before in
     let l = c .before .loop-test .taken in
-    ((at-kind-marks .kind-marks .ensures .long, start .pre .1 .0 .0, omega (arith, start .pre .1 .0 .1, l)), start .pre .1 .1 (c .before .before .loop .kind) l)
+    ((at-kind-marks .kind-marks .ensures .long, start .pre .1 .0 .0, omega (arith, start .pre .1 .0 .1, l), omega (arith, start .pre .1 .0 .2, l)), start .pre .1 .1 (c .before .before .loop .kind) l)
 
 add-kind : tie.Need-add-kind Inv-loop μ-loop
 add-kind c = search needs

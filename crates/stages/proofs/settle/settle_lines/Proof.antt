@@ -12,15 +12,15 @@ use Rattle.rows.proofs.StageRows.{lines-whole}
 use Rattle.rows.specs.Stage.{BaseAt, Classes, BoundsAt}
 use Rattle.stages.specs.Kept.{KeptTo}
 use Rattle.stages.proofs.Keeping.{kept-start, kept-stage}
-use Rattle.stages.proofs.Unsettled.{Reached, unsettled-start, unsettled-more, unsettled-next, few-kinds, held-start, held-given, held-next, held-atoms, held-settled, held-end}
+use Rattle.stages.proofs.Unsettled.{Progress, unsettled-start, unsettled-more, unsettled-next, few-kinds, held-start, held-given, held-next, held-atoms, held-settled, held-end}
 use Rattle.stages.proofs.settle.settle_lines.Statement.{statement}
 use Rattle.stages.proofs.settle.settle_lines.Tie as tie
 
 abbrev Inv-loop : tie.InvT-loop
-Inv-loop sheet card norms lines forms₀ rows₀ classes₀ since₀ rows-before₀ stage₀ forms rows classes since rows-before stage = Reached sheet stage forms rows classes since rows-before
+Inv-loop sheet card lines forms₀ norms rows₀ classes₀ since₀ rows-before₀ stage₀ forms rows classes since rows-before stage = Progress sheet stage forms rows classes since rows-before
 
 abbrev μ-loop : tie.MeasureT-loop
-μ-loop sheet card norms lines forms₀ rows₀ classes₀ since₀ rows-before₀ stage₀ forms rows classes since rows-before stage = card .kinds - stage
+μ-loop sheet card lines forms₀ norms rows₀ classes₀ since₀ rows-before₀ stage₀ forms rows classes since rows-before stage = card .kinds - stage
 
 loop-holds : tie.Need-loop-holds Inv-loop μ-loop
 loop-holds c =
@@ -95,6 +95,14 @@ slice-aggregate-rows-expand c = search needs
 slice-aggregate-rows-expand-2 : tie.Need-slice-aggregate-rows-expand-2 Inv-loop μ-loop
 slice-aggregate-rows-expand-2 c = search needs
 
+norms-long : (c : tie.Start Inv-loop μ-loop) → length (c .args .t3) ≡ 32
+norms-long c = search needs
+
+slice-aggregate-rows-expand-3 : tie.Need-slice-aggregate-rows-expand-3 Inv-loop μ-loop
+slice-aggregate-rows-expand-3 c =
+    let start = c .before .before .before .before .before .before .before .before .before .before .before .before .before .before .before .before .before .before .before .before .before .before .before .before .before .before .before in
+    search (needs, norms-long start)
+
 all-rows : (c : tie.After-stage-rows Inv-loop μ-loop) → length (c .stage-rows .result .rows) ≡ 1024
 all-rows c = search needs
 
@@ -103,57 +111,57 @@ all-classes c = search needs
 
 rows-expand-requires : tie.Need-rows-expand-requires Inv-loop μ-loop
 rows-expand-requires c κs =
-    let start = c .before .before .before .before .before .before .before .before .before .before .before .before .before .before .before .before .before .before .before .before .before .before .before .before .before .before in
-    let loop = c .before .before .before .before .before .before .before .before .before .before .before .before .before .before .before .before .before .before .before .before .before .before .loop in
-    let rows = c .before .before .before .before .before .before .before .before .before .before .before .before .before .before .before .before .before .before .stage-rows in
+    let start = c .before .before .before .before .before .before .before .before .before .before .before .before .before .before .before .before .before .before .before .before .before .before .before .before .before .before .before in
+    let loop = c .before .before .before .before .before .before .before .before .before .before .before .before .before .before .before .before .before .before .before .before .before .before .before .loop in
+    let rows = c .before .before .before .before .before .before .before .before .before .before .before .before .before .before .before .before .before .before .before .stage-rows in
     let whole = lines-whole (start .pre .1 .0) (start .pre .0 .reads) in
     let given = held-given (start .pre .0 .reads) (start .pre .0 .accepted) (start .pre .1 .0) (loop .inv .held) in
     let found = rows .ensures (loop .stage) given (loop .inv .held .rows-are) in
-    ((whole, omega (arith, whole .few, all-classes (c .before .before .before .before .before .before .before .before .before .before .before))), ((search needs, kinds-most (start .pre .0 .reads)), held-atoms (start .pre .0 .reads) (start .pre .0 .accepted) (start .pre .1 .0) (loop .stage) _ (loop .classes) (found .base-is)))
+    ((whole, omega (arith, whole .few, all-classes (c .before .before .before .before .before .before .before .before .before .before .before .before))), ((search needs, kinds-most (start .pre .0 .reads), omega (arith, norms-long start, kinds-most (start .pre .0 .reads))), held-atoms (start .pre .0) (start .pre .1 .0) (loop .stage) _ (loop .classes) (found .base-is)))
 
 -- The state in which the next stage has been tested: where the loop began, what it had reached, and what was found since.
 abbrev start : tie.After-rows-expand Inv-loop μ-loop → tie.Start Inv-loop μ-loop
-start c = c .before .before .before .before .before .before .before .before .before .before .before .before .before .before .before .before .before .before .before .before .before .before .before .before .before .before .before
+start c = c .before .before .before .before .before .before .before .before .before .before .before .before .before .before .before .before .before .before .before .before .before .before .before .before .before .before .before .before
 
 abbrev stage : tie.After-rows-expand Inv-loop μ-loop → ℕ
-stage c = c .before .before .before .before .before .before .before .before .before .before .before .before .before .before .before .before .before .before .before .before .before .before .before .loop .stage
+stage c = c .before .before .before .before .before .before .before .before .before .before .before .before .before .before .before .before .before .before .before .before .before .before .before .before .loop .stage
 
 abbrev next : tie.After-rows-expand Inv-loop μ-loop → List ℕ
-next c = c .before .before .before .before .before .before .before .before .before .before .before .before .before .before .before .before .before .before .before .stage-rows .result .rows
+next c = c .before .before .before .before .before .before .before .before .before .before .before .before .before .before .before .before .before .before .before .before .stage-rows .result .rows
 
 abbrev classes : tie.After-rows-expand Inv-loop μ-loop → List ℕ
-classes c = c .before .before .before .before .before .before .before .before .before .before .before .before .line-classes .result
+classes c = c .before .before .before .before .before .before .before .before .before .before .before .before .before .line-classes .result
 
 base : (c : tie.After-rows-expand Inv-loop μ-loop) → BaseAt (start c .args .sheet .now) (suc (stage c)) (next c)
 base c =
-    let reached = c .before .before .before .before .before .before .before .before .before .before .before .before .before .before .before .before .before .before .before .before .before .before .before .loop .inv in
+    let reached = c .before .before .before .before .before .before .before .before .before .before .before .before .before .before .before .before .before .before .before .before .before .before .before .before .loop .inv in
     let given = held-given (start c .pre .0 .reads) (start c .pre .0 .accepted) (start c .pre .1 .0) (reached .held) in
-    c .before .before .before .before .before .before .before .before .before .before .before .before .before .before .before .before .before .before .before .stage-rows .ensures (stage c) given (reached .held .rows-are) .base-is
+    c .before .before .before .before .before .before .before .before .before .before .before .before .before .before .before .before .before .before .before .before .stage-rows .ensures (stage c) given (reached .held .rows-are) .base-is
 
 told : (c : tie.After-rows-expand Inv-loop μ-loop) → Classes (start c .args .sheet .now) (stage c) (classes c) × BoundsAt (start c .args .sheet .now) (stage c) (classes c)
-told c = c .before .before .before .before .before .before .before .before .before .before .before .before .line-classes .ensures .0 (stage c) (base c)
+told c = c .before .before .before .before .before .before .before .before .before .before .before .before .before .line-classes .ensures .0 (stage c) (base c)
 
-kept : (c : tie.After-rows-expand Inv-loop μ-loop) → let keep = c .before .before .before .before .before .keep-stage .last in KeptTo (start c .args .sheet .now) (suc (stage c)) (keep .1 .1 .1 .0) (keep .1 .1 .1 .1 .0)
+kept : (c : tie.After-rows-expand Inv-loop μ-loop) → let keep = c .before .before .before .before .before .before .keep-stage .last in KeptTo (start c .args .sheet .now) (suc (stage c)) (keep .1 .1 .1 .0) (keep .1 .1 .1 .1 .0)
 kept c =
-    let reached = c .before .before .before .before .before .before .before .before .before .before .before .before .before .before .before .before .before .before .before .before .before .before .before .loop .inv in
-    let keep = c .before .before .before .before .before .keep-stage in
+    let reached = c .before .before .before .before .before .before .before .before .before .before .before .before .before .before .before .before .before .before .before .before .before .before .before .before .loop .inv in
+    let keep = c .before .before .before .before .before .before .keep-stage in
     kept-stage (start c .args .sheet .now) (start c .pre .0 .accepted) (stage c) (reached .kept) (base c) (reached .held .rows-are .follows) (rw (add-one (stage c)) at (keep .ensures)) (few-kinds (start c .pre .0 .reads))
 
 same-length : tie.Need-same-length Inv-loop μ-loop
-same-length c = omega (arith, c .before .before .before .before .before .before .before .before .before .before .before .before .before .line-classes .ensures .1 .long, start (c .before) .pre .1 .1 .long)
+same-length c = omega (arith, c .before .before .before .before .before .before .before .before .before .before .before .before .before .before .line-classes .ensures .1 .long, start (c .before) .pre .1 .1 .long)
 
 returns : tie.Need-returns Inv-loop μ-loop
 returns c =
     let tested = c .before in
     let begun = start tested in
-    let unsettled = c .before .before .before .before .before .before .before .before .before .before .before .before .before .before .before .before .before .before .before .before .before .before .before .before .loop .inv .unsettled in
+    let unsettled = c .before .before .before .before .before .before .before .before .before .before .before .before .before .before .before .before .before .before .before .before .before .before .before .before .before .loop .inv .unsettled in
     let passes = tested .rows-expand .ensures .0 (c .if1 .taken) in
-    rw (add-one (stage tested)) (held-end (begun .pre .0 .reads) (begun .pre .0 .accepted) (begun .pre .1 .0) (stage tested) (next tested) (classes tested) (base tested) (told tested .0) unsettled passes _ refl (kept tested))
+    rw (add-one (stage tested)) (held-end (begun .pre .0) (begun .pre .1 .0) (stage tested) (next tested) (classes tested) (base tested) (told tested .0) unsettled passes _ refl (kept tested))
 
 loop-less : tie.Need-loop-less Inv-loop μ-loop
 loop-less c =
     let begun = start (c .before) in
-    let unsettled = c .before .before .before .before .before .before .before .before .before .before .before .before .before .before .before .before .before .before .before .before .before .before .before .before .loop .inv .unsettled in
+    let unsettled = c .before .before .before .before .before .before .before .before .before .before .before .before .before .before .before .before .before .before .before .before .before .before .before .before .before .loop .inv .unsettled in
     omega (arith, unsettled-next (begun .args .sheet .now) (begun .pre .0 .accepted) unsettled, kinds-are (begun .pre .0 .reads))
 
 loop-again : tie.Need-loop-again Inv-loop μ-loop
@@ -162,16 +170,16 @@ loop-again c =
     let begun = start tested in
     let sheet = begun .args .sheet .now in
     let ok = begun .pre .0 .accepted in
-    let reached = c .before .before .before .before .before .before .before .before .before .before .before .before .before .before .before .before .before .before .before .before .before .before .before .before .loop .inv in
-    let keep = c .before .before .before .before .before .before .keep-stage in
-    let settled = held-settled (begun .pre .0 .reads) ok (begun .pre .1 .0) (stage tested) (next tested) (classes tested) (base tested) (told tested .0) in
+    let reached = c .before .before .before .before .before .before .before .before .before .before .before .before .before .before .before .before .before .before .before .before .before .before .before .before .before .loop .inv in
+    let keep = c .before .before .before .before .before .before .before .keep-stage in
+    let settled = held-settled (begun .pre .0) (begun .pre .1 .0) (stage tested) (next tested) (classes tested) (base tested) (told tested .0) in
     rw (add-one (stage tested)) (record {
       held = held-next ok (stage tested) (next tested) (classes tested) (base tested) (told tested .0) (told tested .1);
       unsettled = unsettled-more sheet ok (reached .unsettled) (λ y. told-not (tested .rows-expand .ensures) (c .if1 .left) (settled .1 y));
-      table = c .before .before .before .before .before .before .before .before .before .before .before .before .before .line-classes .ensures .1;
+      table = c .before .before .before .before .before .before .before .before .before .before .before .before .before .before .line-classes .ensures .1;
       kept = kept tested;
-      rows-long = all-rows (c .before .before .before .before .before .before .before .before .before .before .before .before .before .before .before .before .before .before .before .before);
-      classes-long = all-classes (c .before .before .before .before .before .before .before .before .before .before .before .before .before);
+      rows-long = all-rows (c .before .before .before .before .before .before .before .before .before .before .before .before .before .before .before .before .before .before .before .before .before);
+      classes-long = all-classes (c .before .before .before .before .before .before .before .before .before .before .before .before .before .before);
       since-long = keep .kept .1 .1 .1 .0 ∙ reached .since-long;
       before-long = keep .kept .1 .1 .1 .1 .0 ∙ reached .before-long;
     })
@@ -197,6 +205,7 @@ settle-lines-spec =
     keep-stage-requires
     slice-aggregate-rows-expand
     slice-aggregate-rows-expand-2
+    slice-aggregate-rows-expand-3
     rows-expand-requires
     same-length
     returns

@@ -1,0 +1,66 @@
+-- `put_words`: the word for a kind that is out, or the norm and what is shown of the row, one after the other.
+use native.Mathlib.Omega.{arith}
+use lib.ListN.{length}
+use Rattle.model.specs.Page.{bytes}
+use Rattle.listing.specs.Lengths.{mostWords}
+use Rattle.listing.specs.Line.{wordsText}
+use Rattle.text.proofs.Append.{then, reads-as}
+use Rattle.listing.proofs.Lines.{out-is, words-is}
+use borrow.Author.Needs.{needs}
+use Rattle.listing.proofs.line.put_words.Statement.{statement}
+use Rattle.listing.proofs.line.put_words.Tie as tie
+
+slice-aggregate-put-bytes : tie.Need-slice-aggregate-put-bytes
+slice-aggregate-put-bytes c = search needs
+
+put-bytes-requires : tie.Need-put-bytes-requires
+put-bytes-requires c κs = search needs
+
+same-length : tie.Need-same-length
+same-length c = search needs
+
+returns : tie.Need-returns
+unfolding bytes
+returns c =
+    let args = c .before .before .before .before .before .before .before .before .args in
+    reads-as (mostWords (length (args .row .now))) (wordsText (args .kind) (args .norm) (args .row .now)) (c .before .before .put-bytes .ensures) (omega arith)
+    (out-is (args .kind) (args .norm) (args .row .now) (c .before .before .before .before .before .if1 .taken))
+
+slice-aggregate-put-labelled : tie.Need-slice-aggregate-put-labelled
+slice-aggregate-put-labelled c = search needs
+
+put-labelled-requires : tie.Need-put-labelled-requires
+put-labelled-requires c κs = search needs
+
+put-byte-requires : tie.Need-put-byte-requires
+put-byte-requires c κs = search needs
+
+put-prime-or-row-requires : tie.Need-put-prime-or-row-requires
+put-prime-or-row-requires c κs = search needs
+
+same-length-2 : tie.Need-same-length-2
+same-length-2 c = search needs
+
+returns-2 : tie.Need-returns-2
+unfolding bytes
+returns-2 c =
+    let args = c .before .before .before .before .before .before .before .before .before .before .before .before .before .before .before .before .args in
+    let put-labelled = c .before .before .before .before .before .before .before .before .before .before .put-labelled in
+    let put-byte = c .before .before .before .before .before .before .put-byte in
+    reads-as (mostWords (length (args .row .now))) (wordsText (args .kind) (args .norm) (args .row .now)) (then (put-labelled .ensures) (then (put-byte .ensures) (c .before .before .put-prime-or-row .ensures)))
+    (omega arith) (words-is (args .kind) (args .norm) (args .row .now) (c .before .before .before .before .before .before .before .before .before .before .before .before .before .if1 .left))
+
+pub put-words-spec : {M : Type 1} → statement M
+put-words-spec =
+    tie.close
+    (tie.spec
+    slice-aggregate-put-bytes
+    put-bytes-requires
+    same-length
+    returns
+    slice-aggregate-put-labelled
+    put-labelled-requires
+    put-byte-requires
+    put-prime-or-row-requires
+    same-length-2
+    returns-2)
