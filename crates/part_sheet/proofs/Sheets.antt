@@ -38,8 +38,9 @@ module _ {s : List ℕ} {c : Card} (R : Reads s c) where
   pub part-room : {d : Card} {m : ℕ} → m ≤ c .lines → d ≡ withLines c m → linesOffset + m * (2 + d .kinds) + 2 * c .kinds * c .fields ≤ length s
   part-room {d} {m} h e = rw e (part-fits m h)
 
-module _ {s : List ℕ} {c : Card} (R : Reads s c) (m : ℕ) {p q1 q2 q3 : List ℕ} (room : length s ≤ length p) (L : LinesTaken s p m q1) (H : HeaderSet (withLines c m) q1 q2)
-    (F : Copied s (linesOffset + c .lines * (2 + c .kinds)) q2 (linesOffset + m * (2 + c .kinds)) (2 * c .kinds * c .fields) q3) where
+-- A buffer p, with the lines taken, with the header set after that, and with the fields copied last.
+module _ {s : List ℕ} {c : Card} (R : Reads s c) (m : ℕ) {p lined headed whole : List ℕ} (room : length s ≤ length p) (L : LinesTaken s p m lined) (H : HeaderSet (withLines c m) lined headed)
+    (F : Copied s (linesOffset + c .lines * (2 + c .kinds)) headed (linesOffset + m * (2 + c .kinds)) (2 * c .kinds * c .fields) whole) where
   abbrev d : Card
   d = withLines c m
 
@@ -47,25 +48,25 @@ module _ {s : List ℕ} {c : Card} (R : Reads s c) (m : ℕ) {p q1 q2 q3 : List 
   size = sizeOf d
 
   abbrev t : List ℕ
-  t = take size q3
+  t = take size whole
 
   few : m ≤ c .lines
   few = omega (arith, L .few, lines-are R)
 
-  within : size ≤ length q3
+  within : size ≤ length whole
   within = omega (arith, part-fits R m few, room, L .long, H .long, F .long)
 
   long : length t ≡ size
-  long = length-take-le size q3 within
+  long = length-take-le size whole within
 
   -- The bytes of the header, of the lines and of the fields.
-  byte-of : (i : ℕ) → i < size → byte t i ≡ byte q3 i
-  byte-of i h = getD-take size q3 i 0 h
+  byte-of : (i : ℕ) → i < size → byte t i ≡ byte whole i
+  byte-of i h = getD-take size whole i 0 h
 
-  header-byte : (i : ℕ) → i < 20 → byte t i ≡ byte q2 i
+  header-byte : (i : ℕ) → i < 20 → byte t i ≡ byte headed i
   header-byte i h = byte-of i (omega arith) ∙ F .before i (omega arith)
 
-  line-byte : (i : ℕ) → linesOffset ≤ i → i < linesOffset + m * (2 + c .kinds) → byte t i ≡ byte q1 i
+  line-byte : (i : ℕ) → linesOffset ≤ i → i < linesOffset + m * (2 + c .kinds) → byte t i ≡ byte lined i
   line-byte i l h = byte-of i (omega arith) ∙ F .before i h ∙ H .past i l
 
   field-byte : (x : ℕ) → x < 2 * c .kinds * c .fields → byte t (linesOffset + m * (2 + c .kinds) + x) ≡ byte s (linesOffset + c .lines * (2 + c .kinds) + x)
@@ -82,8 +83,8 @@ module _ {s : List ℕ} {c : Card} (R : Reads s c) (m : ℕ) {p q1 q2 q3 : List 
     total = omega (arith, number 16 (omega arith), number 18 (omega arith), H .header .total);
   }
     where
-      number : (i : ℕ) → i + 1 < 20 → u16At t i ≡ u16At q2 i
-      number i h = u16-same q2 t i i (header-byte i (omega arith)) (header-byte (i + 1) h)
+      number : (i : ℕ) → i + 1 < 20 → u16At t i ≡ u16At headed i
+      number i h = u16-same headed t i i (header-byte i (omega arith)) (header-byte (i + 1) h)
 
   same-kinds : kindCount t ≡ kindCount s
   same-kinds = header .kind-count ∙ kinds-are R
@@ -92,7 +93,7 @@ module _ {s : List ℕ} {c : Card} (R : Reads s c) (m : ℕ) {p q1 q2 q3 : List 
   lines : listFrom (lineOf t) 0 (lineCount t) ≡ model.reachedLines (cardOf s)
   lines =
       ap (listFrom (lineOf t) 0) (header .line-count) ∙ from-same _ _ 0 m (λ j _ _. line-in t j ∙ ap (λ n. lineIn n t j) same-kinds)
-      ∙ lines-same (kindCount s) q1 t m (λ x l h. line-byte x l (rw (kinds-are R) h)) ∙ L .lines
+      ∙ lines-same (kindCount s) lined t m (λ x l h. line-byte x l (rw (kinds-are R) h)) ∙ L .lines
 
   -- Its fields are the sheet's: the same counts, at another offset.
   part-field : (i : ℕ) → fieldOf t i ≡ counts (c .kinds) (λ k. u16At t (linesOffset + m * (2 + c .kinds) + 2 * c .kinds * i + 2 * k))
@@ -156,7 +157,7 @@ module _ {s : List ℕ} {c : Card} (R : Reads s c) (m : ℕ) {p q1 q2 q3 : List 
       total : sizeOf (withLines c m) ≡ linesOffset + lineCount t * (2 + kindCount t) + 2 * kindCount t * fieldCount t
       total = rw (header .kind-count, header .line-count, header .field-count) refl
 
-  is-part : IsPart s (withLines c m) q3
+  is-part : IsPart s (withLines c m) whole
   unfolding cardOf
   is-part = record {
     room = within;
@@ -169,7 +170,7 @@ module _ {s : List ℕ} {c : Card} (R : Reads s c) (m : ℕ) {p q1 q2 q3 : List 
       cards e g h = rw (e, g, h) refl
 
 -- The same, of what the functions return.
-pub part-written : {s : List ℕ} {c d : Card} (R : Reads s c) {m from to : ℕ} {p q1 q2 q3 : List ℕ} → length s ≤ length p → LinesTaken s p m q1 → d ≡ withLines c m
-    → HeaderSet (withLines c m) q1 q2 → from ≡ linesOffset + c .lines * (2 + c .kinds) → to ≡ linesOffset + m * (2 + d .kinds) → Copied s from q2 to (2 * c .kinds * c .fields) q3
-    → IsPart s d q3
+pub part-written : {s : List ℕ} {c d : Card} (R : Reads s c) {m from to : ℕ} {p lined headed whole : List ℕ} → length s ≤ length p → LinesTaken s p m lined → d ≡ withLines c m
+    → HeaderSet (withLines c m) lined headed → from ≡ linesOffset + c .lines * (2 + c .kinds) → to ≡ linesOffset + m * (2 + d .kinds) → Copied s from headed to (2 * c .kinds * c .fields) whole
+    → IsPart s d whole
 part-written R {m} room L e H a b F = rw e (is-part R m room L H (rw (a, b, e) at F))
