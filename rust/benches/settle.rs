@@ -1,11 +1,14 @@
-//! The library's times beside those of the independent implementation, in one run: settling the costly families, walks, and how time grows with kinds and lines.
+//! The library's times beside those of the independent implementation, in one run: settling the costly families, walks, how time grows with kinds and lines, and what kinds that are out cost.
 //!
 //! Each time is the least of the runs of a fifth of a second, over the same sheet and the same buffers, which are not cleared between the runs.
 
 use std::hint::black_box;
 use std::time::{Duration, Instant};
 
-use independent::generator::{COSTLY, Family, measured};
+use independent::generator::{COSTLY, Family, measured, side_by_side};
+use independent::parts::bytes_of;
+use independent::reached::reached_kinds;
+use independent::sheet::read;
 
 const SEED: u64 = 20_261_115;
 
@@ -24,6 +27,11 @@ fn least_time(mut run: impl FnMut()) -> Duration {
 /// A time in milliseconds.
 fn milliseconds(time: Duration) -> f64 {
     time.as_secs_f64() * 1e3
+}
+
+/// A time in microseconds.
+fn microseconds(time: Duration) -> f64 {
+    time.as_secs_f64() * 1e6
 }
 
 /// Settling a sheet: the stage, the library's time and the independent one's.
@@ -58,6 +66,24 @@ fn growth(sheets: impl Iterator<Item = Vec<u8>>) -> String {
         format!("{:9.3} ({:5.2})", milliseconds(library), library.as_secs_f64() / independent.as_secs_f64())
     };
     sheets.map(cell).collect::<Vec<_>>().join(" ")
+}
+
+/// The 4 reached kinds of a sheet of 32, in a sheet of their own. Both sheets settle at the same stage with the same rows, and the rows of the other kinds are zeros.
+fn reached_alone(sheet: &[u8]) -> Vec<u8> {
+    let card = read(sheet).expect("a well-formed sheet");
+    let kinds = reached_kinds(&card);
+    let alone = bytes_of(&card, &kinds, &kinds);
+    let [all, part] = [sheet, &alone].map(|sheet| limbatue::settle(sheet).expect("an accepted sheet"));
+    assert_eq!((all.kinds(), part.kinds()), (32, 4));
+    let mut table = vec![0; 32 * 32];
+    for (&kind, row) in kinds.iter().zip(part.rows()) {
+        for (&other, &count) in kinds.iter().zip(row) {
+            table[32 * kind + other] = count;
+        }
+    }
+    assert_eq!(all.stage(), part.stage());
+    assert!(all.rows().flatten().eq(&table), "the rows differ");
+    alone
 }
 
 /// The library's time of a walk on a field against itself and the independent one's, and the pairs drawn.
@@ -102,6 +128,25 @@ fn main() {
     for family in COSTLY {
         let sheets = [32, 64, 128, 256].into_iter().map(|lines| measured(family, 16, lines, SEED));
         println!("{:22} {}", format!("{family:?}"), growth(sheets));
+    }
+    println!(
+        "\nsettle, 4 kinds alone and among 32, the others out\nlines  among 32  stages   alone µs  among 32 µs  ratio  independent ratio"
+    );
+    for lines in [8, 32] {
+        for number in 0..4 {
+            let sheet = side_by_side(lines, SEED + number);
+            let alone = reached_alone(&sheet);
+            let [few, many] = [&alone, &sheet].map(|sheet| limbatue::numbers(sheet).expect("an accepted sheet").lines);
+            let (stage, library, independent) = settle_times(&alone);
+            let (_, library_among, independent_among) = settle_times(&sheet);
+            println!(
+                "{few:5} {many:9} {stage:7} {:10.2} {:12.2} {:6.2} {:18.2}",
+                microseconds(library),
+                microseconds(library_among),
+                library_among.as_secs_f64() / library.as_secs_f64(),
+                independent_among.as_secs_f64() / independent.as_secs_f64()
+            );
+        }
     }
     println!(
         "\nwalk, 32 kinds, limit 8, allowance 1,000,000\n                           drawn   library ms  independent ms  ratio"

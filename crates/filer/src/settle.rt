@@ -8,6 +8,7 @@ ghost use Rattle.filer.specs.Answers.{settlingOf};
 ghost use Rattle.filer.specs.Settlement.{tableIn};
 use crate::answers::Settling;
 use crate::settlement::settle_once;
+use copies::bits32::write_u32;
 use validation::checks::Checked;
 
 // Settle, of any bytes and a table of any length; a refusal leaves the table as it was.
@@ -43,10 +44,14 @@ pub fn write_table(rows: &[u32], kinds: usize, table: &mut [u32])
     requires { ⌜ kinds * kinds ≤ length (now table) ⌝ }
     ensures { λ _. ⌜ now (table .exit) ≡ written (tableIn kinds (now (rows .entry))) (now (table .entry)) ⌝ }
 {
-    let size = kinds * kinds;
-    let mut i = 0;
-    while i < size {
-        table[i] = rows[i / kinds * 32 + i % kinds];
-        i += 1;
+    let mut row = 0;
+    while row < kinds {
+        let start = row * 32;
+        let place = row * kinds;
+        write_u32(
+            &rows[start..start + kinds],
+            &mut table[place..place + kinds],
+        );
+        row += 1;
     }
 }

@@ -2,8 +2,8 @@
 ghost use Rattle.filer.specs.Settlement.{IsSettlement};
 use acceptance::accept::accept;
 use stages::kept::Kept;
+use stages::reached::settle_reached;
 use stages::settle::Settled;
-use stages::settle::settle;
 use tables::table::Base;
 use validation::checks::Checked;
 
@@ -40,7 +40,7 @@ pub fn settle_once(sheet: &[u8]) -> Settlement
             }
         }
         Checked::Passed(card) => {
-            let settled = settle(sheet, card, norms);
+            let settled = settle_reached(sheet, card, norms);
             Settlement {
                 checked: Checked::Passed(card),
                 norms,

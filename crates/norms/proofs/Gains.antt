@@ -4,9 +4,7 @@ use mathlib.Core.List.{List, _∷_}
 use mathlib.Core.Path.{_≡_, refl, sym, _∙_, ap}
 use Prim.Native.Nat.{ℕ, _-_, _≤_, _<_, max}
 use native.Mathlib.Omega.{arith}
-use lib.Dec.{T}
 use Rattle.model.specs.Finite.{keep, listFrom}
-use Rattle.model.specs.Field.{weigh}
 use Rattle.model.specs.Card.{Line, Reached, reached, reachedLines}
 use Rattle.model.specs.Norm.{kindNorm, norm, gainOf}
 use Rattle.model.specs.Base.{gain}
@@ -18,6 +16,7 @@ use Rattle.sheet.specs.declared.reader.Card.{Card}
 use Rattle.sheet.proofs.Laws.{card-lines}
 use Rattle.norms.specs.Norms.{Accepts, lineGain}
 use Rattle.norms.proofs.Arrays.{list-back}
+use Rattle.norms.proofs.Laws.{inReach}
 
 -- The gain of a line, by the norm of its kind: a kind that is out has none.
 module _ {s : List ℕ} {c : Card} {norms : List ℕ} (A : Accepts s c norms) (j : ℕ) where
@@ -42,10 +41,6 @@ module _ {s : List ℕ} {c : Card} {norms : List ℕ} (A : Accepts s c norms) (j
           ≡ (elim b as (λ _. ℕ) [ true ↦ norm (cardOf s) (lineOf s j .left) - kindNorm (cardOf s) kind | false ↦ 0 ])
       go true t = refl
       go false t = absurd (t .test (norm-tells s (A .accepted) kind .0 (omega arith)))
-
--- The lines of reached kinds.
-abbrev pub inReach : List ℕ → Line → Bool
-inReach s l = reached (cardOf s) (l .kind)
 
 -- The greatest gain of the lines of reached kinds from j on, of m lines.
 abbrev pub gainFrom : List ℕ → ℕ → ℕ → ℕ

@@ -1,4 +1,5 @@
 -- What holds of a sheet that was read, and of its norms.
+use mathlib.Core.Bool.{Bool}
 use mathlib.Core.List.{List}
 use mathlib.Core.Path.{_≡_, refl, sym, _∙_, ap, ap₂}
 use Prim.Native.Nat.{ℕ, _^_, _≤_, _<_}
@@ -6,7 +7,7 @@ use native.Mathlib.Decide.{decLt}
 use native.Mathlib.Omega.{arith}
 use lib.ListN.{length}
 use Rattle.model.specs.Field.{Field, weigh, at}
-use Rattle.model.specs.Card.{Reached}
+use Rattle.model.specs.Card.{Line, Reached, reached}
 use Rattle.model.specs.Norm.{kindNorm, norm}
 use Rattle.model.specs.Sheet.{byte, kindCount, lineOf, cardOf}
 use Rattle.model.specs.Limits.{mostKinds, normLimit}
@@ -19,6 +20,10 @@ use Rattle.sheet.proofs.Laws.{kinds-are, kinds-most, card-kinds, kind-under, le
 use Rattle.norms.specs.Norms.{Accepts, normsOf}
 use Rattle.weights.proofs.Bounds.{counts-fit}
 use Rattle.norms.proofs.Arrays.{array-at}
+
+-- Whether a line is of a reached kind.
+abbrev pub inReach : List ℕ → Line → Bool
+inReach s l = reached (cardOf s) (l .kind)
 
 -- What is made of the part that holds a line's counts is made of what the line leaves.
 module _ {s : List ℕ} {c : Card} (R : Reads s c) (j : ℕ) (xs : List ℕ) (part : xs ≡ lineCounts s j) where

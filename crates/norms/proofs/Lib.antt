@@ -1,6 +1,5 @@
 -- Laws over any lines, and what they come to on a sheet.
 pub mod Arrays  -- lists of counts as fields
-pub mod Masking  -- the norms of the reached kinds, of those of all
 pub mod Sweeps  -- the best line of a kind, one sweep, all sweeps
 pub mod Laws  -- of a sheet that was read, and of an accepted one
 pub mod Gains  -- g

@@ -7,7 +7,7 @@ use lib.Dec.{ltb}
 use Rattle.model.specs.Finite.{listFrom}
 use Rattle.model.specs.Field.{Field}
 use Rattle.model.specs.Card.{reached}
-use Rattle.model.specs.Norm.{cardNorm, kindNorm, norm}
+use Rattle.model.specs.Norm.{kindNorm, norm}
 use Rattle.model.specs.Sheet.{lineOf, cardOf}
 use Rattle.model.specs.Limits.{mostKinds, normLimit}
 use Rattle.model.specs.Refusal.{Accepted}
@@ -17,10 +17,6 @@ use Rattle.sheet.specs.declared.reader.Card.{Card}
 -- A field as an array by value: its counts of the most kinds there are.
 abbrev pub arrayOf : Field → List ℕ
 arrayOf f = listFrom f 0 mostKinds
-
--- The norms of all the sheet's kinds, reached or not, cut one past "the greatest norm taken"; 0 is a kind that has none.
-unfoldable pub cutCardNorms : List ℕ → List ℕ
-cutCardNorms s = arrayOf (λ k. min (cardNorm (cardOf s) k) (suc normLimit))
 
 -- The norms of the sheet's reached kinds, cut one past "the greatest norm taken"; 0 is one that has none, or a kind that is out.
 unfoldable pub cutNorms : List ℕ → List ℕ

@@ -1,4 +1,4 @@
-// The norms of the reached kinds. Sweeps, each of which finds every kind's best line by the values of the sweep before, give the norms of all kinds: until one changes nothing, or there were as many as kinds.
+// The norms of the reached kinds, found by sweeps over the lines of these kinds: each sweep finds every such kind's best line by the values of the sweep before, until one changes nothing, or there were as many as kinds.
 ghost use mathlib.Core.Bool.{true, false};
 ghost use mathlib.Core.Logic.{_↔_};
 ghost use mathlib.Core.Path.{_≡_};
@@ -9,7 +9,7 @@ ghost use Rattle.model.specs.Card as model;
 ghost use Rattle.model.specs.Sheet.{cardOf};
 ghost use Rattle.model.specs.Limits.{mostKinds, normLimit};
 ghost use Rattle.sheet.specs.Reader.{Reads};
-ghost use Rattle.norms.specs.Norms.{cutCardNorms, cutNorms};
+ghost use Rattle.norms.specs.Norms.{cutNorms};
 ghost use Rattle.norms.specs.Sweep.{SameBelow, sweepOf};
 ghost use Rattle.weights.specs.Value.{AtMost};
 use sheet::Card;
@@ -22,28 +22,11 @@ pub fn kind_norms(sheet: &[u8], card: Card, reached: &[bool; 32]) -> [u32; 32]
     requires { ⌜ ((k : ℕ) → getD (now reached) k false ≡ model.reached (cardOf (now sheet)) k) ⌝ }
     ensures { λ r. ⌜ r ≡ cutNorms (now (sheet .entry)) ⌝ }
 {
-    let values = card_norms(sheet, card);
-    let mut norms = [0u32; 32];
-    let mut kind = 0;
-    while kind < 32 {
-        if reached[kind] {
-            norms[kind] = values[kind];
-        }
-        kind += 1;
-    }
-    norms
-}
-
-// The norm of every kind, reached or not, cut one past the limit; 0 for a kind that has none, and past the card's kinds.
-fn card_norms(sheet: &[u8], card: Card) -> [u32; 32]
-    requires { ⌜ Reads (now sheet) card ⌝ }
-    ensures { λ r. ⌜ r ≡ cutCardNorms (now (sheet .entry)) ⌝ }
-{
     let kinds = card.kinds;
     let mut values = [0u32; 32];
     let mut turn = 0;
     while turn < kinds {
-        let next = sweep(sheet, card, &values);
+        let next = sweep(sheet, card, reached, &values);
         if same_values(kinds, &values, &next) {
             return values;
         }
@@ -53,9 +36,10 @@ fn card_norms(sheet: &[u8], card: Card) -> [u32; 32]
     values
 }
 
-// The values of the kinds after one more sweep: the lines are taken from the last to the first, each for its own kind.
-fn sweep(sheet: &[u8], card: Card, values: &[u32; 32]) -> [u32; 32]
+// The values of the kinds after one more sweep: the lines of reached kinds are taken from the last to the first, each for its own kind. Of any other line the kind alone is read.
+fn sweep(sheet: &[u8], card: Card, reached: &[bool; 32], values: &[u32; 32]) -> [u32; 32]
     requires { ⌜ Reads (now sheet) card ⌝ }
+    requires { ⌜ ((k : ℕ) → getD (now reached) k false ≡ model.reached (cardOf (now sheet)) k) ⌝ }
     requires { ⌜ AtMost (suc normLimit) (now values) ⌝ }
     ensures { λ r. ⌜ r ≡ sweepOf (now (sheet .entry)) (at (now (values .entry))) ⌝ }
 {
@@ -64,9 +48,11 @@ fn sweep(sheet: &[u8], card: Card, values: &[u32; 32]) -> [u32; 32]
     while 0 < j {
         j -= 1;
         let kind = card.line_kind(sheet, j);
-        let value = read_value(values, card.line_counts(sheet, j));
-        let held = next[kind];
-        next[kind] = lesser(value, held);
+        if reached[kind] {
+            let value = read_value(values, card.line_counts(sheet, j));
+            let held = next[kind];
+            next[kind] = lesser(value, held);
+        }
     }
     next
 }

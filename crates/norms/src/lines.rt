@@ -52,17 +52,17 @@ pub fn gain(sheet: &[u8], card: Card, norms: &[u32; 32]) -> u64
     most
 }
 
-// The norm that a line leaves minus its kind's norm, or 0 where it leaves less; 0 for a line of a kind that is out, which has no norm here.
+// The norm that a line leaves minus its kind's norm, or 0 where it leaves less; 0 for a line of a kind that is out, which has no norm here, and whose counts are not read.
 fn line_gain(sheet: &[u8], card: Card, norms: &[u32; 32], line: usize) -> u64
     requires { ⌜ Accepts (now sheet) card (now norms) ⌝ }
     requires { ⌜ line < card .lines ⌝ }
     ensures { λ r. ⌜ r ≡ lineGain (now (sheet .entry)) line ⌝ }
 {
-    let left = left_norm(sheet, card, norms, line);
     let own = own_norm(sheet, card, norms, line);
     if own == 0 {
         return 0;
     }
+    let left = left_norm(sheet, card, norms, line);
     if own < left { left - own } else { 0 }
 }
 

@@ -9,3 +9,5 @@ pub mod Fields
 -- The loop over the stages; what the calls answer.
 pub mod Unsettled
 pub mod Outcomes
+-- What the reached part of a sheet settles to is what the sheet does.
+pub mod Parts

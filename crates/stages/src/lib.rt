@@ -4,5 +4,7 @@
 pub mod kept;
 // The stages one after the other, up to the settled one.
 pub mod settle;
+// A sheet settled by its reached part.
+pub mod reached;
 // The least stage that parts two fields.
 pub mod parting;

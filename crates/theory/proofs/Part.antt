@@ -22,6 +22,7 @@ use Rattle.theory.proofs.Field.{unit-same, weigh-unit}
 use Rattle.theory.proofs.Base.{unit-some}
 use Rattle.theory.proofs.Reach.{dec-tells, tells-same, fire-kinds}
 use Rattle.theory.proofs.Fewest.{Tame, clears-map, clears-reached, clears-fewest, all-norm, reads, reach, reached-norm, out-norm}
+use Rattle.theory.proofs.Sweeps.{norm-attained}
 use Rattle.theory.proofs.Sheets.{tame}
 use Rattle.theory.proofs.Used.{keep-all}
 use Rattle.theory.specs.Terms.{OnReached, OfKinds}
@@ -102,6 +103,18 @@ module _ (c : Card) (S : Tame c) where
 
   same-norm : kindNorm p ≡ kindNorm c
   same-norm = fun-ext same-norm-at
+
+  -- By its own lines the part gives each reached kind its norm, and a kind that is out none, since it has no line of it.
+  part-norm : (k : ℕ) → cardNorm p k ≡ kindNorm c k
+  part-norm k = go (dec-tells (reached c k) (record { fact = reach c S .test-iff k .0; test = reach c S .test-iff k .1 }))
+    where
+      none-out : (¬ Reached c k) → Dec (0 < cardNorm p k) → cardNorm p k ≡ 0
+      none-out n (yes h) = let t = norm-attained p k h in absurd (n (rw (t .2) at (on-card (t .0) (t .1) .1)))
+      none-out n (no h) = omega arith
+
+      go : Dec (Reached c k) → cardNorm p k ≡ kindNorm c k
+      go (yes v) = same-card-norm k v ∙ sym (reached-norm c S k v)
+      go (no n) = none-out n (decLt 0 (cardNorm p k)) ∙ sym (out-norm c S k n)
 
   -- The stages, the rows, what they pass.
   same-stage : (w : ℕ → ℕ) → stage p w ≡ stage c w
@@ -191,10 +204,18 @@ module _ (c : Card) (S : Tame c) where
     reached-iff = λ k. (to-card k, to-part k);
     norms = same-norm;
     stage = same-answer firstSettled same-settled;
+    stage-rows = λ s. same-answer (λ d w R. row d w R s) (λ w R. ap (λ (x : ℕ → ℕ → Field). x s) (same-row w R));
     rows = same-answer (λ d w R. row d w R (firstSettled d w R)) (λ w R. ap (row p w R) (same-settled w R) ∙ ap (λ (x : ℕ → ℕ → Field). x (firstSettled c w R)) (same-row w R));
     forms = same-answer (λ d w R. formAt d w R (firstSettled d w R)) (λ w R. ap (formAt p w R) (same-settled w R) ∙ ap (λ (x : ℕ → Field → Field). x (firstSettled c w R)) (same-form w R));
     verdicts = λ a b. ap (λ (w : ℕ → ℕ). verdict p w a b) same-norm ∙ same-verdict (kindNorm c) a b;
   }
 
+-- Of a sheet that passes 1 to 8: by the lines of the reached part alone, each reached kind has its norm, and a kind that is out has none.
+pub part-norms : (s : List ℕ) → firstOf (sheetChecks s) ≡ clear → cardNorm (part (cardOf s)) ≡ kindNorm (cardOf s)
+part-norms s e = fun-ext (part-norm (cardOf s) (tame s e))
+
 pub parts : (s : List ℕ) → firstOf (sheetChecks s) ≡ clear → Parts (cardOf s)
 parts s e = all-parts (cardOf s) (tame s e)
+
+pub part-reached : (s : List ℕ) → firstOf (sheetChecks s) ≡ clear → reached (part (cardOf s)) ≡ reached (cardOf s)
+part-reached s e = same-reached (cardOf s) (tame s e)

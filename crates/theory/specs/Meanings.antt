@@ -76,6 +76,7 @@ pub record Parts (c : Card) : Type 0 where
   pub reached-iff : (k : ℕ) → Reached (part c) k ↔ Reached c k
   pub norms : kindNorm (part c) ≡ kindNorm c
   pub stage : settledStage (part c) ≡ settledStage c
+  pub stage-rows : (s : ℕ) → stageRow (part c) s ≡ stageRow c s
   pub rows : settledRow (part c) ≡ settledRow c
   pub forms : settledForm (part c) ≡ settledForm c
   pub verdicts : (a b : Field) → verdict (part c) (kindNorm (part c)) a b ≡ verdict c (kindNorm c) a b

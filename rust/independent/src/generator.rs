@@ -206,6 +206,29 @@ pub fn measured(family: Family, kinds: usize, lines: usize, seed: u64) -> Vec<u8
     draft.bytes()
 }
 
+/// A sheet of 32 kinds with two fields, for measuring what kinds that are out cost: eight random cards of 4 kinds and so
+/// many lines each, up to 32, that lie side by side. A card has every eighth kind, and lines that leave these alone; the
+/// fields hold each kind of the fourth card, and no other. The lines are in the order of their kinds.
+pub fn side_by_side(lines: usize, seed: u64) -> Vec<u8> {
+    let mut random = Random::new(seed);
+    let cards: Vec<Draft> = (0..8).map(|_| card(Family::Normed, 4, lines, Size::Small, &mut random)).collect();
+    let codes = cards.iter().map(|card| card.codes).max().expect("a card");
+    let mut draft = Draft::new(MOST_KINDS, codes);
+    for (first, card) in cards.iter().enumerate() {
+        let number = |kind: usize| first + 8 * kind;
+        for line in &card.lines {
+            let left: Vec<(usize, u8)> =
+                line.left.iter().zip(0..).map(|(&count, kind)| (number(kind), count)).collect();
+            draft.add_line(number(line.kind), line.code, &left);
+        }
+    }
+    draft.lines.sort_by_key(|line| line.kind);
+    add_fields(&mut draft, 2, Size::Small, &mut random);
+    hold_every_kind(&mut draft);
+    hold_alone(&mut draft, &[3, 11, 19, 27], &mut random);
+    draft.bytes()
+}
+
 /// The kinds and lines of a draft. It has at least a line for each kind where the family needs it, and
 /// never more than the greatest number.
 fn card(family: Family, kinds: usize, lines: usize, size: Size, random: &mut Random) -> Draft {

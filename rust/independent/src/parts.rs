@@ -61,7 +61,7 @@ pub fn try_parts(seed: u64, numbers: Range<u64>, implementation: Implementation)
 }
 
 /// The bytes of a card with some of its kinds, which take their place in number order as the numbers, and the lines of some.
-fn bytes_of(card: &Card, kinds: &[usize], of_lines: &[usize]) -> Vec<u8> {
+pub fn bytes_of(card: &Card, kinds: &[usize], of_lines: &[usize]) -> Vec<u8> {
     let mut draft = Draft::new(kinds.len(), card.codes);
     for line in card.lines.iter().filter(|line| of_lines.contains(&line.kind)) {
         let kind = kinds.iter().position(|&kind| kind == line.kind).expect("one of the kinds");

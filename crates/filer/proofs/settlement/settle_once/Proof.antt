@@ -17,8 +17,8 @@ new-requires c κs = search needs
 enum-known-checked-2 : tie.Need-enum-known-checked-2
 enum-known-checked-2 c = search needs
 
-settle-requires : tie.Need-settle-requires
-settle-requires c κs =
+settle-reached-requires : tie.Need-settle-reached-requires
+settle-reached-requires c κs =
     let accept = c .before .before .before .before .accept in
     acceptance-accepts _ _ (accept .ensures) _ (c .before .checked2 .given .1)
 
@@ -30,7 +30,7 @@ returns c =
 returns-2 : tie.Need-returns-2
 returns-2 c =
     let accept = c .before .before .before .before .before .accept in
-    settlement-passed _ _ (accept .ensures) _ _ (c .before .before .checked2 .given .1) (c .settle .ensures)
+    settlement-passed _ _ (accept .ensures) _ _ (c .before .before .checked2 .given .1) (c .settle-reached .ensures)
 
 pub settle-once-spec : {M : Type 1} → statement M
 settle-once-spec =
@@ -40,6 +40,6 @@ settle-once-spec =
     enum-known-checked
     new-requires
     enum-known-checked-2
-    settle-requires
+    settle-reached-requires
     returns
     returns-2)

@@ -1,63 +1,63 @@
--- The numbers of the kinds before the one at hand are the norms of the reached kinds.
+-- The values are those after so many sweeps, and the norms once a sweep changes nothing.
 use borrow.Author.Needs.{needs}
-use mathlib.Core.Logic.{⊎-elim}
-use mathlib.Core.Path.{sym, _∙_}
-use Prim.Native.Nat.{_-_, _≤_}
+use mathlib.Core.Path.{_≡_, _∙_, ap}
+use mathlib.Core.List.{List}
+use Prim.Native.Nat.{ℕ, _-_, _≤_}
 use native.Mathlib.Omega.{arith}
-use Rattle.norms.proofs.Masking.{Masked, masked-start, masked-in, masked-out, masked-end}
+use Rattle.model.specs.Field.{at}
+use Rattle.sheet.proofs.Laws.{kinds-most}
+use Rattle.norms.specs.Norms.{arrayOf}
+use Rattle.norms.specs.Sweep.{sweepOf}
+use Rattle.norms.proofs.Sweeps.{swept, swept-most, swept-start, swept-next, swept-end, swept-settled}
 use Rattle.norms.proofs.kinds.kind_norms.Statement.{statement}
 use Rattle.norms.proofs.kinds.kind_norms.Tie as tie
 
 abbrev Inv-loop : tie.InvT-loop
-Inv-loop sheet reached values norms₀ kind₀ norms kind = (kind ≤ 32) × Masked sheet kind norms
+Inv-loop s card reached kinds values₀ turn₀ values turn = (values ≡ arrayOf (swept s turn)) × (turn ≤ card .kinds)
 
 abbrev μ-loop : tie.MeasureT-loop
-μ-loop sheet reached values norms₀ kind₀ norms kind = 32 - kind
-
-card-norms-requires : tie.Need-card-norms-requires Inv-loop μ-loop
-card-norms-requires c κs = search needs
+μ-loop s card reached kinds values₀ turn₀ values turn = card .kinds - turn
 
 loop-holds : tie.Need-loop-holds Inv-loop μ-loop
-loop-holds c = (search needs, masked-start (c .before .before .args .sheet .now))
+loop-holds c = (swept-start (c .before .pre .0), search needs)
 
-element-copy-out-if1 : tie.Need-element-copy-out-if1 Inv-loop μ-loop
-element-copy-out-if1 c = search needs
+sweep-requires : tie.Need-sweep-requires Inv-loop μ-loop
+sweep-requires c κs =
+    let pre = c .before .before .before .before .pre in
+    (pre .0, (pre .1, rw (c .before .before .loop .inv .0) (swept-most (pre .0) (c .before .before .loop .turn))))
 
-mul-norms : tie.Need-mul-norms Inv-loop μ-loop
-mul-norms c = search needs
+same-values-requires : tie.Need-same-values-requires Inv-loop μ-loop
+same-values-requires c κs =
+    let start = c .before .before .before .before .before .before .before in
+    kinds-most (start .pre .0)
 
-array-read-norms : tie.Need-array-read-norms Inv-loop μ-loop
-array-read-norms c = search needs
+returns : tie.Need-returns Inv-loop μ-loop
+returns c =
+    let start = c .before .before .before .before .before .before .before .before .before in
+    let loop = c .before .before .before .before .before .before .before .loop in
+    let sweep = c .before .before .before .before .sweep in
+    swept-settled (start .pre .0) (loop .turn) (loop .values) (sweep .result) (loop .inv .1) (loop .inv .0) (sweep .ensures)
+    (c .before .same-values .ensures .0 (c .if1 .taken))
 
-mul-norms-2 : tie.Need-mul-norms-2 Inv-loop μ-loop
-mul-norms-2 c = search needs
-
-array-write-norms : tie.Need-array-write-norms Inv-loop μ-loop
-array-write-norms c = search needs
-
-add-kind : tie.Need-add-kind Inv-loop μ-loop
-add-kind c = search needs
+add-turn : tie.Need-add-turn Inv-loop μ-loop
+add-turn c =
+    let start = c .before .before .before .before .before .before .before .before .before in
+    omega (arith, kinds-most (start .pre .0))
 
 loop-less : tie.Need-loop-less Inv-loop μ-loop
 loop-less c = search needs
 
 loop-again : tie.Need-loop-again Inv-loop μ-loop
 loop-again c =
-    let start = c .before .before .before .before .before .before in
-    let norms-found = c .before .before .before .before .card-norms in
-    let at-loop = c .before .before .before in
-    let s = start .args .sheet .now in
-    let h = at-loop .loop .inv .1 in
-    let l = c .before .before .loop-test .taken in
-    let marked = start .pre .1 (at-loop .loop .kind) in (
-      omega arith,
-      ⊎-elim (λ w. rw (w .1) (masked-in s h l (norms-found .result) (norms-found .ensures) (sym marked ∙ w .0 .taken))) (λ w. rw (w .1) (masked-out s h l (sym marked ∙ w .0 .left))) (c .if1 .came),
-    )
+    let start = c .before .before .before .before .before .before .before .before .before in
+    let loop = c .before .before .before .before .before .before .before .loop in
+    let sweep = c .before .before .before .before .sweep in
+    (sweep .ensures ∙ ap (λ (xs : List ℕ). sweepOf (start .args .sheet .now) (at xs)) (loop .inv .0) ∙ swept-next (start .pre .0) (loop .turn), search needs)
 
-returns : tie.Need-returns Inv-loop μ-loop
-returns c =
-    let start = c .before .before .before .before in
-    masked-end (start .args .sheet .now) (c .before .loop .inv .1) (c .loop-test .left)
+returns-2 : tie.Need-returns-2 Inv-loop μ-loop
+returns-2 c =
+    let start = c .before .before .before in
+    c .before .loop .inv .0 ∙ swept-end (start .pre .0) (c .before .loop .turn) (omega arith)
 
 pub kind-norms-spec : {M : Type 1} → statement M
 kind-norms-spec =
@@ -65,14 +65,11 @@ kind-norms-spec =
     (tie.spec
     Inv-loop
     μ-loop
-    card-norms-requires
     loop-holds
-    element-copy-out-if1
-    mul-norms
-    array-read-norms
-    mul-norms-2
-    array-write-norms
-    add-kind
+    sweep-requires
+    same-values-requires
+    returns
+    add-turn
     loop-less
     loop-again
-    returns)
+    returns-2)

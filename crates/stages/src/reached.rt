@@ -1,0 +1,18 @@
+// A sheet settled by its reached part: the lines of kinds that are out are not looked at.
+use crate::settle::Settled;
+use crate::settle::settle;
+use part_sheet::write_part;
+use sheet::Card;
+ghost use Rattle.norms.specs.Norms.{Accepts};
+ghost use Rattle.stages.specs.Settle.{IsSettled};
+
+// "The settled stage", "the final base" and what is kept of the stages, by the sheet of the reached part. The buffer has room for the longest sheet.
+pub fn settle_reached(sheet: &[u8], card: Card, norms: [u32; 32]) -> Settled
+    requires { ⌜ Accepts (now sheet) card norms ⌝ }
+    ensures { λ r. ⌜ IsSettled (now (sheet .entry)) r ⌝ }
+{
+    let mut bytes = [0u8; 12_820];
+    let part = write_part(sheet, card, &norms, &mut bytes);
+    let size = part.field_start(part.fields);
+    settle(&bytes[..size], part, norms)
+}
