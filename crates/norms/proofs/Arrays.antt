@@ -1,6 +1,6 @@
 -- Lists of counts as fields, of any width; a list, and the members of it that pass a test, from one place before.
 use mathlib.Core.Bool.{Bool, true, false}
-use mathlib.Core.List.{List, _∷_}
+use mathlib.Core.List.{_∷_}
 use mathlib.Core.Path.{_≡_, sym, _∙_, ap, fun-ext}
 use Prim.Native.Nat.{ℕ, suc, _+_, _-_, _≤_, _<_}
 use native.Mathlib.Decide.{decLt}
@@ -10,6 +10,7 @@ use Rattle.model.specs.Finite.{keep, listFrom}
 use Rattle.model.specs.Field.{Field, at}
 use Rattle.model.specs.Sheet.{counts}
 use Rattle.theory.proofs.Lists.{getD-from, getD-past}
+use Rattle.theory.proofs.Shelves.{keep-yes, keep-no}
 use Rattle.sheet.proofs.Counts.{counts-below, counts-past}
 
 -- An array of m counts is the field of them, where it has no kinds past them.
@@ -38,15 +39,8 @@ list-back f j m h i =
 
 -- The members of a list that pass a test, from one place before: the member there comes first if it passes, and else nothing changes.
 module _ {A : Type 0} (test : A → Bool) (f : ℕ → A) (j m : ℕ) (h : 0 < j) (i : j ≤ m) where
-  abbrev kept : List A
-  kept = keep test (listFrom f j (m - j))
-
-  keep-back : (b : Bool) → test (f (j - 1)) ≡ b → keep test (listFrom f (j - 1) (m - (j - 1))) ≡ (elim b as (λ _. List A) [ true ↦ f (j - 1) ∷ kept | false ↦ kept ])
-  unfolding keep
-  keep-back b e = ap (keep test) (list-back f j m h i) ∙ ap (λ (d : Bool). elim d as (λ _. List A) [ true ↦ f (j - 1) ∷ kept | false ↦ kept ]) e
-
   pub keep-in : test (f (j - 1)) ≡ true → keep test (listFrom f (j - 1) (m - (j - 1))) ≡ f (j - 1) ∷ keep test (listFrom f j (m - j))
-  keep-in e = keep-back true e
+  keep-in e = ap (keep test) (list-back f j m h i) ∙ keep-yes test (f (j - 1)) (listFrom f j (m - j)) e
 
   pub keep-out : test (f (j - 1)) ≡ false → keep test (listFrom f (j - 1) (m - (j - 1))) ≡ keep test (listFrom f j (m - j))
-  keep-out e = keep-back false e
+  keep-out e = ap (keep test) (list-back f j m h i) ∙ keep-no test (f (j - 1)) (listFrom f j (m - j)) e

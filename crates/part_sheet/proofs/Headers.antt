@@ -15,7 +15,7 @@ use Rattle.part_sheet.specs.Part.{withLines, HeaderSet}
 pub u16-same : (p q : List ℕ) (i j : ℕ) → byte q i ≡ byte p j → byte q (i + 1) ≡ byte p (j + 1) → u16At q i ≡ u16At p j
 u16-same p q i j e d = omega (arith, e, d)
 
-module _ {s : List ℕ} {c : Card} (R : Reads s c) (m : ℕ) (few : m ≤ c .lines) where
+module _ {s : List ℕ} {c : Card} (R : Reads s c) (m : ℕ) where
   -- In the sheet the high halves of the offset of the fields and of the total are 0.
   offset-high : u16At s 14 ≡ 0
   unfolding fieldsOffset

@@ -14,13 +14,13 @@ use Rattle.model.specs.Card.{Line, reached, reachedLines}
 use Rattle.model.specs.Sheet.{linesOffset, byte, kindCount, lineCount, counts, lineOf, cardOf}
 use Rattle.theory.proofs.Lists.{from-append, is-true}
 use Rattle.theory.proofs.Sheets.{sheet-reaches}
-use Rattle.theory.proofs.Shelves.{keep-append}
+use Rattle.theory.proofs.Shelves.{keep-yes, keep-no, keep-append}
 use Rattle.sheet.specs.Reader.{Reads}
 use Rattle.sheet.specs.declared.reader.Card.{Card}
 use Rattle.sheet.proofs.Counts.{counts-below, counts-past}
 use Rattle.sheet.proofs.Laws.{kinds-are, part-within, line-inside}
 use Rattle.norms.specs.Norms.{Accepts}
-use Rattle.norms.proofs.Laws.{norm-positive, norm-reached}
+use Rattle.norms.proofs.Laws.{inReach, norm-positive, norm-reached}
 use Rattle.part_sheet.specs.Bytes.{Copied}
 use Rattle.part_sheet.specs.Part.{lineIn, LinesTaken}
 
@@ -37,15 +37,6 @@ module _ {A : Type 0} where
     where
       z : (m : ℕ) → 0 + m ≡ m
       z m = omega arith
-
-  -- Of one member it is kept or not.
-  keep-yes : (p : A → Bool) (x : A) → p x ≡ true → keep p (x ∷ []) ≡ x ∷ []
-  unfolding keep
-  keep-yes p x e = rw (e, keep) refl
-
-  keep-no : (p : A → Bool) (x : A) → p x ≡ false → keep p (x ∷ []) ≡ []
-  unfolding keep
-  keep-no p x e = rw (e, keep) refl
 
 -- The counts that agree below n are the same field.
 pub counts-same : (n : ℕ) (f g : ℕ → ℕ) → ((k : ℕ) → k < n → f k ≡ g k) → counts n f ≡ counts n g
@@ -109,22 +100,28 @@ module _ {s : List ℕ} {c : Card} {norms : List ℕ} (A : Accepts s c norms) (k
 pub record Taken (s p : List ℕ) (j m : ℕ) (q : List ℕ) : Type 0 where
   pub long : length q ≡ length p
   pub few : m ≤ j
-  pub lines : listFrom (lineIn (kindCount s) q) 0 m ≡ keep (λ l. reached (cardOf s) (l .kind)) (listFrom (lineOf s) 0 j)
+  pub lines : listFrom (lineIn (kindCount s) q) 0 m ≡ keep (inReach s) (listFrom (lineOf s) 0 j)
 
 module _ (s p : List ℕ) where
-  abbrev IsReached : Line → Bool
-  IsReached l = reached (cardOf s) (l .kind)
-
   pub taken-none : Taken s p 0 0 p
   unfolding listFrom keep
   taken-none = record { long = refl; few = omega arith; lines = refl }
 
-  keep-last : (j : ℕ) → keep IsReached (listFrom (lineOf s) 0 (j + 1)) ≡ keep IsReached (listFrom (lineOf s) 0 j) ++ keep IsReached (lineOf s j ∷ [])
-  keep-last j = ap (keep IsReached) (from-last (lineOf s) j) ∙ keep-append IsReached (listFrom (lineOf s) 0 j) (lineOf s j ∷ [])
+  keep-last : (j : ℕ) → keep (inReach s) (listFrom (lineOf s) 0 (j + 1)) ≡ keep (inReach s) (listFrom (lineOf s) 0 j) ++ keep (inReach s) (lineOf s j ∷ [])
+  keep-last j = ap (keep (inReach s)) (from-last (lineOf s) j) ∙ keep-append (inReach s) (listFrom (lineOf s) 0 j) (lineOf s j ∷ [])
+
+  -- Line j alone: it is kept where its kind is reached.
+  keep-one : (j : ℕ) → reached (cardOf s) (lineOf s j .kind) ≡ true → keep (inReach s) (lineOf s j ∷ []) ≡ lineOf s j ∷ []
+  unfolding keep
+  keep-one j e = keep-yes (inReach s) (lineOf s j) [] e
+
+  keep-none : (j : ℕ) → reached (cardOf s) (lineOf s j .kind) ≡ false → keep (inReach s) (lineOf s j ∷ []) ≡ []
+  unfolding keep
+  keep-none j e = keep-no (inReach s) (lineOf s j) [] e
 
   module _ {j m : ℕ} {q : List ℕ} (T : Taken s p j m q) where
     pub taken-out : reached (cardOf s) (lineOf s j .kind) ≡ false → Taken s p (j + 1) m q
-    taken-out e = record { long = T .long; few = omega (arith, T .few); lines = T .lines ∙ sym (append-nil _) ∙ ap (λ (ls : List Line). keep IsReached (listFrom (lineOf s) 0 j) ++ ls) (sym (keep-no IsReached (lineOf s j) e)) ∙ sym (keep-last j) }
+    taken-out e = record { long = T .long; few = omega (arith, T .few); lines = T .lines ∙ sym (append-nil _) ∙ ap (λ (ls : List Line). keep (inReach s) (listFrom (lineOf s) 0 j) ++ ls) (sym (keep-none j e)) ∙ sym (keep-last j) }
 
     taken-in : {r : List ℕ} → reached (cardOf s) (lineOf s j .kind) ≡ true
         → Copied s (linesOffset + j * (2 + kindCount s)) q (linesOffset + m * (2 + kindCount s)) (2 + kindCount s) r → Taken s p (j + 1) (m + 1) r
@@ -139,9 +136,9 @@ module _ (s p : List ℕ) where
         new : lineIn n r m ≡ lineOf s j
         new = line-same n s r m j (C .here) ∙ sym (line-in s j)
 
-        lines : listFrom (lineIn n r) 0 (m + 1) ≡ keep IsReached (listFrom (lineOf s) 0 (j + 1))
+        lines : listFrom (lineIn n r) 0 (m + 1) ≡ keep (inReach s) (listFrom (lineOf s) 0 (j + 1))
         lines = from-last (lineIn n r) m ∙ ap₂ (λ (xs : List Line) (l : Line). xs ++ (l ∷ [])) (stay ∙ T .lines) new
-            ∙ ap (λ (ls : List Line). keep IsReached (listFrom (lineOf s) 0 j) ++ ls) (sym (keep-yes IsReached (lineOf s j) e)) ∙ sym (keep-last j)
+            ∙ ap (λ (ls : List Line). keep (inReach s) (listFrom (lineOf s) 0 j) ++ ls) (sym (keep-one j e)) ∙ sym (keep-last j)
 
   -- The same, of a sheet that was read.
   pub taken-copied : {c : Card} (R : Reads s c) {j m from to : ℕ} {q r : List ℕ} → Taken s p j m q → reached (cardOf s) (lineOf s j .kind) ≡ true
@@ -151,4 +148,4 @@ module _ (s p : List ℕ) where
   -- All lines were passed.
   pub taken-all : {j m : ℕ} {q : List ℕ} → Taken s p j m q → j ≡ lineCount s → LinesTaken s p m q
   unfolding reachedLines cardOf
-  taken-all T e = record { long = T .long; few = omega (arith, T .few); lines = T .lines ∙ ap (λ k. keep IsReached (listFrom (lineOf s) 0 k)) e }
+  taken-all T e = record { long = T .long; few = omega (arith, T .few); lines = T .lines ∙ ap (λ k. keep (inReach s) (listFrom (lineOf s) 0 k)) e }

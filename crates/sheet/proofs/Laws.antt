@@ -11,10 +11,11 @@ use Rattle.model.specs.Field.{at}
 use Rattle.model.specs.Card.{Line, On}
 use Rattle.model.specs.Limits.{mostKinds, mostCodes, mostLines, mostFields}
 use Rattle.model.specs.Sheet.{linesOffset, byte, u16At, kindCount, codeCount, lineCount, fieldCount, fieldsOffset, totalOf, counts, lineOf, cardOf, fieldOf}
-use Rattle.model.specs.Refusal.{clear, firstOf, headerChecks, lineChecks, sheetChecks}
+use Rattle.model.specs.Refusal.{clear, firstOf, headerChecks}
 use Rattle.theory.proofs.Lists.{length-from, mem-from, from-mem}
-use Rattle.theory.proofs.Sheets.{then, first-append, then-clear, small}
-use Rattle.theory.proofs.Checks.{from-outside, from-less, from-differ, cons-none, all-none}
+use Rattle.theory.proofs.Limits.{clear-formed}
+use Rattle.theory.proofs.Sheets.{then, first-append, then-clear}
+use Rattle.theory.proofs.Checks.{from-outside, from-less, cons-none}
 use Rattle.sheet.specs.declared.reader.Card.{Card}
 use Rattle.sheet.specs.Reader.{Reads, lineCounts, fieldCounts, numberChecks, layoutChecks}
 use Rattle.sheet.proofs.Counts.{counts-below, counts-past, at-counts}
@@ -43,16 +44,6 @@ numbers-limits s e =
       lines = from-less mostLines (lineCount s) (c4 .0);
       fields = from-less mostFields (fieldCount s) (c5 .0);
     }
-
--- What check 6 leaves, of which the bytes given are told: they are as many as the layout says.
-pub layout-total : (s : List ℕ) → firstOf (layoutChecks s) ≡ clear → length s ≡ totalOf s
-unfolding headerChecks
-layout-total s e =
-    let d0 = cons-none 6 0 _ _ e in
-    let d1 = cons-none 6 1 _ _ (d0 .1) in
-    let d2 = cons-none 6 2 _ _ (d1 .1) in
-    let d3 = cons-none 6 3 _ _ (d2 .1) in
-    from-differ (length s) (totalOf s) (d3 .0)
 
 -- The header's checks are the first five and the rest.
 pub header-first : (s : List ℕ) → firstOf (headerChecks s) ≡ then (firstOf (numberChecks s)) (firstOf (layoutChecks s))
@@ -127,17 +118,12 @@ on-line s l o =
     (t .0, t .1, t .2 ∙ ap (lineOf s) z)
 
 module _ {s : List ℕ} {c : Card} (R : Reads s c) where
-  -- Neither the header's checks nor the lines' apply.
-  pub both-clear : (firstOf (headerChecks s) ≡ clear) × (firstOf (lineChecks s) ≡ clear)
-  unfolding sheetChecks
-  both-clear = then-clear (firstOf (headerChecks s)) (firstOf (lineChecks s)) (sym (first-append (headerChecks s) (lineChecks s)) ∙ R .passed)
-
   -- The header's numbers are within their limits, and the bytes are as many as the layout says.
   pub limits : Numbers s
-  limits = numbers-limits s (header-clear s (both-clear .0) .0)
+  limits = let W = clear-formed s (R .passed) in record { bytes = W .bytes; kinds = W .kinds; codes = W .codes; lines = W .lines; fields = W .fields }
 
   pub total-is : length s ≡ totalOf s
-  total-is = layout-total s (header-clear s (both-clear .0) .1)
+  total-is = clear-formed s (R .passed) .layout .3
 
   -- The struct's numbers are the header's.
   pub kinds-are : c .kinds ≡ kindCount s
@@ -192,14 +178,7 @@ module _ {s : List ℕ} {c : Card} (R : Reads s c) where
 
     -- What checks 7 and 8 leave.
     under : (lineOf s j .kind < kindCount s) × (lineOf s j .code < codeCount s)
-    unfolding lineChecks
-    under =
-        let z : 0 + j ≡ j = omega arith in
-        let f = all-none _ 0 (lineCount s) (both-clear .1) j in-lines in
-        let x = cons-none 7 _ _ _ f in
-        let y = cons-none 8 _ _ _ (x .1) in
-        let u : (lineOf s (0 + j) .kind < kindCount s) × (lineOf s (0 + j) .code < codeCount s) = (small _ _ (x .0), small _ _ (y .0)) in
-        rw z at u
+    under = clear-formed s (R .passed) .line j in-lines
 
     -- A line's kind and code are among the card's.
     pub kind-under : lineOf s j .kind < c .kinds

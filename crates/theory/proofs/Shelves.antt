@@ -23,6 +23,16 @@ use Rattle.theory.proofs.Entries.{entry-most, entry-width}
 use Rattle.theory.proofs.Sheets.{sheet-reaches}
 use Rattle.theory.proofs.Numbering.{number-field, number-has, field-number, field-over}
 
+-- Of a list with one member before, that member is kept if it passes, and else nothing changes.
+module _ {A : Type 0} (p : A → Bool) (x : A) (xs : List A) where
+  pub keep-yes : p x ≡ true → keep p (x ∷ xs) ≡ x ∷ keep p xs
+  unfolding keep
+  keep-yes e = rw (e, keep) refl
+
+  pub keep-no : p x ≡ false → keep p (x ∷ xs) ≡ keep p xs
+  unfolding keep
+  keep-no e = rw (e, keep) refl
+
 pub keep-append : {A : Type 0} (p : A → Bool) (xs ys : List A) → keep p (xs ++ ys) ≡ keep p xs ++ keep p ys
 unfolding keep
 keep-append p [] ys = refl

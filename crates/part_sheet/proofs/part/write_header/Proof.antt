@@ -45,7 +45,7 @@ returns c =
     let offset = c .before .before .before .before .before .before .before .write-number2 .ensures in
     let field-start = c .before .before .before .field-start .ensures in
     let total = c .before .before .write-number3 .ensures in
-    (refl, header-set (start .pre .0) (start .args .lines) (start .pre .1 .0) (line-start .0) (field-start .0) copied lines offset total)
+    (refl, header-set (start .pre .0) (start .args .lines) (line-start .0) (field-start .0) copied lines offset total)
 
 pub write-header-spec : {M : Type 1} → statement M
 write-header-spec =
