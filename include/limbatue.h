@@ -1,4 +1,4 @@
-/* limbatue.h: race cards, fields and their prime forms. The verified library, version 0.7.0, for C99, C++11 and whatever calls C.
+/* limbatue.h: race cards, fields and their prime forms. The verified library, version 0.8.0, for C99, C++11 and whatever calls C.
  *
  * Link liblimbatue.a. Where it is installed, `pkg-config --cflags --libs limbatue` prints the options; in the repository, tools/archive proves it and writes
  * target/lib/liblimbatue.a. It is for Linux on x86-64, for programs and shared libraries alike. docs/SHEET.md tells what the bytes of a sheet are.
@@ -15,8 +15,8 @@
  * below.
  *
  * REACHED KINDS. A kind is reached where some field of the sheet holds it, or a line of a reached kind leaves it; every other kind is out. Norms, rows, stages,
- * the rounds of Compare and shelf numbers go by the reached kinds alone. The row of a kind that is out is all 0, and its count in every prime form and shelf
- * field is 0. The walk goes by the lines as they stand.
+ * the rounds of Compare and shelf numbers go by the reached kinds alone, in the finer sense too. The row of a kind that is out is all 0, and its count in every
+ * prime form and shelf field is 0. The walk goes by the lines as they stand.
  *
  * REFUSALS. The checks run in this order, and the first that applies is returned; 7 and 8 line by line; 9 and 10 of reached kinds, 9 for all before 10 for any.
  * P is the place.
@@ -56,8 +56,8 @@ extern "C" {
 #endif
 
 /* The version: 10000 x major + 100 x minor + patch. */
-#define LIMBATUE_VERSION 700
-#define LIMBATUE_VERSION_TEXT "0.7.0"
+#define LIMBATUE_VERSION 800
+#define LIMBATUE_VERSION_TEXT "0.8.0"
 
 /* Of what a call returned. */
 #define LIMBATUE_NUMBER(returned) ((returned) & 255u)
@@ -85,7 +85,7 @@ enum {
     LIMBATUE_REFUSED_EMPTY_SQUAD = 17
 };
 
-/* answer[0] of Compare; answer[0] of Walk. */
+/* answer[0] of Compare and of finer Compare; answer[0] of Walk. */
 enum { LIMBATUE_SAME = 0, LIMBATUE_DIFFERENT = 1 };
 enum { LIMBATUE_TOGETHER = 0, LIMBATUE_APART = 1, LIMBATUE_SPENT = 2 };
 
@@ -112,10 +112,12 @@ enum { LIMBATUE_TOGETHER = 0, LIMBATUE_APART = 1, LIMBATUE_SPENT = 2 };
 #define LIMBATUE_PAGE_ANSWER 1
 #define LIMBATUE_SHELF_NUMBER_ANSWER 2
 #define LIMBATUE_SQUADS_ANSWER 1
+#define LIMBATUE_FINER_COMPARE_ANSWER 3
 
-/* Bytes of stack that must be left where a call is made. Taken are, as measured: settle 129,080, compare 124,968, prime form 129,384, walk 81,220 at most, page
- * 224,072, shelf number 6,824, shelf field 6,936, squads 133,672, the others under 256. Stated is each with 4,096 more, for memcpy, memset and the loader, which may be
- * asked for them at a first call, and rounded up to pages of 4,096. In the repository ./stack measures the archive again, and fails where under 4,096 are left. */
+/* Bytes of stack that must be left where a call is made. Taken are, as measured: settle 129,080, compare and finer compare 124,968, prime form and finer prime form
+ * 129,384, walk 81,220 at most, page 224,072, shelf number 6,824, shelf field 6,936, squads 133,672, the others under 256. Stated is each with 4,096 more, for memcpy,
+ * memset and the loader, which may be asked for them at a first call, and rounded up to pages of 4,096. In the repository ./stack measures the archive again, and fails
+ * where under 4,096 are left. */
 #define LIMBATUE_VERSION_STACK 8192
 #define LIMBATUE_NUMBERS_STACK 8192
 #define LIMBATUE_SETTLE_STACK 135168
@@ -127,6 +129,8 @@ enum { LIMBATUE_TOGETHER = 0, LIMBATUE_APART = 1, LIMBATUE_SPENT = 2 };
 #define LIMBATUE_SHELF_NUMBER_STACK 12288
 #define LIMBATUE_SHELF_FIELD_STACK 12288
 #define LIMBATUE_SQUADS_STACK 139264
+#define LIMBATUE_FINER_COMPARE_STACK 131072
+#define LIMBATUE_FINER_PRIME_FORM_STACK 135168
 #define LIMBATUE_STACK_MOST LIMBATUE_PAGE_STACK
 
 /* The version of the library that was linked; LIMBATUE_VERSION is that of this header. */
@@ -178,6 +182,18 @@ uint32_t limbatue_shelf_field(const uint8_t *sheet, size_t sheet_length, size_t 
  * q times the prime form of the squad and it are the prime form of the whole.
  * answer[0]: q, the largest number such that the whole is the same as q squads joined with some remainder. Refuses 1 to 12, and 17. */
 uint32_t limbatue_squads(const uint8_t *sheet, size_t sheet_length, size_t whole, size_t squad, uint64_t *remainder, size_t remainder_length, uint64_t *answer, size_t answer_length);
+
+/* Finer Compare. The total of a field is its tokens in all. Two fields are finer same where some relation holds between them, and of two fields that it relates the
+ * totals are equal, and each read of either has a read of the same code of the other that leaves fields which it relates again: so they are the same for Compare too.
+ * Stage 0 relates fields of equal norm and equal total; in the game a challenger also wins as soon as the totals differ, at the start included. Reads the sheet; the
+ * fields are named by number, from 0. Writes nothing but the answer.
+ * answer[0]: LIMBATUE_SAME or LIMBATUE_DIFFERENT; answer[1]: the stage; answer[2]: the rounds (0 and 0 where the fields are finer same). Refuses 1 to 12. */
+uint32_t limbatue_finer_compare(const uint8_t *sheet, size_t sheet_length, size_t first, size_t second, uint64_t *answer, size_t answer_length);
+
+/* Finer prime form. A kind is prime in the finer sense where one token of it is finer same as no field of earlier kinds; in the place of any other token stands the
+ * one token of an earlier prime kind that it is finer same as. Two fields are finer same just when their finer prime forms are equal, and a form has the total of its
+ * field. Reads the sheet. Writes n counts. It has no answer array. Refuses 1 to 12. */
+uint32_t limbatue_finer_prime_form(const uint8_t *sheet, size_t sheet_length, size_t field, uint64_t *counts, size_t counts_length);
 
 #ifdef __cplusplus
 }

@@ -35,6 +35,8 @@ static void shelf_number(void) { returned = limbatue_shelf_number(sheet, length,
 /* Of the fields of 16 tokens there is a number 16 where there are two kinds or more. */
 static void shelf_field(void) { returned = limbatue_shelf_field(sheet, length, LIMBATUE_TOKENS_MOST, 16, field, LIMBATUE_COUNTS_MOST); }
 static void squads(void) { returned = limbatue_squads(with_squad, length, last, 0, counts, LIMBATUE_COUNTS_MOST, answer, LIMBATUE_SQUADS_ANSWER); }
+static void finer_compare(void) { returned = limbatue_finer_compare(sheet, length, 0, last, answer, LIMBATUE_FINER_COMPARE_ANSWER); }
+static void finer_prime_form(void) { returned = limbatue_finer_prime_form(sheet, length, last, counts, LIMBATUE_COUNTS_MOST); }
 
 static struct {
     const char *name;
@@ -53,6 +55,8 @@ static struct {
     { "shelf_number", shelf_number, LIMBATUE_SHELF_NUMBER_STACK, 0, 0 },
     { "shelf_field", shelf_field, LIMBATUE_SHELF_FIELD_STACK, 0, 0 },
     { "squads", squads, LIMBATUE_SQUADS_STACK, 0, 0 },
+    { "finer_compare", finer_compare, LIMBATUE_FINER_COMPARE_STACK, 0, 0 },
+    { "finer_prime_form", finer_prime_form, LIMBATUE_FINER_PRIME_FORM_STACK, 0, 0 },
 };
 enum { CALLS = sizeof calls / sizeof calls[0] };
 
@@ -122,7 +126,7 @@ int main(int argc, char **argv)
     }
     for (i = 0; i < CALLS; i++) {
         int passed = calls[i].done && calls[i].most + MARGIN <= calls[i].stated && calls[i].stated <= LIMBATUE_STACK_MOST;
-        printf("%-12s %6lu bytes, stated %6lu%s\n", calls[i].name, (unsigned long)calls[i].most, (unsigned long)calls[i].stated,
+        printf("%-16s %6lu bytes, stated %6lu%s\n", calls[i].name, (unsigned long)calls[i].most, (unsigned long)calls[i].stated,
                passed ? "" : calls[i].done ? ": too few" : ": done on no sheet");
         failed |= !passed;
     }

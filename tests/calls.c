@@ -49,6 +49,8 @@ static uint32_t compare(size_t first, size_t second) { return limbatue_compare(s
 static uint32_t walk(size_t first, size_t second, size_t desk) { return limbatue_walk(sheet, length, first, second, 8, desk, session, LIMBATUE_DESKS, answer, LIMBATUE_WALK_ANSWER); }
 static uint32_t shelf_number(size_t field) { return limbatue_shelf_number(sheet, length, field, answer, LIMBATUE_SHELF_NUMBER_ANSWER); }
 static uint32_t shelf_field(size_t size, uint64_t number) { return limbatue_shelf_field(sheet, length, size, number, shelved, LIMBATUE_COUNTS_MOST); }
+static uint32_t finer(size_t first, size_t second) { return limbatue_finer_compare(sheet, length, first, second, answer, LIMBATUE_FINER_COMPARE_ANSWER); }
+static uint32_t finer_form(size_t field) { return limbatue_finer_prime_form(sheet, length, field, counts, LIMBATUE_COUNTS_MOST); }
 static uint32_t squads(size_t whole, size_t squad) { return limbatue_squads(sheet, length, whole, squad, counts, LIMBATUE_COUNTS_MOST, answer, LIMBATUE_SQUADS_ANSWER); }
 
 /* The numbers of a sheet, or the refusal of a small one of which one part was changed. */
@@ -379,6 +381,97 @@ static void test_refused_squads(void)
     EXPECT(answered(answer[3], answer[3], answer[3]) && answer[3] % 256 == 7);
 }
 
+/* One code, so that fields of equal norm are the same. Kinds 0 and 1 leave nothing; 2 leaves one of 0, 3 leaves one of 1, 4 leaves one of 2. In the finer sense 1 is one of 0, 3 is one of 2, and the others are
+ * prime. Field 0 is one of 2, field 1 two of 0, field 2 one of 3, field 3 one of 4 and one of 0, field 4 one of 2 and one of 3; field 5 is empty. */
+static void make_finer(void)
+{
+    make_sheet(5, 1, 5, 6);
+    sheet[20 + 2 * 7 + 2 + 0] = sheet[20 + 3 * 7 + 2 + 1] = sheet[20 + 4 * 7 + 2 + 2] = 1;
+    put_count(0, 2, 1);
+    put_count(1, 0, 2);
+    put_count(2, 3, 1);
+    put_count(3, 0, 1);
+    put_count(3, 4, 1);
+    put_count(4, 2, 1);
+    put_count(4, 3, 1);
+}
+
+/* Whether the first five counts have these of kinds 0, 2 and 4 and none of 1 and 3, and the one past them is as it was filled. */
+static int has_form(uint64_t of_0, uint64_t of_2, uint64_t of_4)
+{
+    return counts[0] == of_0 && counts[1] == 0 && counts[2] == of_2 && counts[3] == 0 && counts[4] == of_4 && counts[5] == UINT64_MAX;
+}
+
+static void test_finer(void)
+{
+    size_t kind;
+    make_finer();
+    memset(counts, 255, sizeof counts);
+    memset(answer, 7, sizeof answer);
+    EXPECT(compare(0, 1) == LIMBATUE_DONE && answered(LIMBATUE_SAME, 0, 0));
+    EXPECT(finer(0, 1) == LIMBATUE_DONE && answered(LIMBATUE_DIFFERENT, 0, 3)); /* one token and two */
+    EXPECT(finer(0, 2) == LIMBATUE_DONE && answered(LIMBATUE_SAME, 0, 0));
+    EXPECT(compare(3, 4) == LIMBATUE_DONE && answered(LIMBATUE_SAME, 0, 0));
+    EXPECT(finer(3, 4) == LIMBATUE_DONE && answered(LIMBATUE_DIFFERENT, 1, 5)); /* two tokens each, and field 3 alone comes to one of norm 3 */
+    EXPECT(finer(3, 3) == LIMBATUE_DONE && answered(LIMBATUE_SAME, 0, 0));
+    EXPECT(finer(5, 0) == LIMBATUE_DONE && answered(LIMBATUE_DIFFERENT, 0, 1));
+    EXPECT(finer(5, 5) == LIMBATUE_DONE && answered(LIMBATUE_SAME, 0, 0));
+    EXPECT(answer[3] % 256 == 7 && counts[0] == UINT64_MAX);
+    EXPECT(finer_form(0) == LIMBATUE_DONE && has_form(0, 1, 0));
+    EXPECT(finer_form(1) == LIMBATUE_DONE && has_form(2, 0, 0));
+    EXPECT(finer_form(2) == LIMBATUE_DONE && has_form(0, 1, 0));
+    EXPECT(finer_form(3) == LIMBATUE_DONE && has_form(1, 0, 1));
+    EXPECT(finer_form(4) == LIMBATUE_DONE && has_form(0, 2, 0));
+    EXPECT(finer_form(5) == LIMBATUE_DONE && has_form(0, 0, 0));
+    EXPECT(counts[LIMBATUE_COUNTS_MOST - 1] == UINT64_MAX);
+    /* with room for the five counts alone, and with one element more of the answer array */
+    EXPECT(limbatue_finer_prime_form(sheet, length, 4, counts, 5) == LIMBATUE_DONE && has_form(0, 2, 0));
+    EXPECT(limbatue_finer_compare(sheet, length, 3, 4, answer, LIMBATUE_FINER_COMPARE_ANSWER + 1) == LIMBATUE_DONE && answered(LIMBATUE_DIFFERENT, 1, 5) && answer[3] % 256 == 7);
+    make_fields(); /* every kind is one of kind 0 */
+    EXPECT(finer(0, 1) == LIMBATUE_DONE && answered(LIMBATUE_SAME, 0, 0));
+    EXPECT(finer(0, 2) == LIMBATUE_DONE && answered(LIMBATUE_DIFFERENT, 0, 2));
+    for (kind = 0; kind < 32; kind++)
+        put_count(3, kind, 65535);
+    EXPECT(finer_form(3) == LIMBATUE_DONE && counts[0] == 32 * 65535 && counts[1] == 0 && counts[31] == 0);
+    put_count(1, 1, 65535); /* with one of kind 2, 65,536 tokens; field 2 has none */
+    put_count(1, 2, 1);
+    put_count(2, 0, 0);
+    EXPECT(finer(1, 2) == LIMBATUE_DONE && answered(LIMBATUE_DIFFERENT, 0, 1));
+}
+
+/* Each refusal before the next, with all that the later ones refuse given too; nothing changes. */
+static void test_refused_finer(void)
+{
+    size_t i;
+    make_finer();
+    memset(counts, 255, sizeof counts);
+    memset(answer, 7, sizeof answer);
+    EXPECT(REFUSED(limbatue_finer_compare(sheet, 0, 6, 6, answer, 0), LIMBATUE_REFUSED_NO_HEADER, 0));
+    EXPECT(REFUSED(limbatue_finer_compare(sheet, length - 1, 6, 6, answer, 0), LIMBATUE_REFUSED_LAYOUT, 3));
+    EXPECT(REFUSED(limbatue_finer_compare(sheet, length, 6, 6, answer, 0), LIMBATUE_REFUSED_NUMBER, 0));
+    EXPECT(REFUSED(limbatue_finer_compare(sheet, length, SIZE_MAX, 0, answer, 0), LIMBATUE_REFUSED_NUMBER, 0));
+    EXPECT(REFUSED(limbatue_finer_compare(sheet, length, 0, 6, answer, 0), LIMBATUE_REFUSED_NUMBER, 1));
+    EXPECT(REFUSED(limbatue_finer_compare(sheet, length, 0, (size_t)UINT64_C(4294967296), answer, 0), LIMBATUE_REFUSED_NUMBER, 1));
+    EXPECT(REFUSED(limbatue_finer_compare(sheet, length, 0, 1, answer, LIMBATUE_FINER_COMPARE_ANSWER - 1), LIMBATUE_REFUSED_TOO_SHORT, 0));
+    EXPECT(REFUSED(limbatue_finer_compare(sheet, length, 0, 2, answer, 0), LIMBATUE_REFUSED_TOO_SHORT, 0));
+    EXPECT(REFUSED(limbatue_finer_prime_form(sheet, 0, 6, counts, 4), LIMBATUE_REFUSED_NO_HEADER, 0));
+    EXPECT(REFUSED(limbatue_finer_prime_form(sheet, length - 1, 6, counts, 4), LIMBATUE_REFUSED_LAYOUT, 3));
+    EXPECT(REFUSED(limbatue_finer_prime_form(sheet, length, 6, counts, 4), LIMBATUE_REFUSED_NUMBER, 0));
+    EXPECT(REFUSED(limbatue_finer_prime_form(sheet, length, SIZE_MAX, counts, 0), LIMBATUE_REFUSED_NUMBER, 0));
+    EXPECT(REFUSED(limbatue_finer_prime_form(sheet, length, 4, counts, 4), LIMBATUE_REFUSED_TOO_SHORT, 0));
+    EXPECT(REFUSED(limbatue_finer_prime_form(sheet, length, 5, counts, 0), LIMBATUE_REFUSED_TOO_SHORT, 0));
+    /* with room for everything */
+    EXPECT(REFUSED(finer(6, 0), LIMBATUE_REFUSED_NUMBER, 0) && REFUSED(finer(0, 6), LIMBATUE_REFUSED_NUMBER, 1) && REFUSED(finer_form(6), LIMBATUE_REFUSED_NUMBER, 0));
+    make_no_norm();
+    EXPECT(REFUSED(finer(0, 0), LIMBATUE_REFUSED_NO_NORM, 2) && REFUSED(finer(2, 2), LIMBATUE_REFUSED_NO_NORM, 2));
+    EXPECT(REFUSED(finer_form(0), LIMBATUE_REFUSED_NO_NORM, 2) && REFUSED(finer_form(2), LIMBATUE_REFUSED_NO_NORM, 2));
+    make_sheet(3, 2, 3, 0); /* no field */
+    EXPECT(REFUSED(finer(0, 0), LIMBATUE_REFUSED_NUMBER, 0) && REFUSED(finer_form(0), LIMBATUE_REFUSED_NUMBER, 0));
+    for (i = 0; i < LIMBATUE_COUNTS_MOST; i++)
+        EXPECT(counts[i] == UINT64_MAX);
+    EXPECT(answered(answer[3], answer[3], answer[3]) && answer[3] % 256 == 7);
+}
+
 /* Kind 1 is held, and kinds 0 and 2, the latter without a line, are out; then all three are. */
 static void test_out(void)
 {
@@ -396,6 +489,8 @@ static void test_out(void)
     EXPECT(REFUSED(shelf_field(3, 1), LIMBATUE_REFUSED_SHELF_NUMBER, 0));
     EXPECT(REFUSED(limbatue_shelf_field(sheet, length, 3, 0, shelved, 2), LIMBATUE_REFUSED_TOO_SHORT, 0));
     EXPECT(squads(1, 1) == LIMBATUE_DONE && answer[0] == 1 && counts[0] == 0 && counts[1] == 0 && counts[2] == 0);
+    EXPECT(finer_form(1) == LIMBATUE_DONE && counts[0] == 0 && counts[1] == 2 && counts[2] == 0);
+    EXPECT(finer(1, 0) == LIMBATUE_DONE && answered(LIMBATUE_DIFFERENT, 0, 1));
     EXPECT(limbatue_page(sheet, length, page, LIMBATUE_PAGE_MOST, answer, LIMBATUE_PAGE_ANSWER) == LIMBATUE_DONE && answer[0] == strlen(kinds) && memcmp(page, kinds, strlen(kinds)) == 0);
     put_count(1, 1, 0);
     memset(table, 255, sizeof table);
@@ -403,6 +498,8 @@ static void test_out(void)
     for (i = 0; i < 9; i++)
         EXPECT(table[i] == 0);
     EXPECT(compare(0, 1) == LIMBATUE_DONE && answer[0] == LIMBATUE_SAME);
+    EXPECT(finer(0, 1) == LIMBATUE_DONE && answer[0] == LIMBATUE_SAME);
+    EXPECT(finer_form(1) == LIMBATUE_DONE && counts[0] == 0 && counts[1] == 0 && counts[2] == 0);
     EXPECT(shelf_field(0, 0) == LIMBATUE_DONE && shelved[0] == 0 && shelved[1] == 0 && shelved[2] == 0);
     EXPECT(REFUSED(shelf_field(1, 0), LIMBATUE_REFUSED_SHELF_NUMBER, 0));
     EXPECT(limbatue_page(sheet, length, page, LIMBATUE_PAGE_MOST, answer, LIMBATUE_PAGE_ANSWER) == LIMBATUE_DONE && answer[0] == strlen(none) && memcmp(page, none, strlen(none)) == 0);
@@ -422,6 +519,8 @@ int main(void)
     test_shelf_field();
     test_squads();
     test_refused_squads();
+    test_finer();
+    test_refused_finer();
     test_out();
     return failures != 0;
 }

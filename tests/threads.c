@@ -10,8 +10,8 @@ enum { SHEETS = 16, TIMES = 50 };
 
 /* Everything that the calls answer and write, on one sheet. The field asked for has 16 tokens and the number 16, which there is with two kinds or more. */
 struct outcome {
-    uint32_t returned[9], table[LIMBATUE_TABLE_MOST], session[LIMBATUE_DESKS];
-    uint64_t numbers[LIMBATUE_NUMBERS_ANSWER], stage[LIMBATUE_SETTLE_ANSWER], verdict[LIMBATUE_COMPARE_ANSWER], counts[LIMBATUE_COUNTS_MOST], walked[LIMBATUE_WALK_ANSWER], length[LIMBATUE_PAGE_ANSWER], shelved[LIMBATUE_SHELF_NUMBER_ANSWER], squads[LIMBATUE_SQUADS_ANSWER], remainder[LIMBATUE_COUNTS_MOST];
+    uint32_t returned[11], table[LIMBATUE_TABLE_MOST], session[LIMBATUE_DESKS];
+    uint64_t numbers[LIMBATUE_NUMBERS_ANSWER], stage[LIMBATUE_SETTLE_ANSWER], verdict[LIMBATUE_COMPARE_ANSWER], counts[LIMBATUE_COUNTS_MOST], walked[LIMBATUE_WALK_ANSWER], length[LIMBATUE_PAGE_ANSWER], shelved[LIMBATUE_SHELF_NUMBER_ANSWER], squads[LIMBATUE_SQUADS_ANSWER], remainder[LIMBATUE_COUNTS_MOST], finer_verdict[LIMBATUE_FINER_COMPARE_ANSWER], finer_counts[LIMBATUE_COUNTS_MOST];
     uint16_t field[LIMBATUE_COUNTS_MOST];
     uint8_t page[LIMBATUE_PAGE_MOST];
 };
@@ -36,6 +36,8 @@ static void call_all(const uint8_t *sheet, size_t length, struct outcome *o)
     o->returned[6] = limbatue_shelf_number(sheet, length, 1, o->shelved, LIMBATUE_SHELF_NUMBER_ANSWER);
     o->returned[7] = limbatue_shelf_field(sheet, length, LIMBATUE_TOKENS_MOST, 16, o->field, LIMBATUE_COUNTS_MOST);
     o->returned[8] = limbatue_squads(sheet, length, 1, 0, o->remainder, LIMBATUE_COUNTS_MOST, o->squads, LIMBATUE_SQUADS_ANSWER);
+    o->returned[9] = limbatue_finer_compare(sheet, length, 0, 1, o->finer_verdict, LIMBATUE_FINER_COMPARE_ANSWER);
+    o->returned[10] = limbatue_finer_prime_form(sheet, length, 1, o->finer_counts, LIMBATUE_COUNTS_MOST);
 }
 
 /* Answers NULL where every outcome was that of the calls alone. The two threads go through the sheets in opposite directions. */

@@ -1,4 +1,4 @@
-//! The library's times beside those of the independent implementation, in one run: settling the costly families, walks, how time grows with kinds and lines, and what kinds that are out cost.
+//! The library's times beside those of the independent implementation, in one run: settling the costly families, prime forms in the plain and the finer sense, walks, how time grows with kinds and lines, and what kinds that are out cost.
 //!
 //! Each time is the least of the runs of a fifth of a second, over the same sheet and the same buffers, which are not cleared between the runs.
 
@@ -8,6 +8,7 @@ use std::time::{Duration, Instant};
 use independent::generator::{COSTLY, Family, measured, side_by_side};
 use independent::parts::bytes_of;
 use independent::reached::reached_kinds;
+use independent::sense::Sense;
 use independent::sheet::read;
 
 const SEED: u64 = 20_261_115;
@@ -47,6 +48,25 @@ fn settle_times(sheet: &[u8]) -> (u32, Duration, Duration) {
         black_box(independent::filer::settle(black_box(sheet), &mut other)).ok();
     });
     (stage, library, independent)
+}
+
+/// The prime form of the first field in a sense, which settles the sheet: the library's time and the independent one's.
+fn form_times(sense: Sense, sheet: &[u8]) -> (Duration, Duration) {
+    let write = |sheet: &[u8], counts: &mut [u64]| match sense {
+        Sense::Plain => limbatue::prime_form_into(sheet, 0, counts),
+        Sense::Finer => limbatue::finer_prime_form_into(sheet, 0, counts),
+    };
+    let (mut counts, mut other) = ([0; 32], [0; 32]);
+    write(sheet, &mut counts).expect("an accepted sheet");
+    assert_eq!(independent::filer::prime_form(sense, sheet, 0, &mut other), Ok(()));
+    assert!(counts == other, "the forms differ");
+    let library = least_time(|| {
+        black_box(write(black_box(sheet), &mut counts)).ok();
+    });
+    let independent = least_time(|| {
+        black_box(independent::filer::prime_form(sense, black_box(sheet), 0, &mut other)).ok();
+    });
+    (library, independent)
 }
 
 /// Of some sheets of a family, the one that takes the independent implementation longest in a single run.
@@ -107,16 +127,31 @@ fn main() {
     println!(
         "settle, 32 kinds, the costliest of 50\n                        lines  stages   library ms  independent ms  ratio"
     );
-    for family in COSTLY {
-        let sheet = costliest(family);
-        let (stage, library, independent) = settle_times(&sheet);
-        let lines = limbatue::numbers(&sheet).expect("an accepted sheet").lines;
+    let costly = COSTLY.map(|family| (family, costliest(family)));
+    for (family, sheet) in &costly {
+        let (stage, library, independent) = settle_times(sheet);
+        let lines = limbatue::numbers(sheet).expect("an accepted sheet").lines;
         println!(
             "{:22} {lines:6} {stage:7} {:12.3} {:15.3} {:6.2}",
             format!("{family:?}"),
             milliseconds(library),
             milliseconds(independent),
             library.as_secs_f64() / independent.as_secs_f64()
+        );
+    }
+    println!(
+        "\nprime form in the plain and the finer sense, the same sheets\n                           plain ms     finer ms  ratio  independent ratio"
+    );
+    for (family, sheet) in &costly {
+        let [(plain, independent_plain), (finer, independent_finer)] =
+            Sense::BOTH.map(|sense| form_times(sense, sheet));
+        println!(
+            "{:22} {:12.3} {:12.3} {:6.2} {:18.2}",
+            format!("{family:?}"),
+            milliseconds(plain),
+            milliseconds(finer),
+            finer.as_secs_f64() / plain.as_secs_f64(),
+            independent_finer.as_secs_f64() / independent_plain.as_secs_f64()
         );
     }
     println!("\nsettle by kinds, 4 to 32, 8 lines each: library ms (ratio)");

@@ -81,4 +81,19 @@ unsafe extern "C" {
         answer: *mut u64,
         answer_length: usize,
     ) -> u32;
+    pub fn limbatue_finer_compare(
+        sheet: *const u8,
+        sheet_length: usize,
+        first: usize,
+        second: usize,
+        answer: *mut u64,
+        answer_length: usize,
+    ) -> u32;
+    pub fn limbatue_finer_prime_form(
+        sheet: *const u8,
+        sheet_length: usize,
+        field: usize,
+        counts: *mut u64,
+        counts_length: usize,
+    ) -> u32;
 }

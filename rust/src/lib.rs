@@ -14,10 +14,12 @@
 //! | the size of a small field, and its number among the fields of that size | [`shelf_number`] | |
 //! | the field of a size and a number | [`shelf_field`] | [`shelf_field_into`] |
 //! | how often a field goes into another, and what remains | [`squads`], [`Squads`] | [`squads_into`] |
+//! | whether two fields are the same where the number of tokens counts too | [`finer_compare`] | |
+//! | a field's prime form where the number of tokens counts too | [`finer_prime_form`] | [`finer_prime_form_into`] |
 //!
 //! Every function may be given any bytes and any numbers. What it can not do it refuses: a [`Refusal`] says why and where, and whatever was lent is as it was.
 //! The functions keep no state, so any number of threads may call them. A call takes under 256 KB of stack (`include/limbatue.h` has each call's figure).
-//! [`row`], [`compare`], [`walk`], [`numbers`], [`shelf_number`] and the forms that end in `_into` allocate nothing.
+//! [`row`], [`compare`], [`finer_compare`], [`walk`], [`numbers`], [`shelf_number`] and the forms that end in `_into` allocate nothing.
 //!
 //! The functions are proved in crate `exports` of the repository. The `unsafe` here, one call in each function, is sound because a Rust slice is what `include/limbatue.h` asks for:
 //! not null, aligned, of its length, and a `&mut` overlaps nothing.
@@ -47,12 +49,14 @@
 mod readme {}
 
 mod ffi;
+mod finer;
 mod refusal;
 mod settled;
 mod shelf;
 mod squads;
 mod walk;
 
+pub use finer::{finer_compare, finer_prime_form, finer_prime_form_into};
 pub use refusal::{Reason, Refusal};
 pub use settled::Settled;
 pub use shelf::{ShelfNumber, shelf_field, shelf_field_into, shelf_number};
@@ -82,7 +86,7 @@ pub const SHEET_MOST: usize = 12_820;
 /// ```
 pub const TABLE_MOST: usize = 1024;
 
-/// The counts of a prime form, of a field found by its number, or of what remains beside squads, for any sheet.
+/// The counts of a prime form, plain or finer, of a field found by its number, or of what remains beside squads, for any sheet.
 ///
 /// ```
 /// let mut counts = [0; limbatue::COUNTS_MOST];
@@ -148,7 +152,7 @@ pub struct Numbers {
     pub fields: usize,
 }
 
-/// Compare's verdict on two fields.
+/// The verdict on two fields, of [`compare`] and of [`finer_compare`].
 ///
 /// ```
 /// use limbatue::Verdict;
@@ -162,20 +166,40 @@ pub struct Numbers {
 /// ```
 #[derive(Clone, Copy, Debug, PartialEq, Eq, Hash)]
 pub enum Verdict {
-    /// The fields are the same: whatever is done with one can be done with the other, without end.
+    /// The fields are the same: whatever is done with one can be done with the other, without end. Of [`finer_compare`]: and the two have as many tokens as each other, then and after whatever is done.
     Same,
     /// The fields are not the same.
     Different {
-        /// The least stage that does not relate them; 0 where their norms differ.
+        /// The least stage that does not relate them; 0 where their norms differ, and of [`finer_compare`] where their numbers of tokens do.
         stage: u32,
         /// A number of rounds within which the game parts them, whatever the replies.
         rounds: u64,
     },
 }
 
+impl Verdict {
+    /// The verdict that an answer array of Compare holds, in either sense.
+    fn from_answer(answer: [u64; 3]) -> Verdict {
+        match answer {
+            [0, ..] => Verdict::Same,
+            [_, stage, rounds] => Verdict::Different { stage: stage as u32, rounds },
+        }
+    }
+}
+
 /// The result of a call by the number that it returned.
 fn done(returned: u32) -> Result<(), Refusal> {
     if returned == 0 { Ok(()) } else { Err(Refusal::from_returned(returned)) }
+}
+
+/// A count for each kind of a sheet, as a function writes them into a buffer of so many.
+fn counts_of<T: Clone + Default>(
+    sheet: &[u8],
+    write: impl FnOnce(&mut [T]) -> Result<(), Refusal>,
+) -> Result<Vec<T>, Refusal> {
+    let mut counts = vec![T::default(); numbers(sheet)?.kinds];
+    write(&mut counts)?;
+    Ok(counts)
 }
 
 /// The version of the library that is linked: 10000 × major + 100 × minor + patch.
@@ -290,10 +314,7 @@ pub fn compare(sheet: &[u8], first: usize, second: usize) -> Result<Verdict, Ref
     done(unsafe {
         ffi::limbatue_compare(sheet.as_ptr(), sheet.len(), first, second, answer.as_mut_ptr(), answer.len())
     })?;
-    Ok(match answer[0] {
-        0 => Verdict::Same,
-        _ => Verdict::Different { stage: answer[1] as u32, rounds: answer[2] },
-    })
+    Ok(Verdict::from_answer(answer))
 }
 
 /// The prime form of a field: a count for each kind, of which only prime kinds have one over 0. Two fields of a sheet are the same just when their prime forms are equal. Refused are 1 to 11.
@@ -305,9 +326,7 @@ pub fn compare(sheet: &[u8], first: usize, second: usize) -> Result<Verdict, Ref
 /// # Ok::<(), Box<dyn std::error::Error>>(())
 /// ```
 pub fn prime_form(sheet: &[u8], field: usize) -> Result<Vec<u64>, Refusal> {
-    let mut counts = vec![0; numbers(sheet)?.kinds];
-    prime_form_into(sheet, field, &mut counts)?;
-    Ok(counts)
+    counts_of(sheet, |counts| prime_form_into(sheet, field, counts))
 }
 
 /// Writes the prime form of a field to a lent buffer, a count for each kind. Entries past those keep their values. Refused are 1 to 11, and 12 where the buffer is too short; [`COUNTS_MOST`] entries always suffice.

@@ -1,6 +1,6 @@
 //! Shelf numbers: a small field's number among the fields of its size, and the field of a number.
 
-use crate::{Refusal, done, ffi, numbers};
+use crate::{Refusal, counts_of, done, ffi};
 
 /// A field's size, its tokens in all, and its number among the fields of that size. [`shelf_number`] gives it.
 ///
@@ -58,9 +58,7 @@ pub fn shelf_number(sheet: &[u8], field: usize) -> Result<ShelfNumber, Refusal> 
 /// # Ok::<(), Box<dyn std::error::Error>>(())
 /// ```
 pub fn shelf_field(sheet: &[u8], size: usize, number: u64) -> Result<Vec<u16>, Refusal> {
-    let mut counts = vec![0; numbers(sheet)?.kinds];
-    shelf_field_into(sheet, size, number, &mut counts)?;
-    Ok(counts)
+    counts_of(sheet, |counts| shelf_field_into(sheet, size, number, counts))
 }
 
 /// Writes the field of a size and a number to a lent buffer, a count for each kind. Entries past those keep their values. Refused are 1 to 10, 14, 15, and 12 where the buffer is too short;

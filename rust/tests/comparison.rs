@@ -1,6 +1,6 @@
 //! The library against the independent implementation: every answer, every buffer, what stands before and past it, and every session after each of its walks; and what is promised of the desks
-//! of a session, over whole days, of squads, by Compare and Prime form, and of sheets that use a part of their card, by the sheets of that part, on both. The comparison, the days, the squads and the parts are
-//! tried themselves too: they find each kind of difference, and each broken promise.
+//! of a session, over whole days, of squads, by Compare and Prime form, of sheets that use a part of their card, by the sheets of that part, and of the finer sense, by the plain one and the totals, on both. The
+//! comparison, the days, the squads, the parts and the finer sense are tried themselves too: they find each kind of difference, and each broken promise.
 
 use std::collections::BTreeSet;
 use std::fmt::Debug;
@@ -11,15 +11,17 @@ use independent::calls::{
     independent_walk, row_place,
 };
 use independent::days::{Promise, play_days};
-use independent::filer::Verdict;
+use independent::filer::{Verdict, compare, prime_form};
+use independent::finer::{Promise as Finer, try_finer};
 use independent::generator::sample;
 use independent::joining::{Promise as Joining, try_squads};
 use independent::norm::accept;
 use independent::page::page;
 use independent::parts::{Promise as Part, try_parts};
 use independent::reached::reached_kinds;
-use independent::sheet::{MOST_FIELDS, Numbers, Refusal, read};
-use independent::shelf::{ShelfNumber, number_of};
+use independent::sense::Sense;
+use independent::sheet::{Numbers, Refusal, read};
+use independent::shelf::{ShelfNumber, number_of, tokens_of};
 use independent::squads::squads;
 use independent::walker::{Answer as Found, DESKS, Walked, walk_lent};
 
@@ -64,10 +66,18 @@ fn call_library(call: &Call, lent: &mut Lent, entries: usize) -> (u32, Margined<
                 let table = lent.table.lent();
                 ffi::limbatue_row_check(table.as_ptr(), table.len(), kinds, kind, values, room)
             }
-            Call::Compare { first, second } => ffi::limbatue_compare(sheet, bytes, first, second, values, room),
-            Call::PrimeForm { field, .. } => {
+            Call::Compare { sense, first, second } => match sense {
+                Sense::Plain => ffi::limbatue_compare(sheet, bytes, first, second, values, room),
+                Sense::Finer => ffi::limbatue_finer_compare(sheet, bytes, first, second, values, room),
+            },
+            Call::PrimeForm { sense, field, .. } => {
                 let counts = lent.counts.lent_mut();
-                ffi::limbatue_prime_form(sheet, bytes, field, counts.as_mut_ptr(), counts.len())
+                match sense {
+                    Sense::Plain => ffi::limbatue_prime_form(sheet, bytes, field, counts.as_mut_ptr(), counts.len()),
+                    Sense::Finer => {
+                        ffi::limbatue_finer_prime_form(sheet, bytes, field, counts.as_mut_ptr(), counts.len())
+                    }
+                }
             }
             Call::Day(_) => panic!("a day is several calls"),
             Call::Page { .. } => {
@@ -251,14 +261,25 @@ fn wrappers(call: &Call, lent: &mut Lent) -> Answer {
         Call::Row { kinds, kind, .. } => {
             row_place(lent.table.lent(), limbatue::row(lent.table.lent(), kinds, kind).unwrap_or_default())
         }
-        Call::Compare { first, second } => limbatue::compare(sheet, first, second).map_or_else(refused, |verdict| {
-            Answer::Verdict(match verdict {
-                limbatue::Verdict::Same => Verdict::Same,
-                limbatue::Verdict::Different { stage, rounds } => Verdict::Different { stage: stage as _, rounds },
+        Call::Compare { sense, first, second } => {
+            let verdict = match sense {
+                Sense::Plain => limbatue::compare(sheet, first, second),
+                Sense::Finer => limbatue::finer_compare(sheet, first, second),
+            };
+            verdict.map_or_else(refused, |verdict| {
+                Answer::Verdict(match verdict {
+                    limbatue::Verdict::Same => Verdict::Same,
+                    limbatue::Verdict::Different { stage, rounds } => Verdict::Different { stage: stage as _, rounds },
+                })
             })
-        }),
-        Call::PrimeForm { field, .. } => limbatue::prime_form_into(sheet, field, lent.counts.lent_mut())
-            .map_or_else(refused, |()| Answer::FormWritten),
+        }
+        Call::PrimeForm { sense, field, .. } => {
+            let form = match sense {
+                Sense::Plain => limbatue::prime_form_into(sheet, field, lent.counts.lent_mut()),
+                Sense::Finer => limbatue::finer_prime_form_into(sheet, field, lent.counts.lent_mut()),
+            };
+            form.map_or_else(refused, |()| Answer::FormWritten)
+        }
         Call::Day(ref day) => {
             let mut session = limbatue::Session::open(day.allowances);
             day.make(lent, |walk, lent| wrapped_walk(walk, lent, &mut session))
@@ -296,8 +317,13 @@ fn owned_forms(call: &Call, lent: &mut Lent) -> Answer {
         Call::Settle { .. } => limbatue::settle(sheet).map_or_else(refused, |settled| {
             written(settled.table(), lent.table.lent_mut(), Answer::Settled { stage: settled.stage() })
         }),
-        Call::PrimeForm { field, .. } => limbatue::prime_form(sheet, field)
-            .map_or_else(refused, |counts| written(&counts, lent.counts.lent_mut(), Answer::FormWritten)),
+        Call::PrimeForm { sense, field, .. } => {
+            let form = match sense {
+                Sense::Plain => limbatue::prime_form(sheet, field),
+                Sense::Finer => limbatue::finer_prime_form(sheet, field),
+            };
+            form.map_or_else(refused, |counts| written(&counts, lent.counts.lent_mut(), Answer::FormWritten))
+        }
         Call::Page { .. } => {
             let page = limbatue::page(sheet);
             written(page.as_bytes(), lent.page.lent_mut(), Answer::PageWritten { bytes: page.len() })
@@ -631,7 +657,7 @@ fn with_divider(call: &Call, lent: &mut Lent, divider: Divider) -> Answer {
 fn counts_and_form(sheet: &[u8], field: usize) -> [Vec<u64>; 2] {
     let normed = accept(sheet).expect("an accepted sheet");
     let counts = normed.card.field(field);
-    let form = Refinement::first(&normed).settle().base().form(counts.iter().copied());
+    let form = Refinement::first(&normed, Sense::Plain).settle().base().form(counts.iter().copied());
     let form = form[..counts.len()].iter().map(|&count| count as u64).collect();
     [counts, form]
 }
@@ -822,12 +848,12 @@ fn no_kind_is_out(call: &Call, lent: &mut Lent) -> Answer {
     let bytes = lent.sheets[0].lent().to_vec();
     let field_more = match (call, read(&bytes)) {
         (Call::Page { .. } | Call::Day(_) | Call::Numbers, _) | (_, Err(_)) => None,
-        (_, Ok(card)) => (card.fields < MOST_FIELDS).then_some((card.kinds, card.fields)),
+        (_, Ok(card)) => card.with_field(&bytes, &vec![1; card.kinds]).map(|more| (more, card.fields)),
     };
-    let Some((kinds, fields)) = field_more else { return independent(call, lent) };
+    let Some((more, fields)) = field_more else { return independent(call, lent) };
     let is_over = |field: usize| field >= fields;
     let too_large = match *call {
-        Call::Compare { first, second } | Call::Squads { whole: first, squad: second, .. } => {
+        Call::Compare { first, second, .. } | Call::Squads { whole: first, squad: second, .. } => {
             is_over(first) || is_over(second)
         }
         Call::PrimeForm { field, .. } | Call::ShelfNumber { field } => is_over(field),
@@ -836,11 +862,6 @@ fn no_kind_is_out(call: &Call, lent: &mut Lent) -> Answer {
     if too_large {
         return independent(call, lent);
     }
-    let mut more = bytes.clone();
-    more.extend([1, 0].repeat(kinds));
-    let total = more.len() as u32;
-    more[6] += 1;
-    more[16..20].copy_from_slice(&total.to_le_bytes());
     let mut other = Lent::new(call, &[more]);
     let answer = independent(call, &mut other);
     other.sheets = lent.sheets.clone();
@@ -924,6 +945,186 @@ fn a_broken_promise_of_parts_is_found() {
         ("stage 0 of nothing", stage_0_of_nothing, &[Part::Nothing]),
     ] {
         let tried = try_parts(SEED, 0..2_000, wrong);
+        println!("{name}: {tried:?}");
+        assert!(promises.iter().eq(tried.broken.keys()), "{name}: {tried:?}");
+    }
+}
+
+/// Makes a call of the finer Compare on its sheet.
+type Comparer = fn(&[u8], usize, usize) -> Result<Verdict, Refusal>;
+
+/// Makes a call of the finer Prime form on its sheet and a buffer.
+type Former = fn(&[u8], usize, &mut [u64]) -> Result<(), Refusal>;
+
+/// Makes the calls in the finer sense by two functions, and all others on the independent side.
+fn with_finer(call: &Call, lent: &mut Lent, comparer: Comparer, former: Former) -> Answer {
+    let sheet = lent.sheets[0].lent();
+    match *call {
+        Call::Compare { sense: Sense::Finer, first, second } => {
+            comparer(sheet, first, second).map_or_else(Answer::Refused, Answer::Verdict)
+        }
+        Call::PrimeForm { sense: Sense::Finer, field, .. } => {
+            former(sheet, field, lent.counts.lent_mut()).map_or_else(Answer::Refused, |()| Answer::FormWritten)
+        }
+        _ => independent(call, lent),
+    }
+}
+
+/// The finer Compare that does what is asked.
+fn finer_compare(sheet: &[u8], first: usize, second: usize) -> Result<Verdict, Refusal> {
+    compare(Sense::Finer, sheet, first, second)
+}
+
+/// The finer Prime form that does what is asked.
+fn finer_form(sheet: &[u8], field: usize, counts: &mut [u64]) -> Result<(), Refusal> {
+    prime_form(Sense::Finer, sheet, field, counts)
+}
+
+/// Whether two fields of an accepted sheet have equal totals.
+fn equal_totals(sheet: &[u8], first: usize, second: usize) -> bool {
+    let normed = accept(sheet).expect("an accepted sheet");
+    let [total, other] = [first, second].map(|field| tokens_of(&normed.card.field(field)));
+    total == other
+}
+
+/// Takes the finer sense for the plain one.
+fn totals_not_looked_at(call: &Call, lent: &mut Lent) -> Answer {
+    with_finer(
+        call,
+        lent,
+        |sheet, first, second| compare(Sense::Plain, sheet, first, second),
+        |sheet, field, counts| prime_form(Sense::Plain, sheet, field, counts),
+    )
+}
+
+/// Looks at the totals of the two fields, and not at those that reads leave.
+fn totals_at_the_start_alone(call: &Call, lent: &mut Lent) -> Answer {
+    let comparer = |sheet: &[u8], first, second| {
+        let verdict = compare(Sense::Plain, sheet, first, second)?;
+        if equal_totals(sheet, first, second) { Ok(verdict) } else { finer_compare(sheet, first, second) }
+    };
+    with_finer(call, lent, comparer, finer_form)
+}
+
+/// Finds that the totals differ one stage late.
+fn one_stage_late(call: &Call, lent: &mut Lent) -> Answer {
+    let comparer = |sheet: &[u8], first, second| match finer_compare(sheet, first, second)? {
+        Verdict::Different { stage, rounds } if !equal_totals(sheet, first, second) => {
+            Ok(Verdict::Different { stage: stage + 1, rounds })
+        }
+        verdict => Ok(verdict),
+    };
+    with_finer(call, lent, comparer, finer_form)
+}
+
+/// Calls no fields the same but those of equal counts.
+fn counts_are_compared(call: &Call, lent: &mut Lent) -> Answer {
+    let comparer = |sheet: &[u8], first, second| match finer_compare(sheet, first, second)? {
+        Verdict::Same => {
+            let normed = accept(sheet).expect("an accepted sheet");
+            let equal = normed.card.field(first) == normed.card.field(second);
+            Ok(if equal { Verdict::Same } else { Verdict::Different { stage: 1, rounds: 1 } })
+        }
+        verdict => Ok(verdict),
+    };
+    with_finer(call, lent, comparer, finer_form)
+}
+
+/// Takes the smaller total in the place of the smaller norm for the rounds.
+fn rounds_by_totals(call: &Call, lent: &mut Lent) -> Answer {
+    let comparer = |sheet: &[u8], first, second| match finer_compare(sheet, first, second)? {
+        Verdict::Different { stage, rounds } => {
+            let normed = accept(sheet).expect("an accepted sheet");
+            let [total, other] = [first, second].map(|field| tokens_of(&normed.card.field(field)));
+            let [norm, other_norm] = [first, second].map(|field| normed.norm(&normed.card.field(field)));
+            Ok(Verdict::Different { stage, rounds: rounds - norm.min(other_norm) + total.min(other) })
+        }
+        verdict => Ok(verdict),
+    };
+    with_finer(call, lent, comparer, finer_form)
+}
+
+/// Calls fields of equal totals the same.
+fn totals_alone(call: &Call, lent: &mut Lent) -> Answer {
+    let comparer = |sheet: &[u8], first, second| {
+        let verdict = finer_compare(sheet, first, second)?;
+        Ok(if equal_totals(sheet, first, second) { Verdict::Same } else { verdict })
+    };
+    with_finer(call, lent, comparer, finer_form)
+}
+
+/// Leaves a field as it stands on the sheet for its finer prime form.
+fn form_is_the_field(call: &Call, lent: &mut Lent) -> Answer {
+    with_finer(call, lent, finer_compare, |sheet, field, counts| {
+        finer_form(sheet, field, counts)?;
+        let normed = accept(sheet).expect("an accepted sheet");
+        counts[..normed.card.kinds].copy_from_slice(&normed.card.field(field));
+        Ok(())
+    })
+}
+
+/// Gives the plain prime form for the finer one.
+fn plain_form(call: &Call, lent: &mut Lent) -> Answer {
+    with_finer(call, lent, finer_compare, |sheet, field, counts| prime_form(Sense::Plain, sheet, field, counts))
+}
+
+#[test]
+fn other_finer_answers_are_found() {
+    for (name, wrong) in [
+        ("totals not looked at", totals_not_looked_at as Implementation),
+        ("totals at the start alone", totals_at_the_start_alone),
+        ("one stage late", one_stage_late),
+        ("counts are compared", counts_are_compared),
+        ("rounds by totals", rounds_by_totals),
+        ("totals alone", totals_alone),
+        ("form is the field", form_is_the_field),
+        ("plain form", plain_form),
+    ] {
+        let comparison = compare_implementations(SEED, 0..2_000, independent, wrong);
+        println!("{name}: {} of {} calls", comparison.differences.len(), comparison.calls);
+        assert!(!comparison.differences.is_empty(), "{name}");
+        for difference in &comparison.differences {
+            let finer = matches!(
+                difference.call,
+                Call::Compare { sense: Sense::Finer, .. } | Call::PrimeForm { sense: Sense::Finer, .. }
+            );
+            assert!(finer, "{name}: {difference:?}");
+        }
+    }
+}
+
+#[test]
+fn the_promises_of_the_finer_sense_are_kept() {
+    for (name, implementation) in
+        [("independent", independent as Implementation), ("library", library), ("wrappers", wrappers)]
+    {
+        let tried = try_finer(SEED, 0..5_000, implementation);
+        println!("{name}: {tried:?}");
+        assert!(tried.broken.is_empty(), "{name}: {tried:?}");
+        assert!(tried.sheets > 2_000 && tried.pairs > 15_000 && tried.finer_same > 200, "{name}: {tried:?}");
+        assert!(tried.unequal_totals > 100 && tried.later > 20, "{name}: {tried:?}");
+        assert!(tried.forms > 5_000 && tried.of_other_counts > 500, "{name}: {tried:?}");
+        assert!(tried.rows > 2_000 && tried.of_earlier > 200 && tried.products > 200, "{name}: {tried:?}");
+    }
+}
+
+#[test]
+fn a_broken_promise_of_the_finer_sense_is_found() {
+    for (name, wrong, promises) in [
+        (
+            "totals not looked at",
+            totals_not_looked_at as Implementation,
+            &[Finer::Totals, Finer::OwnForm, Finer::OneToken][..],
+        ),
+        ("totals at the start alone", totals_at_the_start_alone, &[Finer::Forms]),
+        ("one stage late", one_stage_late, &[Finer::ImpliesSame, Finer::Totals]),
+        ("counts are compared", counts_are_compared, &[Finer::Forms, Finer::OwnForm]),
+        ("rounds by totals", rounds_by_totals, &[Finer::ImpliesSame]),
+        ("totals alone", totals_alone, &[Finer::ImpliesSame, Finer::Forms]),
+        ("form is the field", form_is_the_field, &[Finer::Forms]),
+        ("plain form", plain_form, &[Finer::Forms, Finer::OwnForm, Finer::OneToken]),
+    ] {
+        let tried = try_finer(SEED, 0..2_000, wrong);
         println!("{name}: {tried:?}");
         assert!(promises.iter().eq(tried.broken.keys()), "{name}: {tried:?}");
     }

@@ -1,15 +1,16 @@
-//! The fast implementation held against the definitions on small random cards.
+//! The fast implementation held against the definitions on small random cards, in the plain and the finer sense where there are two.
 
 use independent::base::Refinement;
 use independent::definitions::{
-    Definitions, Field, TooLarge, fewest_reads, is_reached, one_token, shelf, shelf_of, shelf_order,
+    Definitions, Field, TooLarge, classes, fewest_reads, is_reached, one_token, shelf, shelf_of, shelf_order,
     walk as walk_by_definition,
 };
 use independent::filer::{Verdict, compare};
-use independent::generator::{Draft, DraftLine, FAMILIES, Size, draft, use_some};
+use independent::generator::{Draft, DraftLine, FAMILIES, Family, Size, draft, put_equal_totals, use_some};
 use independent::norm::{NORM_LIMIT, NormedCard, accept, kind_norms};
 use independent::random::Random;
 use independent::reached::reached_kinds;
+use independent::sense::Sense;
 use independent::sheet::{MOST_FIELDS, MOST_KINDS, Refusal, read};
 use independent::shelf::{Entries, MOST_TOKENS, ShelfNumber, field_of, number_of, shelf_field, shelf_number};
 use independent::squads::squads;
@@ -28,6 +29,24 @@ fn tiny_sheet(number: u64) -> Vec<u8> {
     let mut made = draft(family, Size::Tiny, &mut random);
     use_some(&mut made, &mut random);
     made.bytes()
+}
+
+/// A small sheet on which fields of equal norm are the same, in most cases: its fields are a few tokens, and as many others of as much norm.
+fn tiny_totals(number: u64) -> Vec<u8> {
+    let mut random = Random::new(number);
+    let mut made = draft(Family::Totals, Size::Tiny, &mut random);
+    let mut field = vec![0; made.kinds];
+    for _ in 0..random.between(2, 3) {
+        field[random.below(made.kinds)] += 1;
+    }
+    made.fields = vec![field; 4];
+    put_equal_totals(&mut made, &mut random);
+    made.bytes()
+}
+
+/// The sheets on which the plain and the finer sense are tried, with their numbers: small ones, and from the last number of these on ones that are about totals.
+fn tiny_sheets() -> impl Iterator<Item = (u64, Vec<u8>)> {
+    (0..).zip((0..SHEETS).map(tiny_sheet).chain((0..SHEETS / 4).map(tiny_totals)))
 }
 
 /// What was compared.
@@ -50,6 +69,10 @@ struct Compared {
     different: [u64; 5],
     /// Fields called different that the round game was played on.
     parted: u64,
+    /// Fields called different in the finer sense alone.
+    parted_by_totals: u64,
+    /// Of them, those of equal totals, so that the totals that reads leave part them.
+    parted_later: u64,
 }
 
 #[test]
@@ -92,21 +115,26 @@ fn reached_kinds_are_those_that_reads_lead_to() {
     assert!(out > 1_000 && refused > 500 && passed_over > 500, "{out} {refused} {passed_over}");
 }
 
-#[test]
-fn bases_and_verdicts() {
+/// Compares all that is found of small cards in a sense.
+fn compare_cards(sense: Sense) -> Compared {
     let mut compared = Compared::default();
-    for number in 0..SHEETS {
-        let bytes = tiny_sheet(number);
+    for (number, bytes) in tiny_sheets() {
         let Ok(normed) = accept(&bytes) else { continue };
         if normed.norms.iter().any(|&norm| norm > MOST_NORM) || normed.gain() > 3 {
             continue;
         }
-        match compare_card(number, &bytes, &normed, &mut compared) {
+        match compare_card(number, &bytes, &normed, sense, &mut compared) {
             Ok(()) => compared.cards += 1,
             Err(TooLarge) => compared.too_large += 1,
         }
     }
     println!("{compared:?}");
+    compared
+}
+
+#[test]
+fn bases_and_verdicts() {
+    let compared = compare_cards(Sense::Plain);
     assert!(compared.cards > 3_000, "{compared:?}");
     assert!(compared.part_used > 500 && compared.nothing > 100, "{compared:?}");
     assert!(compared.same_unequal > 1_000, "{compared:?}");
@@ -114,20 +142,40 @@ fn bases_and_verdicts() {
     assert!(compared.parted > 5_000, "{compared:?}");
 }
 
+/// The game is the one in which a challenger also wins as soon as the totals differ.
+#[test]
+fn finer_bases_and_verdicts() {
+    let compared = compare_cards(Sense::Finer);
+    assert!(compared.cards > 3_000, "{compared:?}");
+    assert!(compared.part_used > 500 && compared.nothing > 100, "{compared:?}");
+    assert!(compared.same_unequal > 2_000 && compared.parted_by_totals > 500, "{compared:?}");
+    assert!(compared.parted_later > 200, "{compared:?}");
+    assert!(compared.different.iter().all(|&count| count > 100), "{compared:?}");
+    assert!(compared.parted > 5_000, "{compared:?}");
+}
+
 /// Compares bases, settled stage, primes, verdicts and rounds on one card.
-fn compare_card(number: u64, bytes: &[u8], normed: &NormedCard, compared: &mut Compared) -> Result<(), TooLarge> {
+fn compare_card(
+    number: u64,
+    bytes: &[u8],
+    normed: &NormedCard,
+    sense: Sense,
+    compared: &mut Compared,
+) -> Result<(), TooLarge> {
     let card = read(bytes).expect("an accepted sheet");
-    let mut definitions = Definitions::new(&card, MOST_NORM, 20_000).expect("norms within the search");
+    let mut definitions = Definitions::new(&card, sense, MOST_NORM, 20_000).expect("norms within the search");
     assert_eq!(definitions.reached(), normed.reached, "sheet {number}");
     assert_eq!(definitions.norms(), normed.norms, "sheet {number}");
     assert_eq!(definitions.gain(), normed.gain(), "sheet {number}");
     let settled = definitions.settled_stage()?;
-    let mut refinement = Refinement::first(normed);
+    let mut refinement = Refinement::first(normed, sense);
     loop {
         let rows = definitions.base(refinement.stage())?;
         for (kind, row) in rows.iter().enumerate() {
             let counts: Vec<u64> = refinement.base().row(kind).iter().map(|&count| count as u64).collect();
             assert_eq!(&counts, row, "sheet {number} stage {} kind {kind}", refinement.stage());
+            let one_token = counts.iter().sum::<u64>() == u64::from(normed.is_reached(kind));
+            assert!(sense == Sense::Plain || one_token, "sheet {number} stage {} kind {kind}", refinement.stage());
         }
         if refinement.is_settled() {
             break;
@@ -143,7 +191,7 @@ fn compare_card(number: u64, bytes: &[u8], normed: &NormedCard, compared: &mut C
     compared.later_stages += u64::from(settled > 1);
     compared.nothing += u64::from(normed.reached.is_empty());
     compared.part_used += u64::from((1..card.kinds).contains(&normed.reached.len()));
-    compare_verdicts(number, bytes, normed, settled, &mut definitions, compared)
+    compare_verdicts(number, bytes, normed, sense, settled, &mut definitions, compared)
 }
 
 /// Compares the verdicts on every two fields, and plays the round game.
@@ -151,6 +199,7 @@ fn compare_verdicts(
     number: u64,
     bytes: &[u8],
     normed: &NormedCard,
+    sense: Sense,
     settled: u32,
     definitions: &mut Definitions,
     compared: &mut Compared,
@@ -158,7 +207,8 @@ fn compare_verdicts(
     for first in 0..normed.card.fields {
         for second in 0..normed.card.fields {
             let pair: [Field; 2] = [first, second].map(|field| normed.card.field(field));
-            let verdict = compare(bytes, first, second).expect("an accepted sheet");
+            let verdict = compare(sense, bytes, first, second).expect("an accepted sheet");
+            let plain = compare(Sense::Plain, bytes, first, second).expect("an accepted sheet");
             assert_eq!(
                 definitions.verdict(settled, &pair[0], &pair[1])?,
                 verdict,
@@ -171,10 +221,13 @@ fn compare_verdicts(
                         "sheet {number} fields {first} {second}"
                     );
                     assert!(definitions.holds(4, &pair[0], &pair[1])?, "sheet {number} fields {first} {second}");
+                    assert_eq!(plain, Verdict::Same, "sheet {number} fields {first} {second}");
                     compared.same_unequal += u64::from(pair[0] != pair[1]);
                 }
                 Verdict::Different { stage, rounds } => {
                     compared.different[stage as usize] += 1;
+                    compared.parted_by_totals += u64::from(plain == Verdict::Same);
+                    compared.parted_later += u64::from(plain == Verdict::Same && stage > 0);
                     if rounds <= 9 {
                         assert!(
                             !definitions.holds(rounds, &pair[0], &pair[1])?,
@@ -187,6 +240,37 @@ fn compare_verdicts(
         }
     }
     Ok(())
+}
+
+/// Where reads lead to few fields: two fields are called same just when they are bisimilar, in the finer sense by a relation
+/// whose every pair has equal totals. The relation is found without norms, stages and rounds.
+#[test]
+fn fields_called_same_are_bisimilar() {
+    for sense in Sense::BOTH {
+        let (mut cards, mut pairs, mut same_unequal, mut parted_by_totals) = (0, 0, 0, 0);
+        for (number, bytes) in tiny_sheets() {
+            let Ok(normed) = accept(&bytes) else { continue };
+            let fields: Vec<Field> = (0..normed.card.fields).map(|field| normed.card.field(field)).collect();
+            let Ok(found) = classes(&normed.card, sense, &fields, 60) else { continue };
+            cards += 1;
+            for first in 0..fields.len() {
+                for second in 0..fields.len() {
+                    let [plain, verdict] = [Sense::Plain, sense]
+                        .map(|sense| compare(sense, &bytes, first, second).expect("an accepted sheet"));
+                    let bisimilar = found[first] == found[second];
+                    assert_eq!(verdict == Verdict::Same, bisimilar, "sheet {number} fields {first} {second} {sense:?}");
+                    pairs += 1;
+                    same_unequal += u64::from(bisimilar && fields[first] != fields[second]);
+                    parted_by_totals += u64::from(!bisimilar && plain == Verdict::Same);
+                }
+            }
+        }
+        println!(
+            "{sense:?}: cards {cards}, pairs {pairs}, same with other counts {same_unequal}, finer different {parted_by_totals}"
+        );
+        assert!(cards > 3_000 && pairs > 10_000 && same_unequal > 500, "{cards} {pairs} {same_unequal}");
+        assert_eq!(sense == Sense::Finer, parted_by_totals > 500, "{parted_by_totals}");
+    }
 }
 
 /// What was compared of Squads.
@@ -269,7 +353,7 @@ fn divide(
         return Ok(());
     }
     let card = read(bytes).expect("an accepted sheet");
-    let mut definitions = Definitions::new(&card, MOST_NORM, 20_000).expect("norms within the search");
+    let mut definitions = Definitions::new(&card, Sense::Plain, MOST_NORM, 20_000).expect("norms within the search");
     let settled = definitions.settled_stage()?;
     let (count, found) = definitions.squads(settled, &whole, &squad)?;
     assert_eq!(given, Ok(count), "{context}");

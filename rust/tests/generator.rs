@@ -4,12 +4,14 @@ use std::collections::{BTreeMap, BTreeSet};
 
 use independent::base::{Base, Refinement};
 use independent::calls::{Answer, Call, Lent, calls, compare_implementations, day, independent, sheets};
+use independent::finer::try_finer;
 use independent::generator::{COSTLY, Damage, FAMILIES, Family, Size, apply, draft, measured, sample, use_some};
 use independent::norm::{NORM_LIMIT, NormedCard, accept, kind_norms};
 use independent::page::page;
 use independent::parts::{Promise, try_parts};
 use independent::random::Random;
 use independent::reached::{kinds_left, lines_to, reached_kinds};
+use independent::sense::Sense;
 use independent::sheet::{Card, MOST_BYTES, MOST_KINDS, Refusal, read};
 use independent::shelf::{MOST_TOKENS, tokens_of};
 use independent::walker::{Answer as Found, Walked};
@@ -53,6 +55,9 @@ fn every_refusal_and_every_answer_is_met() {
     for stage in 0..=8 {
         met(&format!("compare: different {stage}"));
     }
+    for sense in ["prime form", "finer prime form"] {
+        met(&format!("{sense}: done"));
+    }
     met("settle: stage 32");
     assert_eq!(comparison.differences.len(), 0);
     // Of walks, of the two calls on shelf numbers and of squads each answer is met often.
@@ -82,20 +87,49 @@ fn every_refusal_and_every_answer_is_met() {
     for number in [1, 2, 3, 4, 5, 6, 7, 8, 9, 10, 11, 17, 12] {
         often(&format!("squads: refused {number}"));
     }
+    // In the finer sense each refusal is met often, and each stage.
+    for number in [1, 2, 3, 4, 5, 6, 7, 8, 9, 10, 11] {
+        often(&format!("finer compare: refused {number}"));
+        often(&format!("finer prime form: refused {number}"));
+    }
+    for name in ["finer prime form: refused 12", "finer prime form: done", "finer compare: same"] {
+        often(name);
+    }
+    for stage in 0..=8 {
+        met(&format!("finer compare: different {stage}"));
+    }
     met("squads: of 32 bits");
     met("squads: of 64 bits");
     // On sheets that have a kind that is out each call is answered, and refused by 9 and by 10.
     let on_parts = |name: &str| assert!(comparison.part_used.get(name).is_some_and(|&count| count > 10), "{name}");
-    for name in ["settle: stage 1", "settle: stage 2", "settle: stage 3", "compare: same"] {
+    for name in ["settle: stage 1", "settle: stage 2", "settle: stage 3", "compare: same", "finer compare: same"] {
         on_parts(name);
     }
     for stage in 0..=3 {
         on_parts(&format!("compare: different {stage}"));
+        on_parts(&format!("finer compare: different {stage}"));
     }
-    for name in ["prime form: done", "page: done", "numbers: done", "squads: 0", "squads: 1", "squads: of 16 bits"] {
+    for name in [
+        "prime form: done",
+        "finer prime form: done",
+        "page: done",
+        "numbers: done",
+        "squads: 0",
+        "squads: 1",
+        "squads: of 16 bits",
+    ] {
         on_parts(name);
     }
-    for entry in ["settle", "compare", "prime form", "shelf number", "shelf field", "squads"] {
+    for entry in [
+        "settle",
+        "compare",
+        "finer compare",
+        "prime form",
+        "finer prime form",
+        "shelf number",
+        "shelf field",
+        "squads",
+    ] {
         on_parts(&format!("{entry}: refused 9"));
         on_parts(&format!("{entry}: refused 10"));
     }
@@ -179,6 +213,18 @@ fn the_promises_of_parts_are_kept() {
     for (promise, least) in [(Promise::Dropped, 40_000), (Promise::Alone, 20_000), (Promise::Nothing, 5_000)] {
         assert!(tried.held[&promise] > least, "{tried:?}");
     }
+}
+
+/// The finer answers go with each other, with the plain ones and with the totals, on sheets of any size.
+#[test]
+fn the_promises_of_the_finer_sense_are_kept() {
+    let tried = try_finer(SEED, 0..20_000, independent);
+    println!("{tried:?}");
+    assert!(tried.broken.is_empty(), "{tried:?}");
+    assert!(tried.sheets > 8_000 && tried.pairs > 30_000 && tried.finer_same > 500, "{tried:?}");
+    assert!(tried.unequal_totals > 500 && tried.later > 50, "{tried:?}");
+    assert!(tried.forms > 20_000 && tried.of_other_counts > 2_000, "{tried:?}");
+    assert!(tried.rows > 10_000 && tried.of_earlier > 1_000 && tried.products > 1_000, "{tried:?}");
 }
 
 /// Of what sorts a call of Squads on an accepted sheet is, with the forms and the counts of its fields.
@@ -368,16 +414,20 @@ fn truncations_and_extensions_are_refused() {
     }
 }
 
-/// The settled bases of sheets of any size are bisimulations, tested pair by pair of lines.
+/// The settled bases of sheets of any size are bisimulations, tested pair by pair of lines; in the finer sense each pair has equal totals.
 #[test]
 fn settled_bases_are_bisimulations() {
     let mut checked = 0;
     for number in 0..4_000 {
         let bytes = sample(SEED + 1, number).bytes;
         let Ok(normed) = accept(&bytes) else { continue };
-        let settled = Refinement::first(&normed).settle();
-        for &kind in &normed.reached {
-            assert!(expands(&normed, settled.base(), kind), "sheet {number} kind {kind}");
+        for sense in Sense::BOTH {
+            let settled = Refinement::first(&normed, sense).settle();
+            for &kind in &normed.reached {
+                let total = settled.base().row(kind).iter().sum::<i64>();
+                assert!(sense.allows(total, 1), "sheet {number} kind {kind} {sense:?}");
+                assert!(expands(&normed, settled.base(), kind), "sheet {number} kind {kind} {sense:?}");
+            }
         }
         checked += 1;
     }
@@ -433,7 +483,7 @@ fn costly_families_settle_late() {
     for family in COSTLY {
         let sheet = measured(family, 32, 256, SEED);
         let normed = accept(&sheet).expect("an accepted sheet");
-        let stage = Refinement::first(&normed).settle().stage();
+        let stage = Refinement::first(&normed, Sense::Plain).settle().stage();
         println!("{family:?}: {} lines, stage {stage}", normed.card.lines.len());
         assert!(stage >= 10, "{family:?} {stage}");
     }

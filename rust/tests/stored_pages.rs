@@ -1,17 +1,18 @@
-//! The stored pages, walks, shelf numbers and squads, and document 01's examples.
+//! The stored pages, walks, shelf numbers, squads and finer answers, and document 01's examples.
 
 use std::fs;
 use std::path::{Path, PathBuf};
 
-use independent::filer::{Verdict, compare, row, settle};
+use independent::filer::{Verdict, compare, prime_form, row, settle};
 use independent::page::page;
 use independent::reached::reached_kinds;
+use independent::sense::Sense;
 use independent::sheet::{Refusal, numbers, read};
 use independent::shelf::{shelf_field, shelf_number};
 use independent::squads::squads;
 use independent::walker::{Answer, DESKS, Session, walk, walk_lent};
 
-/// The folder of the stored sheets, pages, walks, shelf numbers and squads.
+/// The folder of the stored sheets, pages, walks, shelf numbers, squads and finer answers.
 fn stored() -> PathBuf {
     Path::new(env!("CARGO_MANIFEST_DIR")).join("testdata")
 }
@@ -110,69 +111,72 @@ fn walks_agree() {
     assert!(text.lines().count() > 100);
 }
 
+/// What a call answers and the counts that it writes, a count for each kind: an entry past them keeps its value, and all do where it is refused.
+fn written<T: Copy + From<u8> + PartialEq + ToString, A>(
+    sheet: &[u8],
+    write: impl FnOnce(&mut [T]) -> Result<A, Refusal>,
+) -> Result<(A, String), Refusal> {
+    let mut counts = [T::from(7); 33];
+    let answer = write(&mut counts);
+    let kinds = if answer.is_ok() { numbers(sheet)?.kinds } else { 0 };
+    let (counts, past) = counts.split_at(kinds);
+    assert!(past.iter().all(|&entry| entry == T::from(7)));
+    Ok((answer?, counts.iter().map(T::to_string).collect::<Vec<_>>().join(" ")))
+}
+
 /// The answer to a line's call, as the line has it.
-fn shelf_answer(sheet: &[u8], verb: &str, numbers_given: &[u64]) -> Result<String, Refusal> {
-    match (verb, numbers_given) {
+fn answer(sheet: &[u8], verb: &str, given: &[u64]) -> Result<String, Refusal> {
+    let places: Vec<usize> = given.iter().map(|&number| number as usize).collect();
+    match (verb, &places[..]) {
         ("number", &[field]) => {
-            let found = shelf_number(sheet, field as usize)?;
+            let found = shelf_number(sheet, field)?;
             Ok(format!("size {} number {}", found.size, found.number))
         }
-        ("field", &[size, number]) => {
-            let mut counts = [7; 32];
-            shelf_field(sheet, size as usize, number, &mut counts)?;
-            Ok(counts[..numbers(sheet)?.kinds].iter().map(u16::to_string).collect::<Vec<_>>().join(" "))
+        ("field", &[size, _]) => Ok(written(sheet, |counts| shelf_field(sheet, size, given[1], counts))?.1),
+        ("squads", &[whole, squad]) => {
+            let (count, remainder) = written(sheet, |counts| squads(sheet, whole, squad, counts))?;
+            Ok(format!("squads {count} = {remainder}"))
         }
+        ("finer", &[first, second]) => Ok(match compare(Sense::Finer, sheet, first, second)? {
+            Verdict::Same => "same".to_string(),
+            Verdict::Different { stage, rounds } => format!("different {stage} {rounds}"),
+        }),
+        ("finer-form", &[field]) => Ok(written(sheet, |counts| prime_form(Sense::Finer, sheet, field, counts))?.1),
         other => panic!("{other:?} is no call"),
     }
 }
 
-/// The lines of two stored files: one of sheets that use all kinds, and one of sheets that have a kind that is out.
-fn lines_of(used: &str, part_used: &str, least: [usize; 2]) -> Vec<String> {
-    let texts = [used, part_used].map(|name| fs::read_to_string(stored().join(name)).expect(name));
-    for (place, text) in texts.iter().enumerate() {
-        assert!(text.lines().count() > least[place]);
+/// Asserts the lines of two stored files, each of at least so many: one of sheets that use all kinds, and one of sheets that have a kind that is out. Their calls are those of some verbs.
+fn assert_lines(files: [&str; 2], least: [usize; 2], verbs: &[&str]) {
+    for (place, name) in files.into_iter().enumerate() {
+        let text = fs::read_to_string(stored().join(name)).expect(name);
+        assert!(text.lines().count() >= least[place], "{name}");
         for line in text.lines() {
-            let name = line.split(' ').next().expect("a name");
-            assert_eq!(PART_USED.contains(&name), place == 1, "{line}");
+            let (call, expected) = line.split_once(" = ").expect("a call and its answer");
+            let words: Vec<&str> = call.split(' ').collect();
+            assert_eq!(PART_USED.contains(&words[0]), place == 1, "{line}");
+            assert!(verbs.contains(&words[1]), "{line}");
+            let numbers: Vec<u64> = words[2..].iter().map(|word| word.parse().expect("a number")).collect();
+            let given = answer(&sheet(words[0]), words[1], &numbers)
+                .unwrap_or_else(|refusal| format!("refused {} {}", refusal.number, refusal.place));
+            assert_eq!(given, expected, "{line}");
         }
     }
-    texts.iter().flat_map(|text| text.lines().map(str::to_owned)).collect()
 }
 
 #[test]
 fn shelf_numbers_agree() {
-    for line in lines_of("shelf.txt", "shelf_part_used.txt", [1_000, 300]) {
-        let (call, expected) = line.split_once(" = ").expect("a call and its answer");
-        let words: Vec<&str> = call.split(' ').collect();
-        let numbers_given: Vec<u64> = words[2..].iter().map(|word| word.parse().expect("a number")).collect();
-        let given = shelf_answer(&sheet(words[0]), words[1], &numbers_given)
-            .unwrap_or_else(|refusal| format!("refused {} {}", refusal.number, refusal.place));
-        assert_eq!(given, expected, "{line}");
-    }
+    assert_lines(["shelf.txt", "shelf_part_used.txt"], [1_166, 303], &["number", "field"]);
 }
 
 #[test]
 fn squads_agree() {
-    for line in lines_of("squads.txt", "squads_part_used.txt", [300, 100]) {
-        let (call, expected) = line.split_once(" = ").expect("a call and its answer");
-        let words: Vec<&str> = call.split(' ').collect();
-        let [whole, squad] = [2, 3].map(|place| words[place].parse().expect("a number"));
-        assert!(words[1] == "squads" && words.len() == 4, "{line}");
-        let bytes = sheet(words[0]);
-        let mut remainder = [7; 32];
-        let given = match squads(&bytes, whole, squad, &mut remainder) {
-            Err(refusal) => {
-                assert_eq!(remainder, [7; 32], "{line}");
-                format!("refused {} {}", refusal.number, refusal.place)
-            }
-            Ok(count) => {
-                let (counts, past) = remainder.split_at(numbers(&bytes).expect("an accepted sheet").kinds);
-                assert!(past.iter().all(|&entry| entry == 7), "{line}");
-                format!("squads {count} = {}", counts.iter().map(u64::to_string).collect::<Vec<_>>().join(" "))
-            }
-        };
-        assert_eq!(given, expected, "{line}");
-    }
+    assert_lines(["squads.txt", "squads_part_used.txt"], [394, 137], &["squads"]);
+}
+
+#[test]
+fn finer_answers_agree() {
+    assert_lines(["finer.txt", "finer_part_used.txt"], [750, 221], &["finer", "finer-form"]);
 }
 
 #[test]
@@ -215,6 +219,16 @@ fn refused_calls_alter_nothing() {
         assert_eq!(counts, [7; 1]);
     }
     assert_eq!(squads(&no_sheet, 0, 0, &mut []), Err(Refusal { number: 1, place: 0 }));
+    // 11 comes before 12, in either sense: two counts are needed.
+    for sense in Sense::BOTH {
+        for (field, refused) in [(7, (11, 0)), (6, (12, 0))] {
+            let mut counts = [7; 1];
+            let refusal = prime_form(sense, &sheet("full00"), field, &mut counts).expect_err("one count is too few");
+            assert_eq!((refusal.number, refusal.place), refused);
+            assert_eq!(counts, [7; 1]);
+        }
+        assert_eq!(prime_form(sense, &no_sheet, 0, &mut []), Err(Refusal { number: 1, place: 0 }));
+    }
 }
 
 #[test]
@@ -233,8 +247,9 @@ fn rows_of_great_norms() {
 
 #[test]
 fn verdicts_of_the_examples() {
-    assert_eq!(compare(&sheet("stage1"), 0, 1), Ok(Verdict::Different { stage: 1, rounds: 3 }));
-    assert_eq!(compare(&sheet("stage2_g1"), 0, 1), Ok(Verdict::Different { stage: 2, rounds: 4 }));
-    assert_eq!(compare(&sheet("stage3"), 0, 1), Ok(Verdict::Different { stage: 3, rounds: 4 }));
-    assert_eq!(compare(&sheet("page36"), 0, 1), Ok(Verdict::Same));
+    let verdict = |name: &str| compare(Sense::Plain, &sheet(name), 0, 1);
+    assert_eq!(verdict("stage1"), Ok(Verdict::Different { stage: 1, rounds: 3 }));
+    assert_eq!(verdict("stage2_g1"), Ok(Verdict::Different { stage: 2, rounds: 4 }));
+    assert_eq!(verdict("stage3"), Ok(Verdict::Different { stage: 3, rounds: 4 }));
+    assert_eq!(verdict("page36"), Ok(Verdict::Same));
 }

@@ -2,10 +2,11 @@
 use mathlib.Core.Bool.{Bool, true, false, not}
 use mathlib.Core.List.{List, [], _∷_, _++_}
 use mathlib.Core.Path.{_≡_, refl}
-use Prim.Native.Nat.{ℕ, zero, suc, _+_, _-_, _^_, _≤_, _<_}
+use Prim.Native.Nat.{ℕ, zero, suc, _+_, _^_, _≤_, _<_}
 use native.Mathlib.Omega.{arith}
 use lib.Dec.{eqb, ltb}
 use lib.ListN.{length}
+use Rattle.model.specs.Sense.{Sense}
 use Rattle.model.specs.Finite.{both, concat, listFrom}
 use Rattle.model.specs.Card.{reached}
 use Rattle.model.specs.Norm.{kindNorm}
@@ -13,7 +14,7 @@ use Rattle.model.specs.Limits.{normLimit}
 use Rattle.model.specs.Sheet.{u16At, kindCount, lineCount, lineOf, codeCount, cardOf}
 use Rattle.theory.specs.Widths.{Bytes}
 use Rattle.model.specs.Refusal.{Check, check, Finding, clear, refusal, firstOf, headerChecks, lineChecks, normChecks, sheetChecks, acceptChecks, settleChecks, compareChecks, formChecks, walkChecks, rowChecks, shelfNumberChecks, shelfFieldChecks, squadsChecks}
-use Rattle.model.specs.Answer.{Answer, refused, given, Lent, Session, Walked, rowCheckOf, settleOf, compareOf, formOf, walkOf, shelfNumberOf, shelfFieldOf, squadsOf}
+use Rattle.model.specs.Answer.{Answer, refused, given, Lent, Session, Walked, rowCheckOf, settleOf, compareIn, formingIn, walkOf, shelfNumberOf, shelfFieldOf, squadsOf}
 use Rattle.theory.proofs.Sheets.{then, first-append}
 use Rattle.arrays.specs.Reply.{codeOf}
 
@@ -159,13 +160,13 @@ module _ (s : List ℕ) (bytes : Bytes s) (k p : ℕ) where
   unfolding settleOf
   settle-fits table = refused-fits (λ (x : Lent ℕ). x .answer) _ _ _ refl (λ k p. refl) (firstOf (settleChecks s (length table))) (settle-small s bytes (length table)) k p
 
-  pub compare-fits : (i j : ℕ) → compareOf s i j ≡ refused k p → codeOf k p < 2 ^ 32
-  unfolding compareOf
-  compare-fits i j = refused-fits (λ x. x) _ refused _ refl (λ k p. refl) (firstOf (compareChecks s i j)) (compare-small s bytes i j) k p
+  pub compare-fits : (sense : Sense) (i j : ℕ) → compareIn sense s i j ≡ refused k p → codeOf k p < 2 ^ 32
+  unfolding compareIn
+  compare-fits sense i j = refused-fits (λ x. x) _ refused _ refl (λ k p. refl) (firstOf (compareChecks s i j)) (compare-small s bytes i j) k p
 
-  pub form-fits : (i : ℕ) (buffer : List ℕ) → formOf s i buffer .answer ≡ refused k p → codeOf k p < 2 ^ 32
-  unfolding formOf
-  form-fits i buffer = refused-fits (λ (x : Lent (Unit {0})). x .answer) _ _ tt refl (λ k p. refl) (firstOf (formChecks s i (length buffer))) (form-small s bytes i (length buffer)) k p
+  pub form-fits : (sense : Sense) (i : ℕ) (buffer : List ℕ) → formingIn sense s i buffer .answer ≡ refused k p → codeOf k p < 2 ^ 32
+  unfolding formingIn
+  form-fits sense i buffer = refused-fits (λ (x : Lent (Unit {0})). x .answer) _ _ tt refl (λ k p. refl) (firstOf (formChecks s i (length buffer))) (form-small s bytes i (length buffer)) k p
 
   pub shelf-number-fits : (i : ℕ) → shelfNumberOf s i ≡ refused k p → codeOf k p < 2 ^ 32
   unfolding shelfNumberOf

@@ -1,23 +1,24 @@
 -- What each call comes to, from what the library's function answered.
 use mathlib.Core.Bool.{Bool, true, false}
 use mathlib.Core.List.{List, [], _∷_}
-use mathlib.Core.Path.{_≡_, refl, sym, ap}
+use mathlib.Core.Path.{_≡_, refl, sym, _∙_, ap}
 use Prim.Native.Nat.{ℕ, _*_, _≤_, _<_}
 use native.Mathlib.Omega.{arith}
 use lib.Dec.{ltb}
 use lib.ListN.{length}
+use Rattle.model.specs.Sense.{Sense}
 use Rattle.model.specs.Sheet.{kindCount, cardOf}
 use Rattle.model.specs.Base.{settledStage}
 use Rattle.model.specs.Refusal.{Finding, clear, refusal, check, firstOf, sheetChecks, acceptChecks, settleChecks, formChecks, shelfFieldChecks}
-use Rattle.model.specs.Answer.{Answer, refused, given, Lent, written, Verdict, Shelved, tableOf, primeForm, shelfCounts, rowCheckOf, settleOf, compareOf, formOf, shelfNumberOf, shelfFieldOf}
+use Rattle.model.specs.Answer.{Answer, refused, given, Lent, written, Verdict, Shelved, tableOf, primeFormIn, shelfCounts, rowCheckOf, settleOf, formingIn, shelfNumberOf, shelfFieldOf}
 use Rattle.theory.proofs.Checks.{first-left, first-right}
 use Rattle.sheet.specs.declared.reader.Card.{Card}
 use Rattle.sheet.specs.Reader.{Reads}
 use Rattle.arrays.specs.Reply.{codeOf, refusing, replyOf, laidOut, valuesReply}
 use Rattle.arrays.specs.Session.{shortCodeBy}
 use Rattle.arrays.specs.Values.{rowValues, cardValues, verdictValues, shelvedValues}
-use Rattle.exports.specs.Calls.{foundOr, rowCall, numberValues, numbersCall, stageValues, settleCall, shortCode, compareCall, noValues, formCall, shelfNumberCall, shelfFieldCall}
-use Rattle.arrays.proofs.Replies.{reply-refuses, reply-short, reply-gives}
+use Rattle.exports.specs.Calls.{foundOr, rowCall, numberValues, numbersCall, stageValues, settleCall, shortCode, verdictCall, noValues, writingCall, writtenCode, shelfNumberCall, shelfFieldCall}
+use Rattle.arrays.proofs.Replies.{code-is, lent-is, reply-refuses, reply-short, reply-gives}
 
 -- A call that gives the same values wherever its checks find nothing.
 module _ (values : List ℕ) (f : Finding) (array : List ℕ) where
@@ -47,15 +48,15 @@ module _ (s array : List ℕ) where
   unfolding numbersCall
   numbers-gives c h = rw (h .header) (found-gives (numberValues s) (firstOf (sheetChecks s)) array (h .passed))
 
--- Compare.
-module _ (s : List ℕ) (i j : ℕ) (array : List ℕ) where
-  pub compare-refuses : (k p : ℕ) → compareOf s i j ≡ refused k p → compareCall s i j array ≡ refusing k p tt array
-  unfolding compareCall
-  compare-refuses k p e = reply-refuses tt tt array _ k p (ap (laidOut verdictValues) e)
+-- Compare and finer Compare, by the verdict.
+module _ (array : List ℕ) where
+  pub verdict-refuses : (a : Answer Verdict) (k p : ℕ) → a ≡ refused k p → verdictCall a array ≡ refusing k p tt array
+  unfolding verdictCall
+  verdict-refuses a k p e = reply-refuses tt tt array _ k p (ap (laidOut verdictValues) e)
 
-  pub compare-gives : (a : Verdict) → compareOf s i j ≡ given a → compareCall s i j array ≡ valuesReply (verdictValues a) array
-  unfolding compareCall
-  compare-gives a e = ap (λ (y : Answer Verdict). replyOf (laidOut verdictValues y) tt tt array) e
+  pub verdict-gives : (a : Answer Verdict) (v : Verdict) → a ≡ given v → verdictCall a array ≡ valuesReply (verdictValues v) array
+  unfolding verdictCall
+  verdict-gives a v e = ap (λ (y : Answer Verdict). replyOf (laidOut verdictValues y) tt tt array) e
 
 -- A call that was refused left what was lent as it was.
 module _ {A : Type 0} (a : A) (after before : List ℕ) where
@@ -113,19 +114,29 @@ short-clear s e = sym (ap shortCodeBy e)
 pub short-refused : (s : List ℕ) (k p : ℕ) → firstOf (acceptChecks s) ≡ refusal k p → codeOf k p ≡ shortCode s
 short-refused s k p e = sym (ap shortCodeBy e)
 
--- Prime form.
-module _ (s : List ℕ) (i : ℕ) (buffer : List ℕ) where
-  pub form-kept : (k p : ℕ) → formOf s i buffer .answer ≡ refused k p → formOf s i buffer .lent ≡ buffer
-  unfolding formOf
-  form-kept k p e = kept tt (written (primeForm s i) buffer) buffer (firstOf (formChecks s i (length buffer))) k p e
+-- A call that has no values.
+module _ (buffer : List ℕ) (x : Lent (Unit {0})) where
+  pub writing-refuses : (k p : ℕ) → x .answer ≡ refused k p → writingCall buffer x ≡ refusing k p buffer []
+  unfolding writingCall
+  writing-refuses k p e = reply-refuses buffer (x .lent) [] _ k p (ap (laidOut noValues) e)
 
-  pub form-refuses : (k p : ℕ) → formOf s i buffer .answer ≡ refused k p → formCall s i buffer ≡ refusing k p buffer []
-  unfolding formCall
-  form-refuses k p e = reply-refuses buffer (formOf s i buffer .lent) [] _ k p (ap (laidOut noValues) e)
+  pub writing-gives : x .answer ≡ given tt → writingCall buffer x ≡ record { code = 0; lent = x .lent; values = written [] [] }
+  unfolding writingCall
+  writing-gives e = reply-gives buffer (x .lent) [] [] _ (ap (laidOut noValues) e) (omega arith)
 
-  pub form-gives : formOf s i buffer .answer ≡ given tt → formCall s i buffer ≡ record { code = 0; lent = formOf s i buffer .lent; values = written [] [] }
-  unfolding formCall
-  form-gives e = reply-gives buffer (formOf s i buffer .lent) [] [] _ (ap (laidOut noValues) e) (omega arith)
+-- Prime form and finer Prime form.
+module _ (sense : Sense) (s : List ℕ) (i : ℕ) (buffer : List ℕ) where
+  abbrev x : Lent (Unit {0})
+  x = formingIn sense s i buffer
+
+  form-kept : (k p : ℕ) → formingIn sense s i buffer .answer ≡ refused k p → formingIn sense s i buffer .lent ≡ buffer
+  unfolding formingIn
+  form-kept k p e = kept tt (written (primeFormIn sense s i) buffer) buffer (firstOf (formChecks s i (length buffer))) k p e
+
+  -- What is returned, and the buffer, which is as the filer left it.
+  pub form-called : (a : Answer (Unit {0})) → a ≡ x .answer → (writtenCode a ≡ writingCall buffer x .code) × (x .lent ≡ writingCall buffer x .lent)
+  form-called (given _) e = let w = writing-gives buffer x (sym e) in (code-is w, lent-is w)
+  form-called (refused k p) e = let w = writing-refuses buffer x k p (sym e) in (code-is w, form-kept k p (sym e) ∙ lent-is w)
 
 -- Shelf number.
 module _ (s : List ℕ) (i : ℕ) (array : List ℕ) where
@@ -144,10 +155,8 @@ module _ (s : List ℕ) (t x : ℕ) (buffer : List ℕ) where
   shelf-field-kept k p e = kept tt (written (shelfCounts s t x) buffer) buffer (firstOf (shelfFieldChecks s t x (length buffer))) k p e
 
   pub shelf-field-refuses : (k p : ℕ) → shelfFieldOf s t x buffer .answer ≡ refused k p → shelfFieldCall s t x buffer ≡ refusing k p buffer []
-  unfolding shelfFieldCall
-  shelf-field-refuses k p e = reply-refuses buffer (shelfFieldOf s t x buffer .lent) [] _ k p (ap (laidOut noValues) e)
+  shelf-field-refuses k p e = writing-refuses buffer (shelfFieldOf s t x buffer) k p e
 
   pub shelf-field-gives : shelfFieldOf s t x buffer .answer ≡ given tt
       → shelfFieldCall s t x buffer ≡ record { code = 0; lent = shelfFieldOf s t x buffer .lent; values = written [] [] }
-  unfolding shelfFieldCall
-  shelf-field-gives e = reply-gives buffer (shelfFieldOf s t x buffer .lent) [] [] _ (ap (laidOut noValues) e) (omega arith)
+  shelf-field-gives e = writing-gives buffer (shelfFieldOf s t x buffer) e

@@ -1,6 +1,6 @@
--- Version 0.7.0 as one number.
+-- Version 0.8.0 as one number.
 use mathlib.Core.Path.{_≡_, refl}
 use Rattle.exports.specs.Version.{version}
 
-pub version-number : version ≡ 700
+pub version-number : version ≡ 800
 version-number = refl

@@ -7,9 +7,9 @@ use lib.ListN.{length, take}
 use Rattle.model.specs.Sheet.{kindCount, codeCount, lineCount, fieldCount}
 use Rattle.model.specs.Refusal.{Finding, clear, refusal, firstOf, sheetChecks, acceptChecks, squadsChecks}
 use Rattle.model.specs.Walk.{WalkAnswer, apart, together, spent}
-use Rattle.model.specs.Answer.{Answer, refused, given, Session, written, rowCheckOf, walkOf, settleOf, compareOf, formOf, shelfNumberOf, shelfFieldOf, squadsOf}
+use Rattle.model.specs.Answer.{Answer, refused, given, Lent, Session, Verdict, written, rowCheckOf, walkOf, settleOf, compareOf, finerCompareOf, formOf, finerFormOf, shelfNumberOf, shelfFieldOf, squadsOf}
 use Rattle.page.specs.Writing.{writePageOf}
-use Rattle.arrays.specs.Reply.{Reply, replyOf, laidOut}
+use Rattle.arrays.specs.Reply.{codeOf, Reply, replyOf, laidOut}
 use Rattle.arrays.specs.Session.{desks, shortCodeBy}
 use Rattle.arrays.specs.Values.{rowValues, verdictValues, shelvedValues}
 
@@ -61,24 +61,41 @@ walkCall s i j limit d session array =
     let w = walkOf s i j limit d (lentSession session) in
     replyOf (ofDesks session (laidOut (walkValues (w .drawn)) (w .answer))) session (written (w .after .left) session) array
 
--- Compare.
-unfoldable pub compareCall : List ℕ → ℕ → ℕ → List ℕ → Reply (Unit {0})
-compareCall s i j array = replyOf (laidOut verdictValues (compareOf s i j)) tt tt array
+-- Compare and finer Compare: the verdict.
+unfoldable pub verdictCall : Answer Verdict → List ℕ → Reply (Unit {0})
+verdictCall answer array = replyOf (laidOut verdictValues answer) tt tt array
 
--- Prime form: no values, and so no answer array. The buffer is lent.
+abbrev pub compareCall : List ℕ → ℕ → ℕ → List ℕ → Reply (Unit {0})
+compareCall s i j array = verdictCall (compareOf s i j) array
+
+abbrev pub finerCompareCall : List ℕ → ℕ → ℕ → List ℕ → Reply (Unit {0})
+finerCompareCall s i j array = verdictCall (finerCompareOf s i j) array
+
+-- Prime form and finer Prime form: no values, and so no answer array. The buffer is lent.
 abbrev pub noValues : Unit {0} → List ℕ
 noValues _ = []
 
-unfoldable pub formCall : List ℕ → ℕ → List ℕ → Reply (List ℕ)
-formCall s i buffer = let x = formOf s i buffer in replyOf (laidOut noValues (x .answer)) buffer (x .lent) []
+unfoldable pub writingCall : List ℕ → Lent (Unit {0}) → Reply (List ℕ)
+writingCall buffer x = replyOf (laidOut noValues (x .answer)) buffer (x .lent) []
+
+abbrev pub formCall : List ℕ → ℕ → List ℕ → Reply (List ℕ)
+formCall s i buffer = writingCall buffer (formOf s i buffer)
+
+abbrev pub finerFormCall : List ℕ → ℕ → List ℕ → Reply (List ℕ)
+finerFormCall s i buffer = writingCall buffer (finerFormOf s i buffer)
+
+-- What a call without values returns: 0, or the refusal's number.
+abbrev pub writtenCode : Answer (Unit {0}) → ℕ
+writtenCode (given _) = 0
+writtenCode (refused number place) = codeOf number place
 
 -- Shelf number.
 unfoldable pub shelfNumberCall : List ℕ → ℕ → List ℕ → Reply (Unit {0})
 shelfNumberCall s i array = replyOf (laidOut shelvedValues (shelfNumberOf s i)) tt tt array
 
 -- Shelf field, of a size and a number: no values, and so no answer array. The buffer is lent.
-unfoldable pub shelfFieldCall : List ℕ → ℕ → ℕ → List ℕ → Reply (List ℕ)
-shelfFieldCall s t x buffer = let y = shelfFieldOf s t x buffer in replyOf (laidOut noValues (y .answer)) buffer (y .lent) []
+abbrev pub shelfFieldCall : List ℕ → ℕ → ℕ → List ℕ → Reply (List ℕ)
+shelfFieldCall s t x buffer = writingCall buffer (shelfFieldOf s t x buffer)
 
 -- Squads: how often the squad goes into the whole. The buffer for the remainder is lent.
 abbrev pub countValues : ℕ → List ℕ

@@ -13,10 +13,10 @@ pub mod settle;
 // Row's check.
 pub mod row;
 
-// Compare.
+// Compare and finer Compare.
 pub mod compare;
 
-// Prime form.
+// Prime form and finer Prime form.
 pub mod form;
 
 // Walk.

@@ -6,13 +6,14 @@ use native.Mathlib.Nat.{div-add-mod'}
 use native.Mathlib.Omega.{arith}
 use lib.ListN.{length, getD}
 use lib.Seq.{ext-getD}
+use Rattle.model.specs.Sense.{Sense, plain}
 use Rattle.model.specs.Field.{Field, at}
 use Rattle.model.specs.Base.{gain, settledStage}
 use Rattle.model.specs.Sheet.{kindCount, fieldCount, cardOf}
 use Rattle.model.specs.Limits.{Limits}
 use Rattle.model.specs.Refusal.{refusal, firstOf, acceptChecks, Accepted, settleChecks, compareChecks, formChecks}
 use Rattle.theory.specs.Widths.{Bytes}
-use Rattle.model.specs.Answer.{refused, given, different, settleOf, compareOf, formOf, tableOf, primeForm, written}
+use Rattle.model.specs.Answer.{refused, given, different, settleOf, compareIn, formingIn, tableOf, primeFormIn, written}
 use Rattle.theory.proofs.Checks.{first-left, first-right}
 use Rattle.theory.proofs.Answers.{demand1}
 use Rattle.theory.proofs.Meanings.{meanings}
@@ -30,10 +31,10 @@ use Rattle.filer.proofs.Writing.{table-long, row-under, count-under, ta
 
 module _ (s : List ℕ) where
   -- The checks of the sheet and of the two field numbers refuse.
-  pub compare-refused : (checked : Checked) → checked ≡ acceptanceOf s .checked → (i j k p : ℕ) → withFields i j checked ≡ Refused k p → compareOf s i j ≡ refused k p
+  pub compare-refused : (checked : Checked) → checked ≡ acceptanceOf s .checked → (sense : Sense) (i j k p : ℕ) → withFields i j checked ≡ Refused k p → compareIn sense s i j ≡ refused k p
   unfolding Accepted compareChecks
-  compare-refused checked e i j k p r =
-      demand1 s .compare-refused i j k p
+  compare-refused checked e sense i j k p r =
+      demand1 s .compare-refused sense i j k p
       (fields-refused (acceptChecks s) [] (fieldCount s) i j k p checked (λ f. sheet-refused s k p (sym e ∙ f)) (λ c f. let A = accepts s c (sym e ∙ f) in (A .accepted, fields-are (A .reads))) r)
 
   -- The sheet's own checks refuse.
@@ -42,9 +43,9 @@ module _ (s : List ℕ) where
     unfolding settleChecks
     settle-refused table = demand1 s .settle-refused table k p (first-left (acceptChecks s) _ k p e)
 
-    pub form-refused : (i : ℕ) (buffer : List ℕ) → formOf s i buffer ≡ record { answer = refused k p; lent = buffer }
+    pub form-refused : (sense : Sense) (i : ℕ) (buffer : List ℕ) → formingIn sense s i buffer ≡ record { answer = refused k p; lent = buffer }
     unfolding formChecks
-    form-refused i buffer = demand1 s .form-refused i buffer k p (first-left (acceptChecks s) _ k p e)
+    form-refused sense i buffer = demand1 s .form-refused sense i buffer k p (first-left (acceptChecks s) _ k p e)
 
   module _ (ok : Accepted s) where
     -- The call's own checks refuse: 11 and 12.
@@ -52,14 +53,14 @@ module _ (s : List ℕ) where
     unfolding Accepted settleChecks
     table-short table h = demand1 s .settle-refused table 12 0 (first-right (acceptChecks s) _ ok ∙ less-stops 12 0 [] (length table) (kindCount s * kindCount s) h)
 
-    pub no-field : (i : ℕ) (buffer : List ℕ) → fieldCount s ≤ i → formOf s i buffer ≡ record { answer = refused 11 0; lent = buffer }
+    pub no-field : (sense : Sense) (i : ℕ) (buffer : List ℕ) → fieldCount s ≤ i → formingIn sense s i buffer ≡ record { answer = refused 11 0; lent = buffer }
     unfolding Accepted formChecks
-    no-field i buffer h = demand1 s .form-refused i buffer 11 0 (first-right (acceptChecks s) _ ok ∙ past-stops 11 0 _ i (fieldCount s) h)
+    no-field sense i buffer h = demand1 s .form-refused sense i buffer 11 0 (first-right (acceptChecks s) _ ok ∙ past-stops 11 0 _ i (fieldCount s) h)
 
-    pub buffer-short : (i : ℕ) (buffer : List ℕ) → i < fieldCount s → length buffer < kindCount s → formOf s i buffer ≡ record { answer = refused 12 0; lent = buffer }
+    pub buffer-short : (sense : Sense) (i : ℕ) (buffer : List ℕ) → i < fieldCount s → length buffer < kindCount s → formingIn sense s i buffer ≡ record { answer = refused 12 0; lent = buffer }
     unfolding Accepted formChecks
-    buffer-short i buffer l h =
-        demand1 s .form-refused i buffer 12 0
+    buffer-short sense i buffer l h =
+        demand1 s .form-refused sense i buffer 12 0
         (first-right (acceptChecks s) _ ok ∙ past-passes 11 0 _ i (fieldCount s) l ∙ less-stops 12 0 [] (length buffer) (kindCount s) h)
 
     -- A sheet that is accepted lies within the limits.
@@ -67,7 +68,7 @@ module _ (s : List ℕ) where
     limits = demand1 s .accepted .0 ok
 
     -- The table of the settled stage's rows.
-    pub table-is : (rows : List ℕ) → BaseAt s (settledStage (cardOf s)) rows → tableIn (kindCount s) rows ≡ tableOf s
+    pub table-is : (rows : List ℕ) → BaseAt plain s (settledStage (cardOf s)) rows → tableIn (kindCount s) rows ≡ tableOf s
     table-is rows B = ext-getD 0 (tableIn (kindCount s) rows) (tableOf s) (table-long (kindCount s) rows ∙ sym (demand1 s .table-size)) each
       where
         each : (i : ℕ) → i < length (tableIn (kindCount s) rows) → getD (tableIn (kindCount s) rows) i 0 ≡ getD (tableOf s) i 0
@@ -79,20 +80,20 @@ module _ (s : List ℕ) where
             ∙ ap (at (tableOf s)) (div-add-mod' i (kindCount s))
 
     -- Settle: the stage, and the table written.
-    pub settle-given : (rows table : List ℕ) → BaseAt s (settledStage (cardOf s)) rows → kindCount s * kindCount s ≤ length table
+    pub settle-given : (rows table : List ℕ) → BaseAt plain s (settledStage (cardOf s)) rows → kindCount s * kindCount s ≤ length table
         → settleOf s table ≡ record { answer = given (settledStage (cardOf s)); lent = written (tableIn (kindCount s) rows) table }
     settle-given rows table B h = demand1 s .settled limits table h ∙ ap (λ (xs : List ℕ). record { answer = given (settledStage (cardOf s)); lent = written xs table }) (sym (table-is rows B))
 
     -- Prime form: the counts written, where the first n of them are the prime form.
-    pub form-given : (i : ℕ) (counts buffer : List ℕ) → i < fieldCount s → kindCount s ≤ length buffer → counts ≡ primeForm s i
-        → formOf s i buffer ≡ record { answer = given tt; lent = written counts buffer }
-    form-given i counts buffer h l e = demand1 s .formed limits i buffer h l ∙ ap (λ (xs : List ℕ). record { answer = given tt; lent = written xs buffer }) (sym e)
+    pub form-given : (sense : Sense) (i : ℕ) (counts buffer : List ℕ) → i < fieldCount s → kindCount s ≤ length buffer → counts ≡ primeFormIn sense s i
+        → formingIn sense s i buffer ≡ record { answer = given tt; lent = written counts buffer }
+    form-given sense i counts buffer h l e = demand1 s .formed limits sense i buffer h l ∙ ap (λ (xs : List ℕ). record { answer = given tt; lent = written xs buffer }) (sym e)
 
     -- The rounds that Compare reports fit 64 bits.
-    pub rounds-fit : Bytes s → (i j t r : ℕ) → i < fieldCount s → j < fieldCount s → compareOf s i j ≡ given (different t r) → r < 2 ^ 64
-    rounds-fit bytes i j t r h l e =
+    pub rounds-fit : Bytes s → (sense : Sense) (i j t r : ℕ) → i < fieldCount s → j < fieldCount s → compareIn sense s i j ≡ given (different t r) → r < 2 ^ 64
+    rounds-fit bytes sense i j t r h l e =
         let W = meanings {0} .widths s bytes ok in
-        omega (arith, W .verdict-most i j t r h l e .1, W .narrow .1)
+        omega (arith, W .verdict-most sense i j t r h l e .1, W .narrow .1)
 
     pub gain-fits : Bytes s → gain (cardOf s) + 1 < 2 ^ 64
     gain-fits bytes = let W = meanings {0} .widths s bytes ok in omega (arith, W .gain-most)

@@ -9,16 +9,18 @@ use native.Mathlib.Omega.{arith}
 use lib.ListN.{length, take, List·getD-append}
 use lib.Seq.{take-at}
 use Rattle.model.specs.Field.{Field, unit, at}
-use Rattle.model.specs.Card.{Reached, reachedCount}
+use Rattle.model.specs.Card.{Card, Reached, reachedCount}
 use Rattle.model.specs.Base.{settledStage, settledRow}
-use Rattle.theory.specs.Game.{Always, Answered}
+use Rattle.model.specs.Sense.{Sense, plain, finer}
+use Rattle.theory.specs.Game.{Strategy, Answered}
+use Rattle.theory.specs.FinerGame.{FinerAnswered, AlwaysIn, AnsweredIn}
 use Rattle.model.specs.Sheet.{kindCount, fieldCount, cardOf, fieldOf}
 use Rattle.model.specs.Limits.{Limits}
 use Rattle.model.specs.Refusal.{Accepted, clear, refusal, firstOf, settleChecks, compareChecks, formChecks}
 use Rattle.theory.specs.Terms.{Before, BaseOf, Stage, Prime, Settled as IsSettled}
 use Rattle.theory.specs.Meanings.{Settles}
 use Rattle.theory.specs.Demands.{Demand2, Demand3}
-use Rattle.model.specs.Answer.{refused, given, Lent, same, different, settleOf, compareOf, formOf, rowOf, rowCheckOf, tableOf, primeForm, written}
+use Rattle.model.specs.Answer.{refused, given, Lent, same, different, settleOf, compareIn, formingIn, rowOf, rowCheckOf, tableOf, primeFormIn, written}
 use Rattle.theory.proofs.Lists.{length-from}
 use Rattle.theory.proofs.Field.{unit-same, unit-other}
 use Rattle.theory.proofs.Sheets.{sheet-clear, tells-reached, under-kinds, field-kinds}
@@ -104,8 +106,8 @@ module _ (s table : List ℕ) (answer : Settling) (after : List ℕ) (e : settli
     unfolding cardOf
     card-kinds = refl
 
-    settles : Settles (cardOf s)
-    settles = meanings {0} .settles s ok
+    settles : Settles plain (cardOf s)
+    settles = meanings {0} .settles plain s ok
 
     stage-is : (t : ℕ) → answer ≡ Settled t → settledStage (cardOf s) ≡ t
     stage-is t h = let a = settle-given limits room .0 in cc
@@ -166,7 +168,7 @@ module _ (s table : List ℕ) (answer : Settling) (after : List ℕ) (e : settli
 
     -- A row is itself once just when its kind is prime; a kind that is out is not, and its row is empty.
     own-row {ℓ} : (k : ℕ) → Dec (Reached (cardOf s) k) → (settledRow (cardOf s) k ≡ unit k) ↔ Prime {ℓ} (cardOf s) k
-    own-row k (yes v) = meanings {ℓ} .primes s ok .own-row k v
+    own-row k (yes v) = meanings {ℓ} .primes plain s ok .own-row k v
     own-row k (no v) = (
       (λ e. absurd (omega (arith, ap (λ (f : Field). f k) (sym (settles .out-row (settledStage (cardOf s)) k v) ∙ e), unit-same k))),
       (λ p. absurd (v (p .0))),
@@ -194,42 +196,47 @@ row-answers n k table answer part e d = record {
   );
 }
 
+-- The pair left after no challenge is the pair itself.
+left-always : (sense : Sense) (c : Card) (f : Strategy c) (a b : Field) → AnsweredIn sense c f (AlwaysIn sense c) [] [] a b → AlwaysIn sense c a b
+unfolding Answered FinerAnswered
+left-always plain c f a b x = x
+left-always finer c f a b x = x .1
+
 -- Compare.
-module _ (s : List ℕ) (i j : ℕ) (answer : Verdict) (e : verdictOf answer ≡ compareOf s i j) where
-  is-same : (answer ≡ Same) ↔ (compareOf s i j ≡ given same)
+module _ (sense : Sense) (s : List ℕ) (i j : ℕ) (answer : Verdict) (e : verdictOf answer ≡ compareIn sense s i j) where
+  is-same : (answer ≡ Same) ↔ (compareIn sense s i j ≡ given same)
   is-same = told verdictOf verdict-only answer e Same
 
-  is-different : (t r : ℕ) → (answer ≡ Different t r) ↔ (compareOf s i j ≡ given (different t r))
+  is-different : (t r : ℕ) → (answer ≡ Different t r) ↔ (compareIn sense s i j ≡ given (different t r))
   is-different t r = told verdictOf verdict-only answer e (Different t r)
 
-  some-different : ((t : ℕ) × (r : ℕ) × (answer ≡ Different t r)) ↔ ((t : ℕ) × (r : ℕ) × (compareOf s i j ≡ given (different t r)))
+  some-different : ((t : ℕ) × (r : ℕ) × (answer ≡ Different t r)) ↔ ((t : ℕ) × (r : ℕ) × (compareIn sense s i j ≡ given (different t r)))
   some-different = ((λ x. (x .0, x .1, is-different (x .0) (x .1) .0 (x .2))), (λ x. (x .0, x .1, is-different (x .0) (x .1) .1 (x .2))))
 
   compare-refused : (k p : ℕ) → (answer ≡ NotCalled k p) ↔ (firstOf (compareChecks s i j) ≡ refusal k p)
-  unfolding compareOf
+  unfolding compareIn
   compare-refused k p =
       Iff·trans (told verdictOf verdict-only answer e (NotCalled k p)) (found (λ x. x) _ refused _ refl (λ k p. refl) (firstOf (compareChecks s i j)) k p)
 
   compare-answers : CompareAnswers s i j answer
-  compare-answers = record { called = λ L h l. go (demand1 s .called L i j h l); refused = compare-refused }
+  compare-answers = record { called = λ L h l. go (demand1 s .called L sense i j h l); refused = compare-refused }
     where
-      go : (compareOf s i j ≡ given same) ⊎ ((t : ℕ) × (r : ℕ) × (compareOf s i j ≡ given (different t r))) → (answer ≡ Same) ⊎ ((t : ℕ) × (r : ℕ) × (answer ≡ Different t r))
+      go : (compareIn sense s i j ≡ given same) ⊎ ((t : ℕ) × (r : ℕ) × (compareIn sense s i j ≡ given (different t r))) → (answer ≡ Same) ⊎ ((t : ℕ) × (r : ℕ) × (answer ≡ Different t r))
       go (inl x) = inl (is-same .1 x)
       go (inr x) = inr (some-different .1 x)
 
   module _ (ok : Accepted s) (h : i < fieldCount s) (l : j < fieldCount s) where
-    compare-means {ℓ} : CompareMeans {ℓ} s i j answer
+    compare-means {ℓ} : CompareMeans {ℓ} sense s i j answer
     compare-means =
-        let D : Demand2 {ℓ} s i j = demands {ℓ} .demand2 s ok i j h l in
+        let D : Demand2 {ℓ} sense s i j = demands {ℓ} .demand2 sense s ok i j h l in
         record { same-means = Iff·trans is-same (D .same-means); different-means = Iff·trans some-different (D .different-means) }
 
-    same-holds : answer ≡ Same → Always (cardOf s) (fieldOf s i) (fieldOf s j)
-    unfolding Answered
-    same-holds x = demands {0} .demand3 s ok i j h l .same-plays (is-same .0 x) .1 []
+    same-holds : answer ≡ Same → AlwaysIn sense (cardOf s) (fieldOf s i) (fieldOf s j)
+    same-holds x = left-always sense _ _ _ _ (demands {0} .demand3 sense s ok i j h l .same-plays (is-same .0 x) .1 [])
 
-    compare-games : CompareGames s i j answer
+    compare-games : CompareGames sense s i j answer
     compare-games =
-        let D : Demand3 s i j = demands {0} .demand3 s ok i j h l in
+        let D : Demand3 sense s i j = demands {0} .demand3 sense s ok i j h l in
         record {
           same-plays = λ x. D .same-plays (is-same .0 x);
           plays-same = λ f x. is-same .1 (D .plays-same f x);
@@ -241,45 +248,49 @@ module _ (s : List ℕ) (i j : ℕ) (answer : Verdict) (e : verdictOf answer ≡
         }
 
 -- Prime form.
-module _ (s : List ℕ) (i : ℕ) (buffer after : List ℕ) (d : after ≡ formOf s i buffer .lent) where
-  module _ (answer : Forming) (e : formingOf answer ≡ formOf s i buffer .answer) where
+module _ (sense : Sense) (s : List ℕ) (i : ℕ) (buffer after : List ℕ) (d : after ≡ formingIn sense s i buffer .lent) where
+  module _ (answer : Forming) (e : formingOf answer ≡ formingIn sense s i buffer .answer) where
     form-refused : (k p : ℕ) → (answer ≡ NotFormed k p) ↔ (firstOf (formChecks s i (length buffer)) ≡ refusal k p)
-    unfolding formOf
+    unfolding formingIn
     form-refused k p =
         Iff·trans (told formingOf forming-only answer e (NotFormed k p))
-        (found (λ (x : Lent (Unit {0})). x .answer) (record { answer = given tt; lent = written (primeForm s i) buffer }) (λ k p. record { answer = refused k p; lent = buffer })
+        (found (λ (x : Lent (Unit {0})). x .answer) (record { answer = given tt; lent = written (primeFormIn sense s i) buffer }) (λ k p. record { answer = refused k p; lent = buffer })
         tt refl (λ k p. refl) (firstOf (formChecks s i (length buffer))) k p)
 
-    form-answers : FormAnswers s i buffer answer after
+    form-answers : FormAnswers sense s i buffer answer after
     form-answers = record {
-      formed = λ L h l. let r = demand1 s .formed L i buffer h l in (forming-only answer Written (e ∙ answer-of r), d ∙ lent-of r);
+      formed = λ L h l. let r = demand1 s .formed L sense i buffer h l in (forming-only answer Written (e ∙ answer-of r), d ∙ lent-of r);
       refused = form-refused;
-      unchanged = λ k p h. d ∙ lent-of (demand1 s .form-refused i buffer k p (form-refused k p .0 h));
-      size = demand1 s .form-size i;
-      past = λ e h. ap (λ (xs : List ℕ). at xs e) d ∙ demand1 s .form-past i buffer e h;
-      long = ap length d ∙ demand1 s .form-length i buffer;
+      unchanged = λ k p h. d ∙ lent-of (demand1 s .form-refused sense i buffer k p (form-refused k p .0 h));
+      size = demand1 s .form-size sense i;
+      past = λ e h. ap (λ (xs : List ℕ). at xs e) d ∙ demand1 s .form-past sense i buffer e h;
+      long = ap length d ∙ demand1 s .form-length sense i buffer;
     }
 
   module _ (ok : Accepted s) (h : i < fieldCount s) (l : kindCount s ≤ length buffer) where
     -- The buffer begins with the prime form.
-    pub begins : take (kindCount s) after ≡ primeForm s i
-    unfolding written primeForm
+    pub begins : take (kindCount s) after ≡ primeFormIn sense s i
+    unfolding written primeFormIn
     begins =
-        ap (take (kindCount s)) (d ∙ lent-of (demand1 s .formed (demand1 s .accepted .0 ok) i buffer h l))
-        ∙ take-at (primeForm s i) _ (kindCount s) (length-from _ 0 (kindCount s))
+        ap (take (kindCount s)) (d ∙ lent-of (demand1 s .formed (demand1 s .accepted .0 ok) sense i buffer h l))
+        ∙ take-at (primeFormIn sense s i) _ (kindCount s) (length-from _ 0 (kindCount s))
 
-    form-means {ℓ} : FormMeans {ℓ} s i after
+    form-means {ℓ} : FormMeans {ℓ} sense s i after
     form-means =
-        let D : Demand2 {ℓ} s i i = demands {ℓ} .demand2 s ok i i h h in
+        let D : Demand2 {ℓ} sense s i i = demands {ℓ} .demand2 sense s ok i i h h in
         record { primes = λ k x. D .form-primes k (rw begins at x); bisimilar = rw begins (D .form-bisimilar) }
 
-form-equal : (s : List ℕ) (i j : ℕ) (first second after-first after-second : List ℕ) (answer : Verdict)
-    → after-first ≡ formOf s i first .lent → after-second ≡ formOf s j second .lent → verdictOf answer ≡ compareOf s i j
+form-equal : (sense : Sense) (s : List ℕ) (i j : ℕ) (first second after-first after-second : List ℕ) (answer : Verdict)
+    → after-first ≡ formingIn sense s i first .lent → after-second ≡ formingIn sense s j second .lent → verdictOf answer ≡ compareIn sense s i j
     → Accepted s → i < fieldCount s → j < fieldCount s → kindCount s ≤ length first → kindCount s ≤ length second
     → (take (kindCount s) after-first ≡ take (kindCount s) after-second) ↔ (answer ≡ Same)
-form-equal s i j first second after-first after-second answer d f e ok h l x y =
-    let D : Demand2 {0} s i j = demands {0} .demand2 s ok i j h l in
-    rw (begins s i first after-first d ok h x, begins s j second after-second f ok l y) (Iff·trans (D .form-equal) (Iff·symm (is-same s i j answer e)))
+form-equal sense s i j first second after-first after-second answer d f e ok h l x y =
+    let D : Demand2 {0} sense s i j = demands {0} .demand2 sense s ok i j h l in
+    rw (begins sense s i first after-first d ok h x, begins sense s j second after-second f ok l y) (Iff·trans (D .form-equal) (Iff·symm (is-same sense s i j answer e)))
+
+finer-same : (s : List ℕ) (i j : ℕ) (answer finer-answer : Verdict) → verdictOf answer ≡ compareIn plain s i j → verdictOf finer-answer ≡ compareIn finer s i j
+    → finer-answer ≡ Same → answer ≡ Same
+finer-same s i j answer finer-answer e d x = is-same plain s i j answer e .1 (meanings {0} .finer s .finer-same i j (is-same finer s i j finer-answer d .0 x))
 
 pub promises {ℓ} : Promises {ℓ}
 promises = record {
@@ -287,9 +298,10 @@ promises = record {
   settle-means = λ s table answer after e d ok room. settle-means s table answer after e d ok room;
   row-answers = row-answers;
   compare-answers = compare-answers;
-  compare-means = λ s i j answer e ok h l. compare-means s i j answer e ok h l;
+  compare-means = λ sense s i j answer e ok h l. compare-means sense s i j answer e ok h l;
   compare-games = compare-games;
-  form-answers = λ s i buffer answer after e d. form-answers s i buffer after d answer e;
-  form-means = λ s i buffer after d ok h l. form-means s i buffer after d ok h l;
+  finer-same = finer-same;
+  form-answers = λ sense s i buffer answer after e d. form-answers sense s i buffer after d answer e;
+  form-means = λ sense s i buffer after d ok h l. form-means sense s i buffer after d ok h l;
   form-equal = form-equal;
 }

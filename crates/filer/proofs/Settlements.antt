@@ -4,12 +4,13 @@ use mathlib.Core.Path.{_≡_, sym, _∙_, ap}
 use Prim.Native.Nat.{ℕ, _*_, _^_, _≤_, _<_}
 use native.Mathlib.Omega.{arith}
 use lib.ListN.{length, take}
+use Rattle.model.specs.Sense.{Sense, plain}
 use Rattle.model.specs.Norm.{kindNorm}
-use Rattle.model.specs.Base.{settledStage, roundsAt}
+use Rattle.model.specs.Base.{settledStageIn, roundsAt}
 use Rattle.model.specs.Sheet.{kindCount, fieldCount, cardOf, fieldOf}
 use Rattle.model.specs.Refusal.{Finding, clear, refusal, firstOf, acceptChecks, Accepted}
 use Rattle.theory.specs.Widths.{Bytes}
-use Rattle.model.specs.Answer.{refused, given, same, different, settleOf, compareOf, primeForm, formOf, written}
+use Rattle.model.specs.Answer.{refused, given, same, different, settleOf, compareIn, primeFormIn, formingIn, written}
 use Rattle.sheet.specs.declared.reader.Card.{Card}
 use Rattle.validation.specs.Fields.{withFields}
 use Rattle.validation.specs.declared.checks.Checked.the-variants.{Passed, Refused}
@@ -28,14 +29,14 @@ use Rattle.theory.proofs.Told.{gives}
 use Rattle.filer.proofs.Calls.{settle-refused, compare-refused, form-refused, table-short, no-field, buffer-short, settle-given, form-given, rounds-fit}
 
 -- The core function's answer, from the check of the sheet.
-module _ (s : List ℕ) (a : Acceptance) (e : a ≡ acceptanceOf s) (settled : Settled) where
+module _ (sense : Sense) (s : List ℕ) (a : Acceptance) (e : a ≡ acceptanceOf s) (settled : Settled) where
   checked-is : a .checked ≡ acceptanceOf s .checked
   checked-is = ap (λ (x : Acceptance). x .checked) e
 
   norms-are : a .norms ≡ acceptanceOf s .norms
   norms-are = ap (λ (x : Acceptance). x .norms) e
 
-  pub settlement-refused : (k p : ℕ) → a .checked ≡ Refused k p → IsSettlement s (record { checked = Refused k p; norms = a .norms; settled = settled })
+  pub settlement-refused : (k p : ℕ) → a .checked ≡ Refused k p → IsSettlement sense s (record { checked = Refused k p; norms = a .norms; settled = settled })
   unfolding Accepted
   settlement-refused k p d = record {
     checked-is = sym d ∙ checked-is;
@@ -46,25 +47,22 @@ module _ (s : List ℕ) (a : Acceptance) (e : a ≡ acceptanceOf s) (settled : S
       never : {A : Type 0} → _≡_ {A = Finding} clear (refusal k p) → A
       never z = let q : _≡_ {A = ℕ} 0 1 = cc in absurd (omega arith)
 
-  pub settlement-passed : (c : Card) → a .checked ≡ Passed c → IsSettled s settled
-      → IsSettlement s (record { checked = Passed c; norms = a .norms; settled = settled })
+  pub settlement-passed : (c : Card) → a .checked ≡ Passed c → IsSettled sense s settled
+      → IsSettlement sense s (record { checked = Passed c; norms = a .norms; settled = settled })
   settlement-passed c d S = record { checked-is = sym d ∙ checked-is; norms-are = norms-are; settled-is = λ ok. S }
 
-module _ {s : List ℕ} {x : Settlement} (X : IsSettlement s x) where
+module _ {sense : Sense} {s : List ℕ} {x : Settlement} (X : IsSettlement sense s x) where
   -- The checks of the sheet and of the two field numbers refuse.
-  pub compare-refuses : (i j k p : ℕ) → withFields i j (x .checked) ≡ Refused k p → refused k p ≡ compareOf s i j
-  compare-refuses i j k p e = sym (compare-refused s (x .checked) (X .checked-is) i j k p e)
+  pub compare-refuses : (i j k p : ℕ) → withFields i j (x .checked) ≡ Refused k p → refused k p ≡ compareIn sense s i j
+  compare-refuses i j k p e = sym (compare-refused s (x .checked) (X .checked-is) sense i j k p e)
 
   -- The sheet was refused: so is every call.
   module _ (k p : ℕ) (e : x .checked ≡ Refused k p) where
     found : firstOf (acceptChecks s) ≡ refusal k p
     found = found-refused s k p (sym (X .checked-is) ∙ e)
 
-    pub settle-refuses : (table : List ℕ) → (refused k p ≡ settleOf s table .answer) × (table ≡ settleOf s table .lent)
-    settle-refuses table = gives (settle-refused s k p found table)
-
-    pub form-refuses : (i : ℕ) (buffer : List ℕ) → (refused k p ≡ formOf s i buffer .answer) × (buffer ≡ formOf s i buffer .lent)
-    form-refuses i buffer = gives (form-refused s k p found i buffer)
+    pub form-refuses : (i : ℕ) (buffer : List ℕ) → (refused k p ≡ formingIn sense s i buffer .answer) × (buffer ≡ formingIn sense s i buffer .lent)
+    form-refuses i buffer = gives (form-refused s k p found sense i buffer)
 
   -- The sheet was accepted.
   module _ (c : Card) (e : x .checked ≡ Passed c) where
@@ -74,7 +72,7 @@ module _ {s : List ℕ} {x : Settlement} (X : IsSettlement s x) where
     ok : Accepted s
     ok = was-accepted .accepted
 
-    pub was-settled : IsSettled s (x .settled)
+    pub was-settled : IsSettled sense s (x .settled)
     was-settled = X .settled-is ok
 
     kinds : c .kinds ≡ kindCount s
@@ -83,43 +81,48 @@ module _ {s : List ℕ} {x : Settlement} (X : IsSettlement s x) where
     fields : c .fields ≡ fieldCount s
     fields = fields-are (was-accepted .reads)
 
-    -- Settle.
-    module _ (table : List ℕ) where
-      pub settle-short : length table < c .kinds * c .kinds → (refused 12 0 ≡ settleOf s table .answer) × (table ≡ settleOf s table .lent)
-      settle-short h = gives (table-short s ok table (rw kinds at h))
-
-      pub settle-writes : (after : List ℕ) → c .kinds * c .kinds ≤ length table → after ≡ written (tableIn (c .kinds) (x .settled .base .rows)) table
-          → (given (x .settled .stage) ≡ settleOf s table .answer) × (after ≡ settleOf s table .lent)
-      settle-writes after h w =
-          let g = gives (settle-given s ok (x .settled .base .rows) table (was-settled .base-is) (rw kinds at h)) in
-          (ap given (was-settled .stage-is) ∙ g .0, w ∙ ap (λ (n : ℕ). written (tableIn n (x .settled .base .rows)) table) kinds ∙ g .1)
-
     -- Compare, from the least stage that parts the two.
-    module _ (i j : ℕ) (h : i < c .fields) (l : j < c .fields) (d : ℕ) (p : d ≡ partedBy s (settledStage (cardOf s)) i j) where
-      pub compare-same-called : x .settled .stage < d → given same ≡ compareOf s i j
-      compare-same-called u = sym (compare-same s ok i j (rw fields at h) (rw fields at l) d p (rw (was-settled .stage-is) at u))
+    module _ (i j : ℕ) (h : i < c .fields) (l : j < c .fields) (d : ℕ) (p : d ≡ partedBy sense s (settledStageIn sense (cardOf s)) i j) where
+      pub compare-same-called : x .settled .stage < d → given same ≡ compareIn sense s i j
+      compare-same-called u = sym (compare-same sense s ok i j (rw fields at h) (rw fields at l) d p (rw (was-settled .stage-is) at u))
 
       module _ (u : d ≤ x .settled .stage) where
-        parted : compareOf s i j ≡ given (different d (roundsAt (cardOf s) (kindNorm (cardOf s)) d (fieldOf s i) (fieldOf s j)))
-        parted = compare-different s ok i j (rw fields at h) (rw fields at l) d p (rw (was-settled .stage-is) at u)
+        parted : compareIn sense s i j ≡ given (different d (roundsAt (cardOf s) (kindNorm (cardOf s)) d (fieldOf s i) (fieldOf s j)))
+        parted = compare-different sense s ok i j (rw fields at h) (rw fields at l) d p (rw (was-settled .stage-is) at u)
 
         pub compare-rounds-fit : Bytes s → roundsAt (cardOf s) (kindNorm (cardOf s)) d (fieldOf s i) (fieldOf s j) < 2 ^ 64
-        compare-rounds-fit bytes = rounds-fit s ok bytes i j _ _ (rw fields at h) (rw fields at l) parted
+        compare-rounds-fit bytes = rounds-fit s ok bytes sense i j _ _ (rw fields at h) (rw fields at l) parted
 
-        pub compare-different-called : (r : ℕ) → r ≡ roundsAt (cardOf s) (kindNorm (cardOf s)) d (fieldOf s i) (fieldOf s j) → given (different d r) ≡ compareOf s i j
+        pub compare-different-called : (r : ℕ) → r ≡ roundsAt (cardOf s) (kindNorm (cardOf s)) d (fieldOf s i) (fieldOf s j) → given (different d r) ≡ compareIn sense s i j
         compare-different-called r q = ap (λ (n : ℕ). given (different d n)) q ∙ sym parted
 
     -- Prime form.
     module _ (i : ℕ) (buffer : List ℕ) where
-      pub form-no-field : c .fields ≤ i → (refused 11 0 ≡ formOf s i buffer .answer) × (buffer ≡ formOf s i buffer .lent)
-      form-no-field h = gives (no-field s ok i buffer (rw fields at h))
+      pub form-no-field : c .fields ≤ i → (refused 11 0 ≡ formingIn sense s i buffer .answer) × (buffer ≡ formingIn sense s i buffer .lent)
+      form-no-field h = gives (no-field s ok sense i buffer (rw fields at h))
 
       module _ (h : i < c .fields) where
-        pub form-short : length buffer < c .kinds → (refused 12 0 ≡ formOf s i buffer .answer) × (buffer ≡ formOf s i buffer .lent)
-        form-short l = gives (buffer-short s ok i buffer (rw fields at h) (rw kinds at l))
+        pub form-short : length buffer < c .kinds → (refused 12 0 ≡ formingIn sense s i buffer .answer) × (buffer ≡ formingIn sense s i buffer .lent)
+        form-short l = gives (buffer-short s ok sense i buffer (rw fields at h) (rw kinds at l))
 
-        pub form-writes : (form after : List ℕ) → c .kinds ≤ length buffer → take (kindCount s) form ≡ primeForm s i → after ≡ written (take (c .kinds) form) buffer
-            → (given tt ≡ formOf s i buffer .answer) × (after ≡ formOf s i buffer .lent)
+        pub form-writes : (form after : List ℕ) → c .kinds ≤ length buffer → take (kindCount s) form ≡ primeFormIn sense s i → after ≡ written (take (c .kinds) form) buffer
+            → (given tt ≡ formingIn sense s i buffer .answer) × (after ≡ formingIn sense s i buffer .lent)
         form-writes form after l f w =
-            let g = gives (form-given s ok i (take (c .kinds) form) buffer (rw fields at h) (rw kinds at l) (rw kinds f)) in
+            let g = gives (form-given s ok sense i (take (c .kinds) form) buffer (rw fields at h) (rw kinds at l) (rw kinds f)) in
             (g .0, w ∙ g .1)
+
+-- Settle, which speaks of the plain sense alone.
+module _ {s : List ℕ} {x : Settlement} (X : IsSettlement plain s x) (table : List ℕ) where
+  pub settle-refuses : (k p : ℕ) → x .checked ≡ Refused k p → (refused k p ≡ settleOf s table .answer) × (table ≡ settleOf s table .lent)
+  settle-refuses k p e = gives (settle-refused s k p (found X k p e) table)
+
+  module _ (c : Card) (e : x .checked ≡ Passed c) where
+    pub settle-short : length table < c .kinds * c .kinds → (refused 12 0 ≡ settleOf s table .answer) × (table ≡ settleOf s table .lent)
+    settle-short h = gives (table-short s (ok X c e) table (rw (kinds X c e) at h))
+
+    pub settle-writes : (after : List ℕ) → c .kinds * c .kinds ≤ length table → after ≡ written (tableIn (c .kinds) (x .settled .base .rows)) table
+        → (given (x .settled .stage) ≡ settleOf s table .answer) × (after ≡ settleOf s table .lent)
+    settle-writes after h w =
+        let S = was-settled X c e in
+        let g = gives (settle-given s (ok X c e) (x .settled .base .rows) table (S .base-is) (rw (kinds X c e) at h)) in
+        (ap given (S .stage-is) ∙ g .0, w ∙ ap (λ (n : ℕ). written (tableIn n (x .settled .base .rows)) table) (kinds X c e) ∙ g .1)

@@ -1,4 +1,5 @@
--- What the answers mean: the three demands, said of the enums that the calls return and of what they leave in the lent buffers.
+-- What the answers mean: the three demands, said of the enums that the calls return and of what they leave in the lent buffers. Of Compare and Prime form they are said in each sense: document
+-- 01's, and that of the finer services (request 7 of document 02).
 use mathlib.Core.List.{List, []}
 use mathlib.Core.Logic.{_↔_, _⊎_}
 use mathlib.Core.Path.{_≡_}
@@ -7,14 +8,16 @@ use lib.ListN.{length, take, drop}
 use Rattle.model.specs.Field.{none, unit, at}
 use Rattle.model.specs.Card.{On, Reached, reachedCount}
 use Rattle.model.specs.Norm.{IsNorm}
-use Rattle.theory.specs.Expansion.{Expands, Bisimilar}
+use Rattle.model.specs.Sense.{Sense, plain, finer}
+use Rattle.theory.specs.Expansion.{Expands, BisimilarIn}
 use Rattle.model.specs.Base.{settledStage}
-use Rattle.theory.specs.Game.{Holds, Always, Parting, Parted, Strategy, Answered, Challenge}
+use Rattle.theory.specs.Game.{Strategy, Challenge}
+use Rattle.theory.specs.FinerGame.{HoldsIn, AlwaysIn, PartingIn, PartedIn, AnsweredIn}
 use Rattle.model.specs.Sheet.{kindCount, fieldCount, cardOf, fieldOf}
 use Rattle.model.specs.Limits.{mostKinds, Limits}
 use Rattle.model.specs.Refusal.{Accepted, refusal, firstOf, settleChecks, compareChecks, formChecks, rowChecks}
-use Rattle.theory.specs.Terms.{IsGain, Stage, BaseOf, Prime, Settled as IsSettled}
-use Rattle.model.specs.Answer.{settleOf, compareOf, formOf, rowOf, rowCheckOf, tableOf, primeForm, written}
+use Rattle.theory.specs.Terms.{IsGain, Stage, StageIn, BaseOf, Prime, PrimeIn, Settled as IsSettled}
+use Rattle.model.specs.Answer.{settleOf, compareIn, formingIn, rowOf, rowCheckOf, tableOf, primeFormIn, written}
 use Rattle.filer.specs.Answers.{settlingOf, findingOf, verdictOf, formingOf}
 use Rattle.filer.specs.declared.answers.Settling.{Settling}
 use Rattle.filer.specs.declared.answers.Settling.the-variants.{Settled, Refused as NotSettled}
@@ -67,51 +70,51 @@ pub record CompareAnswers (s : List ℕ) (i j : ℕ) (answer : Verdict) : Type 0
   pub refused : (k p : ℕ) → (answer ≡ NotCalled k p) ↔ (firstOf (compareChecks s i j) ≡ refusal k p)
 
 -- Demand 2 of Compare, of fields i and j of an accepted sheet, with bisimulations of every universe.
-pub record CompareMeans {ℓ} (s : List ℕ) (i j : ℕ) (answer : Verdict) : Type (ℓ + 1) where
+pub record CompareMeans {ℓ} (sense : Sense) (s : List ℕ) (i j : ℕ) (answer : Verdict) : Type (ℓ + 1) where
   -- "Same means that some bisimulation of Hirshfeld, Jerrum and Moller relates them, and different that none does."
-  pub same-means : (answer ≡ Same) ↔ Bisimilar {ℓ} (On (cardOf s)) (fieldOf s i) (fieldOf s j)
-  pub different-means : ((t : ℕ) × (r : ℕ) × (answer ≡ Different t r)) ↔ (¬ Bisimilar {ℓ} (On (cardOf s)) (fieldOf s i) (fieldOf s j))
+  pub same-means : (answer ≡ Same) ↔ BisimilarIn {ℓ} sense (cardOf s) (fieldOf s i) (fieldOf s j)
+  pub different-means : ((t : ℕ) × (r : ℕ) × (answer ≡ Different t r)) ↔ (¬ BisimilarIn {ℓ} sense (cardOf s) (fieldOf s i) (fieldOf s j))
 
 -- Demand 3 of Compare, one claim about whole games, of fields i and j of an accepted sheet.
-pub record CompareGames (s : List ℕ) (i j : ℕ) (answer : Verdict) : Type 0 where
+pub record CompareGames (sense : Sense) (s : List ℕ) (i j : ℕ) (answer : Verdict) : Type 0 where
   -- "The two are called same exactly when, whatever list of challenges is given, however long and on whichever side each falls, every
   -- challenge can be answered, by replies that need not know what is still to come." The pair left after every such list holds at every r.
   pub same-plays : answer ≡ Same
-      → (f : Strategy (cardOf s)) × ((hs : List (Challenge (cardOf s))) → Answered (cardOf s) f (Always (cardOf s)) [] hs (fieldOf s i) (fieldOf s j))
+      → (f : Strategy (cardOf s)) × ((hs : List (Challenge (cardOf s))) → AnsweredIn sense (cardOf s) f (AlwaysIn sense (cardOf s)) [] hs (fieldOf s i) (fieldOf s j))
   pub plays-same : (f : Strategy (cardOf s))
-      → ((hs : List (Challenge (cardOf s))) → Answered (cardOf s) f (λ _ _. Unit {0}) [] hs (fieldOf s i) (fieldOf s j)) → answer ≡ Same
+      → ((hs : List (Challenge (cardOf s))) → AnsweredIn sense (cardOf s) f (λ _ _. Unit {0}) [] hs (fieldOf s i) (fieldOf s j)) → answer ≡ Same
   -- "Fields called same hold at every r. Each challenge to them has a reply that leaves a pair which again holds at every r".
-  pub same-holds : answer ≡ Same → Always (cardOf s) (fieldOf s i) (fieldOf s j)
-  pub same-again : answer ≡ Same → Expands (On (cardOf s)) (Always (cardOf s)) (fieldOf s i) (fieldOf s j)
+  pub same-holds : answer ≡ Same → AlwaysIn sense (cardOf s) (fieldOf s i) (fieldOf s j)
+  pub same-again : answer ≡ Same → Expands (On (cardOf s)) (AlwaysIn sense (cardOf s)) (fieldOf s i) (fieldOf s j)
   -- "They are called different exactly when some choice of challenges, each made in view of the replies so far, parts them whatever the replies,
   -- and then within the number of rounds reported, which is N + 1 + (s - 1)(g + 1), or N + 1 if s is 0: N the smaller of the two norms, s the
   -- stage reported, never above the number of kinds, g the most that one read adds to a norm." The kinds are those that are reached.
-  pub parted-different : Parting (cardOf s) (fieldOf s i) (fieldOf s j) → (t : ℕ) × (r : ℕ) × (answer ≡ Different t r)
-  pub different-parted : (t r : ℕ) → answer ≡ Different t r → Parting (cardOf s) (fieldOf s i) (fieldOf s j) × Parted (cardOf s) r (fieldOf s i) (fieldOf s j)
-      × (¬ Holds (cardOf s) r (fieldOf s i) (fieldOf s j)) × (t ≤ reachedCount (cardOf s))
+  pub parted-different : PartingIn sense (cardOf s) (fieldOf s i) (fieldOf s j) → (t : ℕ) × (r : ℕ) × (answer ≡ Different t r)
+  pub different-parted : (t r : ℕ) → answer ≡ Different t r → PartingIn sense (cardOf s) (fieldOf s i) (fieldOf s j) × PartedIn sense (cardOf s) r (fieldOf s i) (fieldOf s j)
+      × (¬ HoldsIn sense (cardOf s) r (fieldOf s i) (fieldOf s j)) × (t ≤ reachedCount (cardOf s))
       × ((x : ℕ) × (y : ℕ) × (g : ℕ) × IsNorm (cardOf s) (fieldOf s i) x × IsNorm (cardOf s) (fieldOf s j) y × IsGain (cardOf s) g
       × (t ≡ 0 → r ≡ min x y + 1) × (0 < t → r ≡ min x y + 1 + (t - 1) * (g + 1)))
   -- "The stage is the least that does not relate the pair."
   pub different-stage : (t r : ℕ) → answer ≡ Different t r
-      → (¬ Stage (cardOf s) t (fieldOf s i) (fieldOf s j)) × ((q : ℕ) → q < t → Stage (cardOf s) q (fieldOf s i) (fieldOf s j))
+      → (¬ StageIn sense (cardOf s) t (fieldOf s i) (fieldOf s j)) × ((q : ℕ) → q < t → StageIn sense (cardOf s) q (fieldOf s i) (fieldOf s j))
 
 -- Prime form, of the bytes s, a field number and a lent buffer: its answer, and the buffer afterwards.
-pub record FormAnswers (s : List ℕ) (i : ℕ) (buffer : List ℕ) (answer : Forming) (after : List ℕ) : Type 0 where
+pub record FormAnswers (sense : Sense) (s : List ℕ) (i : ℕ) (buffer : List ℕ) (answer : Forming) (after : List ℕ) : Type 0 where
   -- Demand 1: "every prime form is written".
-  pub formed : Limits s → i < fieldCount s → kindCount s ≤ length buffer → (answer ≡ Written) × (after ≡ written (primeForm s i) buffer)
+  pub formed : Limits s → i < fieldCount s → kindCount s ≤ length buffer → (answer ≡ Written) × (after ≡ written (primeFormIn sense s i) buffer)
   -- Demand 1: "Every other sheet, field number .. or short buffer gets the first number that applies in the table, and nothing lent changes."
   pub refused : (k p : ℕ) → (answer ≡ NotFormed k p) ↔ (firstOf (formChecks s i (length buffer)) ≡ refusal k p)
   pub unchanged : (k p : ℕ) → answer ≡ NotFormed k p → after ≡ buffer
   -- "n counts"; "Bytes of a lent buffer past those named keep their values."
-  pub size : length (primeForm s i) ≡ kindCount s
+  pub size : length (primeFormIn sense s i) ≡ kindCount s
   pub past : (e : ℕ) → kindCount s ≤ e → at after e ≡ at buffer e
   pub long : length after ≡ length buffer
 
 -- Demand 2 of Prime form, of field i of an accepted sheet and a buffer that is large enough: the n counts that it then begins with.
-pub record FormMeans {ℓ} (s : List ℕ) (i : ℕ) (after : List ℕ) : Type (ℓ + 1) where
+pub record FormMeans {ℓ} (sense : Sense) (s : List ℕ) (i : ℕ) (after : List ℕ) : Type (ℓ + 1) where
   -- "A prime form holds prime kinds only, is bisimilar to its field".
-  pub primes : (k : ℕ) → 0 < at (take (kindCount s) after) k → Prime {ℓ} (cardOf s) k
-  pub bisimilar : Bisimilar {ℓ} (On (cardOf s)) (fieldOf s i) (at (take (kindCount s) after))
+  pub primes : (k : ℕ) → 0 < at (take (kindCount s) after) k → PrimeIn {ℓ} sense (cardOf s) k
+  pub bisimilar : BisimilarIn {ℓ} sense (cardOf s) (fieldOf s i) (at (take (kindCount s) after))
 
 -- The promises. Each takes the equations of a call's contract, and says what they mean.
 pub record Promises {ℓ} : Type (ℓ + 1) where
@@ -122,17 +125,20 @@ pub record Promises {ℓ} : Type (ℓ + 1) where
       → Accepted s → kindCount s * kindCount s ≤ length table → SettleMeans {ℓ} s table answer after
   pub row-answers : (n k : ℕ) (table : List ℕ) (answer : RowCheck) (part : List ℕ)
       → findingOf answer ≡ rowCheckOf n k table → part ≡ rowOf n k table → RowAnswers n k table answer part
-  pub compare-answers : (s : List ℕ) (i j : ℕ) (answer : Verdict) → verdictOf answer ≡ compareOf s i j → CompareAnswers s i j answer
-  pub compare-means : (s : List ℕ) (i j : ℕ) (answer : Verdict) → verdictOf answer ≡ compareOf s i j
-      → Accepted s → i < fieldCount s → j < fieldCount s → CompareMeans {ℓ} s i j answer
-  pub compare-games : (s : List ℕ) (i j : ℕ) (answer : Verdict) → verdictOf answer ≡ compareOf s i j
-      → Accepted s → i < fieldCount s → j < fieldCount s → CompareGames s i j answer
-  pub form-answers : (s : List ℕ) (i : ℕ) (buffer : List ℕ) (answer : Forming) (after : List ℕ)
-      → formingOf answer ≡ formOf s i buffer .answer → after ≡ formOf s i buffer .lent → FormAnswers s i buffer answer after
-  pub form-means : (s : List ℕ) (i : ℕ) (buffer after : List ℕ) → after ≡ formOf s i buffer .lent
-      → Accepted s → i < fieldCount s → kindCount s ≤ length buffer → FormMeans {ℓ} s i after
+  pub compare-answers : (sense : Sense) (s : List ℕ) (i j : ℕ) (answer : Verdict) → verdictOf answer ≡ compareIn sense s i j → CompareAnswers s i j answer
+  pub compare-means : (sense : Sense) (s : List ℕ) (i j : ℕ) (answer : Verdict) → verdictOf answer ≡ compareIn sense s i j
+      → Accepted s → i < fieldCount s → j < fieldCount s → CompareMeans {ℓ} sense s i j answer
+  pub compare-games : (sense : Sense) (s : List ℕ) (i j : ℕ) (answer : Verdict) → verdictOf answer ≡ compareIn sense s i j
+      → Accepted s → i < fieldCount s → j < fieldCount s → CompareGames sense s i j answer
+  -- "finer same always implies same"
+  pub finer-same : (s : List ℕ) (i j : ℕ) (answer finer-answer : Verdict) → verdictOf answer ≡ compareIn plain s i j → verdictOf finer-answer ≡ compareIn finer s i j
+      → finer-answer ≡ Same → answer ≡ Same
+  pub form-answers : (sense : Sense) (s : List ℕ) (i : ℕ) (buffer : List ℕ) (answer : Forming) (after : List ℕ)
+      → formingOf answer ≡ formingIn sense s i buffer .answer → after ≡ formingIn sense s i buffer .lent → FormAnswers sense s i buffer answer after
+  pub form-means : (sense : Sense) (s : List ℕ) (i : ℕ) (buffer after : List ℕ) → after ≡ formingIn sense s i buffer .lent
+      → Accepted s → i < fieldCount s → kindCount s ≤ length buffer → FormMeans {ℓ} sense s i after
   -- Demand 2: a prime form "is equal for two fields just when they are the same".
-  pub form-equal : (s : List ℕ) (i j : ℕ) (first second after-first after-second : List ℕ) (answer : Verdict)
-      → after-first ≡ formOf s i first .lent → after-second ≡ formOf s j second .lent → verdictOf answer ≡ compareOf s i j
+  pub form-equal : (sense : Sense) (s : List ℕ) (i j : ℕ) (first second after-first after-second : List ℕ) (answer : Verdict)
+      → after-first ≡ formingIn sense s i first .lent → after-second ≡ formingIn sense s j second .lent → verdictOf answer ≡ compareIn sense s i j
       → Accepted s → i < fieldCount s → j < fieldCount s → kindCount s ≤ length first → kindCount s ≤ length second
       → (take (kindCount s) after-first ≡ take (kindCount s) after-second) ↔ (answer ≡ Same)

@@ -1,11 +1,12 @@
-// Compare: "a verdict is same, or different with its stage and its rounds".
+// Compare and finer Compare: "a verdict is same, or different with its stage and its rounds".
 ghost use mathlib.Core.Path.{_≡_};
 ghost use Prim.Native.Nat.{_+_, _<_, _^_};
 ghost use Rattle.model.specs.Norm.{kindNorm};
 ghost use Rattle.model.specs.Base.{roundsFor, roundsAt};
 ghost use Rattle.model.specs.Sheet.{cardOf, fieldOf};
-ghost use Rattle.model.specs.Answer.{compareOf};
+ghost use Rattle.model.specs.Answer.{compareIn, compareOf, finerCompareOf};
 ghost use Rattle.norms.specs.Norms.{Accepts};
+ghost use Rattle.tables.specs.Senses.{senseOf};
 ghost use Rattle.filer.specs.Answers.{verdictOf};
 ghost use Rattle.filer.specs.Settlement.{IsSettlement};
 use crate::answers::Verdict;
@@ -14,6 +15,7 @@ use crate::settlement::settle_once;
 use norms::lines::gain;
 use sheet::Card;
 use stages::parting::parted;
+use tables::sense::Sense;
 use validation::checks::Checked;
 use validation::fields::check_fields;
 use weights::fields::field_norm;
@@ -22,13 +24,33 @@ use weights::fields::field_norm;
 pub fn compare(sheet: &[u8], first: usize, second: usize) -> Verdict
     ensures { λ r. ⌜ verdictOf r ≡ compareOf (now (sheet .entry)) first second ⌝ }
 {
-    compare_settled(sheet, settle_once(sheet), first, second)
+    compare_in(Sense::Plain, sheet, first, second)
 }
 
-// Compare, of a sheet that was checked and settled, and any two field numbers.
-pub fn compare_settled(sheet: &[u8], settlement: Settlement, first: usize, second: usize) -> Verdict
-    requires { ⌜ IsSettlement (now sheet) settlement ⌝ }
-    ensures { λ r. ⌜ verdictOf r ≡ compareOf (now (sheet .entry)) first second ⌝ }
+// Finer Compare, of any bytes and any two field numbers: "bisimilar by a relation whose every pair also has equal token totals".
+pub fn finer_compare(sheet: &[u8], first: usize, second: usize) -> Verdict
+    ensures { λ r. ⌜ verdictOf r ≡ finerCompareOf (now (sheet .entry)) first second ⌝ }
+{
+    compare_in(Sense::Finer, sheet, first, second)
+}
+
+// The verdict of a sense.
+fn compare_in(sense: Sense, sheet: &[u8], first: usize, second: usize) -> Verdict
+    ensures { λ r. ⌜ verdictOf r ≡ compareIn (senseOf sense) (now (sheet .entry)) first second ⌝ }
+{
+    compare_settled(sense, sheet, settle_once(sense, sheet), first, second)
+}
+
+// The verdict of a sense, of a sheet that was checked and settled in it, and any two field numbers.
+pub fn compare_settled(
+    sense: Sense,
+    sheet: &[u8],
+    settlement: Settlement,
+    first: usize,
+    second: usize,
+) -> Verdict
+    requires { ⌜ IsSettlement (senseOf sense) (now sheet) settlement ⌝ }
+    ensures { λ r. ⌜ verdictOf r ≡ compareIn (senseOf sense) (now (sheet .entry)) first second ⌝ }
 {
     let checked = settlement.checked;
     match check_fields(checked, first, second) {
@@ -37,7 +59,7 @@ pub fn compare_settled(sheet: &[u8], settlement: Settlement, first: usize, secon
             let norms = settlement.norms;
             let settled = settlement.settled;
             let last = settled.stage;
-            let stage = parted(sheet, card, norms, settled, first, second);
+            let stage = parted(sense, sheet, card, norms, settled, first, second);
             if last < stage {
                 return Verdict::Same;
             }

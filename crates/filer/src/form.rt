@@ -1,11 +1,12 @@
-// Prime form: "n counts of 64 bits to a lent buffer".
+// Prime form and finer Prime form: "n counts of 64 bits to a lent buffer".
 ghost use mathlib.Core.Path.{_≡_};
 ghost use Prim.Native.Nat.{_<_};
 ghost use lib.ListN.{take};
-ghost use Rattle.model.specs.Base.{settledStage};
+ghost use Rattle.model.specs.Sense as model;
+ghost use Rattle.model.specs.Base.{settledStageIn};
 ghost use Rattle.model.specs.Sheet.{kindCount, cardOf};
 ghost use Rattle.model.specs.Refusal.{Accepted};
-ghost use Rattle.model.specs.Answer.{primeForm, formOf};
+ghost use Rattle.model.specs.Answer.{primeFormIn, formingIn, formOf, finerFormOf};
 ghost use Rattle.sheet.specs.Reader.{Reads};
 ghost use Rattle.rows.specs.Stage.{BaseAt};
 ghost use Rattle.filer.specs.Answers.{formingOf};
@@ -16,6 +17,7 @@ use crate::settlement::settle_once;
 use copies::bits64::write_u64;
 use sheet::Card;
 use stages::parting::field_form;
+use tables::sense::Sense;
 use tables::table::Base;
 use validation::checks::Checked;
 
@@ -24,19 +26,26 @@ pub fn prime_form(sheet: &[u8], field: usize, buffer: &mut [u64]) -> Forming
     ensures { λ r. ⌜ formingOf r ≡ formOf (now (sheet .entry)) field (now (buffer .entry)) .answer ⌝ }
     ensures { λ r. ⌜ now (buffer .exit) ≡ formOf (now (sheet .entry)) field (now (buffer .entry)) .lent ⌝ }
 {
-    form_settled(sheet, settle_once(sheet), field, buffer)
+    form_settled(sheet, settle_once(Sense::Plain, sheet), field, buffer)
 }
 
-// Prime form, of a sheet that was checked and settled, any field number and a buffer of any length.
+// Finer Prime form, of any bytes, any field number and a buffer of any length: the prime form of the finer sense.
+pub fn finer_prime_form(sheet: &[u8], field: usize, buffer: &mut [u64]) -> Forming
+    ensures { λ r. ⌜ formingOf r ≡ finerFormOf (now (sheet .entry)) field (now (buffer .entry)) .answer ⌝ }
+    ensures { λ r. ⌜ now (buffer .exit) ≡ finerFormOf (now (sheet .entry)) field (now (buffer .entry)) .lent ⌝ }
+{
+    form_settled(sheet, settle_once(Sense::Finer, sheet), field, buffer)
+}
+
+// The prime form of the sense in which a sheet was settled, of any field number and a buffer of any length.
 pub fn form_settled(
     sheet: &[u8],
     settlement: Settlement,
     field: usize,
     buffer: &mut [u64],
 ) -> Forming
-    requires { ⌜ IsSettlement (now sheet) settlement ⌝ }
-    ensures { λ r. ⌜ formingOf r ≡ formOf (now (sheet .entry)) field (now (buffer .entry)) .answer ⌝ }
-    ensures { λ r. ⌜ now (buffer .exit) ≡ formOf (now (sheet .entry)) field (now (buffer .entry)) .lent ⌝ }
+    requires { ⌜ ((sense : model.Sense) × IsSettlement sense (now sheet) settlement) ⌝ }
+    ensures { λ r. ⌜ ((sense : model.Sense) → IsSettlement sense (now (sheet .entry)) settlement → (formingOf r ≡ formingIn sense (now (sheet .entry)) field (now (buffer .entry)) .answer) × (now (buffer .exit) ≡ formingIn sense (now (sheet .entry)) field (now (buffer .entry)) .lent)) ⌝ }
 {
     let checked = settlement.checked;
     match checked {
@@ -65,12 +74,12 @@ pub fn form_settled(
     }
 }
 
-// The prime form of a field, by the final base: the first n counts of the array.
+// The prime form of a field, by the final base of a sense: the first n counts of the array.
 pub fn prime_counts(sheet: &[u8], card: Card, base: Base, field: usize) -> [u64; 32]
     requires { ⌜ Reads (now sheet) card × Accepted (now sheet) ⌝ }
-    requires { ⌜ BaseAt (now sheet) (settledStage (cardOf (now sheet))) (base .rows) ⌝ }
+    requires { ⌜ ((sense : model.Sense) × BaseAt sense (now sheet) (settledStageIn sense (cardOf (now sheet))) (base .rows)) ⌝ }
     requires { ⌜ field < card .fields ⌝ }
-    ensures { λ r. ⌜ take (kindCount (now (sheet .entry))) r ≡ primeForm (now (sheet .entry)) field ⌝ }
+    ensures { λ r. ⌜ ((sense : model.Sense) → BaseAt sense (now (sheet .entry)) (settledStageIn sense (cardOf (now (sheet .entry)))) (base .rows) → take (kindCount (now (sheet .entry))) r ≡ primeFormIn sense (now (sheet .entry)) field) ⌝ }
 {
     let rows = base.rows;
     field_form(sheet, card, &rows, field)

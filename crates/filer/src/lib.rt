@@ -1,4 +1,4 @@
-// The filer: Settle, Row, Compare and Prime form. Each but Row takes the sheet's bytes and checks them anew.
+// The filer: Settle, Row, Compare, Prime form, finer Compare and finer Prime form. Each but Row takes the sheet's bytes and checks them anew.
 
 // What the calls answer.
 pub mod answers;
@@ -12,10 +12,10 @@ pub mod settle;
 // Row, and the check of its inputs.
 pub mod row;
 
-// Compare.
+// Compare and finer Compare.
 pub mod compare;
 
-// Prime form.
+// Prime form and finer Prime form.
 pub mod form;
 
 pub use answers::Forming;

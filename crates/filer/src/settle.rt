@@ -9,6 +9,7 @@ ghost use Rattle.filer.specs.Settlement.{tableIn};
 use crate::answers::Settling;
 use crate::settlement::settle_once;
 use copies::bits32::write_u32;
+use tables::sense::Sense;
 use validation::checks::Checked;
 
 // Settle, of any bytes and a table of any length; a refusal leaves the table as it was.
@@ -16,7 +17,7 @@ pub fn settle_sheet(sheet: &[u8], table: &mut [u32]) -> Settling
     ensures { λ r. ⌜ settlingOf r ≡ settleOf (now (sheet .entry)) (now (table .entry)) .answer ⌝ }
     ensures { λ r. ⌜ now (table .exit) ≡ settleOf (now (sheet .entry)) (now (table .entry)) .lent ⌝ }
 {
-    let settlement = settle_once(sheet);
+    let settlement = settle_once(Sense::Plain, sheet);
     let checked = settlement.checked;
     match checked {
         Checked::Refused { number, place } => Settling::Refused { number, place },

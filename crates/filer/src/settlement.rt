@@ -1,9 +1,11 @@
 // The core: a sheet is checked and settled once, and every call but Row goes by what that gives.
+ghost use Rattle.tables.specs.Senses.{senseOf};
 ghost use Rattle.filer.specs.Settlement.{IsSettlement};
 use acceptance::accept::accept;
 use stages::kept::Kept;
 use stages::reached::settle_reached;
 use stages::settle::Settled;
+use tables::sense::Sense;
 use tables::table::Base;
 use validation::checks::Checked;
 
@@ -14,9 +16,9 @@ pub struct Settlement {
     pub settled: Settled,
 }
 
-// Any bytes: checked, and settled if they are accepted. A page of a sheet needs this once.
-pub fn settle_once(sheet: &[u8]) -> Settlement
-    ensures { λ r. ⌜ IsSettlement (now (sheet .entry)) r ⌝ }
+// Any bytes: checked, and settled in a sense if they are accepted. A page of a sheet needs this once.
+pub fn settle_once(sense: Sense, sheet: &[u8]) -> Settlement
+    ensures { λ r. ⌜ IsSettlement (senseOf sense) (now (sheet .entry)) r ⌝ }
 {
     let acceptance = accept(sheet);
     let checked = acceptance.checked;
@@ -40,7 +42,7 @@ pub fn settle_once(sheet: &[u8]) -> Settlement
             }
         }
         Checked::Passed(card) => {
-            let settled = settle_reached(sheet, card, norms);
+            let settled = settle_reached(sense, sheet, card, norms);
             Settlement {
                 checked: Checked::Passed(card),
                 norms,

@@ -3,13 +3,13 @@ use mathlib.Core.List.{List, [], _∷_, map}
 use mathlib.Core.Path.{_≡_, refl}
 use Prim.Native.Nat.{ℕ}
 use native.Mathlib.Decide.{ℕ-discrete}
-use Rattle.model.specs.Finite.{keep, concat, listFrom, below}
+use Rattle.model.specs.Finite.{keep, concat, listFrom, below, sum}
 use Rattle.model.specs.Field.{bit, unit, weigh}
 use Rattle.model.specs.Walk.{WalkAnswer, apart, together, spent, tryReplies, tryChallenges, examine, walk}
 use Rattle.model.specs.Sheet.{fieldsOffset, totalOf, counts, lineOf, cardOf, fieldOf}
 use Rattle.model.specs.Refusal.{firstOf, headerChecks, lineChecks, sheetChecks, walkChecks}
 use Rattle.model.specs.Answer.{refused, given, Session, Walked, within, fullWalk, walkOf}
-use Rattle.model.specs.Days.{WalkCall, walkBy, callsBy, madeBy, day, leftAfter, answersOf, drawsOf, sum}
+use Rattle.model.specs.Days.{WalkCall, walkBy, callsBy, madeBy, day, leftAfter, answersOf, drawsOf}
 use Rattle.model.proofs.Worked.{chain}
 
 -- What each of the eight desks has left.

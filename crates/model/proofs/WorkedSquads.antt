@@ -8,12 +8,12 @@ use Rattle.model.specs.Field.{bit, unit, weigh}
 use Rattle.model.specs.Card.{reaches, reached, reachedKinds, reachedLines}
 use Rattle.model.specs.Norm.{ready, best, sweeps, cardNorm, kindNorm}
 use Rattle.model.specs.Expansion.{simulates, expands}
-use Rattle.model.specs.Stage.{lowering, equalNorm, falling, refined, stageFrom, stage}
+use Rattle.model.specs.Stage.{lowering, equalNorm, falling, refined, stageFrom, stageIn}
 use Rattle.model.specs.Base.{fieldsOfNorm, earlier, earlierThan, atom, row, passes, firstSettled, formAt}
 use Rattle.model.specs.Squads.{goesIn, timesIn, remainder}
 use Rattle.model.specs.Sheet.{fieldsOffset, totalOf, counts, lineOf, cardOf, fieldOf}
 use Rattle.model.specs.Refusal.{firstOf, headerChecks, lineChecks, normChecks, sheetChecks, squadsChecks}
-use Rattle.model.specs.Answer.{refused, given, Lent, written, primeForm, squadCount, remainderForm, squadsOf}
+use Rattle.model.specs.Answer.{refused, given, Lent, written, primeFormIn, squadCount, remainderForm, squadsOf}
 use Rattle.model.proofs.Worked.{sheetOf, page}
 
 pub record Example : Type 0 where
@@ -60,5 +60,5 @@ examples =
     ∷ []
 
 pub squads-worked : map (λ x. squadsOf (x .sheet) (x .whole) (x .squad) (x .buffer)) examples ≡ map (λ x. x .outcome) examples
-unfolding any all keep pick concat listFrom below leastFrom greatestTo bit unit ℕ-discrete weigh reaches reached reachedKinds reachedLines ready best sweeps cardNorm kindNorm simulates expands lowering equalNorm falling refined stageFrom stage fieldsOfNorm earlier earlierThan atom row passes firstSettled formAt goesIn timesIn remainder fieldsOffset totalOf counts lineOf cardOf fieldOf firstOf headerChecks lineChecks normChecks sheetChecks squadsChecks written primeForm squadCount remainderForm squadsOf
+unfolding any all keep pick concat listFrom below leastFrom greatestTo bit unit ℕ-discrete weigh reaches reached reachedKinds reachedLines ready best sweeps cardNorm kindNorm simulates expands lowering equalNorm falling refined stageFrom stageIn fieldsOfNorm earlier earlierThan atom row passes firstSettled formAt goesIn timesIn remainder fieldsOffset totalOf counts lineOf cardOf fieldOf firstOf headerChecks lineChecks normChecks sheetChecks squadsChecks written primeFormIn squadCount remainderForm squadsOf
 squads-worked = refl

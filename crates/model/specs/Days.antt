@@ -1,6 +1,6 @@
 -- Walks one after another, "each made on the session that the last one left" (request 4 of document 02).
 use mathlib.Core.List.{List, [], _∷_, map}
-use Prim.Native.Nat.{ℕ, _+_}
+use Prim.Native.Nat.{ℕ}
 use lib.Dec.{eqb}
 use Rattle.model.specs.Finite.{keep}
 use Rattle.model.specs.Walk.{WalkAnswer}
@@ -46,8 +46,3 @@ answersOf ms = map (λ m. m .walked .answer) ms
 
 abbrev pub drawsOf : List (Made Walked) → List ℕ
 drawsOf ms = map (λ m. m .walked .drawn) ms
-
--- The sum of a list.
-unfoldable pub sum : List ℕ → ℕ
-sum [] = 0
-sum (x ∷ xs) = x + sum xs

@@ -6,7 +6,8 @@ use lib.ListN.{length}
 use Rattle.model.specs.Field.{at}
 use Rattle.model.specs.Base.{roundsFor}
 use Rattle.model.specs.Sheet.{byte, u32At, kindCount, codeCount, lineCount, fieldCount, counts}
-use Rattle.model.specs.Answer.{written, tableOf, primeForm, shelfCounts, remainderForm}
+use Rattle.model.specs.Sense.{Sense}
+use Rattle.model.specs.Answer.{written, tableOf, primeFormIn, shelfCounts, remainderForm}
 
 -- "unsigned, low byte first": a number written as two bytes, and as four, the low half first.
 abbrev pub twoBytes : ℕ → List ℕ
@@ -48,7 +49,7 @@ pub record Plain : Type 0 where
   pub written-to : (xs buffer : List ℕ) → WrittenTo xs buffer
   -- "n × n of them", and "n counts".
   pub table-size : (s : List ℕ) → length (tableOf s) ≡ kindCount s * kindCount s
-  pub form-size : (s : List ℕ) (i : ℕ) → length (primeForm s i) ≡ kindCount s
+  pub form-size : (m : Sense) (s : List ℕ) (i : ℕ) → length (primeFormIn m s i) ≡ kindCount s
   pub shelf-size : (s : List ℕ) (t x : ℕ) → length (shelfCounts s t x) ≡ kindCount s
   pub remainder-size : (s : List ℕ) (i j : ℕ) → length (remainderForm s i j) ≡ kindCount s
   -- "N + 1 + (s - 1)(g + 1), or N + 1 if s is 0"

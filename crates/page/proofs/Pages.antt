@@ -9,6 +9,7 @@ use borrow.Author.Tests.{lt-ltb, le-ltb, eq-eqb, ne-eqb}
 use lib.Dec.{eqb}
 use lib.ListN.{length, take, drop, length-drop}
 use lib.Seq.{take-at, length-take-le}
+use Rattle.model.specs.Sense.{plain}
 use Rattle.model.specs.Finite.{concat, listFrom}
 use Rattle.model.specs.Field.{at}
 use Rattle.model.specs.Card as model
@@ -17,7 +18,7 @@ use Rattle.model.specs.Base.{settledStage, settledForm}
 use Rattle.model.specs.Limits.{mostInput}
 use Rattle.model.specs.Sheet.{kindCount, fieldCount, cardOf, fieldOf}
 use Rattle.model.specs.Refusal.{Accepted}
-use Rattle.model.specs.Answer.{refused, given, written, rowOf, formOf, tableOf, primeForm}
+use Rattle.model.specs.Answer.{refused, given, written, rowOf, formOf, tableOf, primeForm, primeFormIn}
 use Rattle.model.specs.Page.{refusedLine, lines, pageOf, printed}
 use Rattle.theory.proofs.Lists.{length-from}
 use Rattle.theory.proofs.Exec.{Tells}
@@ -55,15 +56,15 @@ row-length n k table w =
 module _ {s : List ℕ} {c : Card} {norms : List ℕ} (A : Accepts s c norms) where
   -- The first counts of a buffer that Prime form wrote to.
   pub form-part : (i : ℕ) (buffer form : List ℕ) → i < c .fields → c .kinds ≤ length buffer → form ≡ formOf s i buffer .lent → take (c .kinds) form ≡ primeForm s i
-  unfolding primeForm
+  unfolding primeFormIn
   form-part i buffer form h l e =
       let n = kinds-are (A .reads) in
       let f = fields-are (A .reads) in
-      ap (take (c .kinds)) (e ∙ ap (λ r. r .lent) (demand1 s .formed (limits s (A .accepted)) i buffer (omega arith) (omega arith)))
+      ap (take (c .kinds)) (e ∙ ap (λ r. r .lent) (demand1 s .formed (limits s (A .accepted)) plain i buffer (omega arith) (omega arith)))
       ∙ front (c .kinds) (primeForm s i) buffer (length-from (settledForm (cardOf s) (fieldOf s i)) 0 (kindCount s) ∙ sym n)
 
   -- The first counts of a table that the final base was written to.
-  pub table-part : (rows table : List ℕ) → BaseAt s (settledStage (cardOf s)) rows → take (c .kinds * c .kinds) table ≡ tableIn (c .kinds) rows → take (c .kinds * c .kinds) table ≡ tableOf s
+  pub table-part : (rows table : List ℕ) → BaseAt plain s (settledStage (cardOf s)) rows → take (c .kinds * c .kinds) table ≡ tableIn (c .kinds) rows → take (c .kinds * c .kinds) table ≡ tableOf s
   table-part rows table B e = e ∙ ap (λ (m : ℕ). tableIn m rows) (kinds-are (A .reads)) ∙ table-is s (A .accepted) rows B
 
   -- A kind has norm 0 just when it is out.
@@ -103,7 +104,7 @@ module _ {s : List ℕ} {c : Card} {norms : List ℕ} (A : Accepts s c norms) wh
   page-lines = rw (A .accepted, pageOf) refl
 
 -- The page of a refused sheet is its refusal.
-pub page-refusal : {s : List ℕ} {x : Settlement} → IsSettlement s x → (k p : ℕ) → x .checked ≡ Refused k p → refusedLine k p ≡ pageOf s
+pub page-refusal : {s : List ℕ} {x : Settlement} → IsSettlement plain s x → (k p : ℕ) → x .checked ≡ Refused k p → refusedLine k p ≡ pageOf s
 unfolding pageOf
 page-refusal {s} S k p e = rw (checks-refused s k p (sym (S .checked-is) ∙ e), pageOf) refl
 

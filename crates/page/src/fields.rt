@@ -7,6 +7,7 @@ ghost use Prim.Native.Nat.{_+_, _*_, _≤_, _<_};
 ghost use lib.ListN.{length};
 ghost use Rattle.model.specs.Answer.{primeForm};
 ghost use Rattle.norms.specs.Norms.{Accepts};
+ghost use Rattle.model.specs.Sense.{plain};
 ghost use Rattle.filer.specs.Settlement.{IsSettlement};
 ghost use Rattle.text.specs.Appended.{Appended};
 ghost use Rattle.listing.specs.Line.{fieldText, fieldsText};
@@ -21,7 +22,7 @@ fn put_settled_field(
     card: Card,
     field: usize,
 ) -> usize
-    requires { ⌜ IsSettlement (now sheet) settlement ⌝ }
+    requires { ⌜ IsSettlement plain (now sheet) settlement ⌝ }
     requires { ⌜ Accepts (now sheet) card (settlement .norms) ⌝ }
     requires { ⌜ field < card .fields ⌝ }
     requires { ⌜ at + mostField ≤ length (now out) ⌝ }
@@ -41,7 +42,7 @@ pub fn put_fields(
     settlement: Settlement,
     card: Card,
 ) -> usize
-    requires { ⌜ IsSettlement (now sheet) settlement ⌝ }
+    requires { ⌜ IsSettlement plain (now sheet) settlement ⌝ }
     requires { ⌜ Accepts (now sheet) card (settlement .norms) ⌝ }
     requires { ⌜ at + mostField * card .fields ≤ length (now out) ⌝ }
     ensures { λ r. ⌜ Appended (mostField * card .fields) (now (out .entry)) at (fieldsText (now (sheet .entry)) (card .fields)) (now (out .exit)) r ⌝ }

@@ -2,6 +2,7 @@
 use filer::Verdict;
 use filer::compare::compare_settled;
 use filer::settlement::Settlement;
+use tables::sense::Sense;
 use verdicts::put_different;
 use verdicts::put_refused;
 use verdicts::put_same;
@@ -9,6 +10,7 @@ use verdicts::put_start;
 ghost use Prim.Native.Nat.{_+_, _*_, _-_, _≤_};
 ghost use lib.ListN.{length};
 ghost use Rattle.filer.specs.Answers.{verdictOf};
+ghost use Rattle.model.specs.Sense.{plain};
 ghost use Rattle.filer.specs.Settlement.{IsSettlement};
 ghost use Rattle.text.specs.Appended.{Appended};
 ghost use Rattle.verdicts.specs.Pair.{pairText, pairsText};
@@ -35,14 +37,14 @@ pub fn put_pairs(
     settlement: Settlement,
     fields: usize,
 ) -> usize
-    requires { ⌜ IsSettlement (now sheet) settlement ⌝ }
+    requires { ⌜ IsSettlement plain (now sheet) settlement ⌝ }
     requires { ⌜ at + mostPair * (fields - 1) ≤ length (now out) ⌝ }
     ensures { λ r. ⌜ Appended (mostPair * (fields - 1)) (now (out .entry)) at (pairsText (now (sheet .entry)) fields) (now (out .exit)) r ⌝ }
 {
     let mut next = at;
     let mut later = 1;
     while later < fields {
-        let verdict = compare_settled(sheet, settlement, 0, later);
+        let verdict = compare_settled(Sense::Plain, sheet, settlement, 0, later);
         next = put_pair(out, next, later, verdict);
         later += 1;
     }

@@ -7,6 +7,7 @@ use filer::settlement::Settlement;
 use filer::settlement::settle_once;
 use listing::put_head;
 use sheet::Card;
+use tables::sense::Sense;
 use tables::table::Base;
 use text::put_bytes;
 use validation::checks::Checked;
@@ -20,6 +21,7 @@ ghost use Rattle.model.specs.Sheet.{cardOf};
 ghost use Rattle.model.specs.Answer.{tableOf};
 ghost use Rattle.model.specs.Page.{lines, pageOf};
 ghost use Rattle.norms.specs.Norms.{Accepts};
+ghost use Rattle.model.specs.Sense.{plain};
 ghost use Rattle.filer.specs.Settlement.{IsSettlement, tableIn};
 ghost use Rattle.text.specs.Appended.{Appended};
 ghost use Rattle.page.specs.Lengths.{mostPage};
@@ -76,7 +78,7 @@ fn put_page(out: &mut [u8], sheet: &[u8]) -> usize
     requires { ⌜ mostPage ≤ length (now out) ⌝ }
     ensures { λ r. ⌜ Appended mostPage (now (out .entry)) 0 (pageOf (now (sheet .entry))) (now (out .exit)) r ⌝ }
 {
-    let settlement = settle_once(sheet);
+    let settlement = settle_once(Sense::Plain, sheet);
     let checked = settlement.checked;
     match checked {
         Checked::Refused { number, place } => put_refused(out, 0, number, place),
@@ -86,7 +88,7 @@ fn put_page(out: &mut [u8], sheet: &[u8]) -> usize
 
 // The lines of an accepted sheet.
 fn put_lines(out: &mut [u8], sheet: &[u8], settlement: Settlement, card: Card) -> usize
-    requires { ⌜ IsSettlement (now sheet) settlement ⌝ }
+    requires { ⌜ IsSettlement plain (now sheet) settlement ⌝ }
     requires { ⌜ Accepts (now sheet) card (settlement .norms) ⌝ }
     requires { ⌜ mostPage ≤ length (now out) ⌝ }
     ensures { λ r. ⌜ Appended mostPage (now (out .entry)) 0 (lines (now (sheet .entry)) (tableOf (now (sheet .entry))) (kindNorm (cardOf (now (sheet .entry))))) (now (out .exit)) r ⌝ }

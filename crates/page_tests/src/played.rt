@@ -1,5 +1,5 @@
-// The filer's verdicts and prime forms against a second, slow player of the round game: on the stored sheets, and on random small ones. Of a random sheet
-// the reached part is played.
+// The filer's verdicts and prime forms, plain and finer, against a second, slow player of the round game: on the stored sheets, and on random small ones. Of a random
+// sheet the reached part is played.
 use crate::stored::read_stored;
 use filer::Verdict;
 use filer::compare::compare_settled;
@@ -7,30 +7,35 @@ use filer::form::form_settled;
 use filer::settlement::Settlement;
 use filer::settlement::settle_once;
 use libc::STDOUT_FILENO;
+use tables::sense::Sense;
 use tally::Called;
 use tally::Played;
 use tally::Tally;
 use validation::checks::Checked;
 ghost use Prim.Native.Nat.{_≤_};
+ghost use Rattle.tables.specs.Senses.{senseOf};
 ghost use Rattle.filer.specs.Settlement.{IsSettlement};
 
 // The sheets so far: how many were settled, and how many of those are part-used, with a kind that is not reached; how many were refused; and what was
-// played on those settled.
+// played on those settled, in the plain sense and in the finer one.
 struct Count {
     settled: u64,
     part: u64,
     refused: u64,
-    tally: Tally,
+    plain: Tally,
+    finer: Tally,
 }
 
 impl Count {
     fn new() -> Count {
-        let tally = Tally::new();
+        let plain = Tally::new();
+        let finer = Tally::new();
         Count {
             settled: 0,
             part: 0,
             refused: 0,
-            tally,
+            plain,
+            finer,
         }
     }
 }
@@ -49,15 +54,24 @@ const BUDGET: usize = 300_000;
 
 const ROUNDS: u64 = 5;
 
-// Field 0 against a later field: the verdict and the prime forms against what was played, on the sheet `played`.
+// Whether the game of a sense looks at totals.
+fn looks_at_totals(sense: Sense) -> bool {
+    match sense {
+        Sense::Plain => false,
+        Sense::Finer => true,
+    }
+}
+
+// Field 0 against a later field, in a sense: the verdict and the prime forms against what was played, on the sheet `played`.
 fn with_pair(
+    sense: Sense,
     sheet: &[u8],
     played: &[u8],
     settlement: Settlement,
     later: usize,
     tally: Tally,
 ) -> Tally
-    requires { ⌜ IsSettlement (now sheet) settlement ⌝ }
+    requires { ⌜ IsSettlement (senseOf sense) (now sheet) settlement ⌝ }
 {
     let settled = settlement.settled;
     let last = settled.stage;
@@ -67,13 +81,14 @@ fn with_pair(
     form_settled(sheet, settlement, later, &mut second);
     let equal = tally::same_counts(&first, &second);
     let unlike = tally::look_unlike(sheet, 0, later);
-    match compare_settled(sheet, settlement, 0, later) {
+    let totals = looks_at_totals(sense);
+    match compare_settled(sense, sheet, settlement, 0, later) {
         Verdict::Same => {
-            let tried = test_player::parting(played, ROUNDS, 0, later, BUDGET);
+            let tried = test_player::parting(played, totals, ROUNDS, 0, later, BUDGET);
             tally.with_pair(Called::Same, last, equal, unlike, tried)
         }
         Verdict::Different { stage, rounds } => {
-            let tried = test_player::parting(played, rounds, 0, later, BUDGET);
+            let tried = test_player::parting(played, totals, rounds, 0, later, BUDGET);
             tally.with_pair(
                 Called::Different { stage, rounds },
                 last,
@@ -89,20 +104,21 @@ fn with_pair(
     }
 }
 
-// Field 0 against each later field.
+// Field 0 against each later field, in a sense.
 fn with_pairs(
+    sense: Sense,
     sheet: &[u8],
     played: &[u8],
     settlement: Settlement,
     fields: usize,
     tally: Tally,
 ) -> Tally
-    requires { ⌜ IsSettlement (now sheet) settlement ⌝ }
+    requires { ⌜ IsSettlement (senseOf sense) (now sheet) settlement ⌝ }
 {
     let mut next = tally;
     let mut later = 1;
     while later < fields {
-        next = with_pair(sheet, played, settlement, later, next);
+        next = with_pair(sense, sheet, played, settlement, later, next);
         later += 1;
     }
     next
@@ -110,9 +126,10 @@ fn with_pairs(
 
 // One sheet more, and the sheet that is played for it.
 fn with_sheet(sheet: &[u8], played: &[u8], count: Count) -> Count {
-    let settlement = settle_once(sheet);
+    let settlement = settle_once(Sense::Plain, sheet);
     let checked = settlement.checked;
-    let before = count.tally;
+    let plain_before = count.plain;
+    let finer_before = count.finer;
     match checked {
         Checked::Refused {
             number: _,
@@ -121,22 +138,44 @@ fn with_sheet(sheet: &[u8], played: &[u8], count: Count) -> Count {
             settled: count.settled,
             part: count.part,
             refused: one_more(count.refused),
-            tally: before,
+            plain: plain_before,
+            finer: finer_before,
         },
         Checked::Passed(card) => {
-            let tally = with_pairs(sheet, played, settlement, card.fields, before);
-            let part = if reached_part::part_used(sheet) {
-                one_more(count.part)
-            } else {
-                count.part
-            };
+            let fields = card.fields;
+            let plain = with_pairs(
+                Sense::Plain,
+                sheet,
+                played,
+                settlement,
+                fields,
+                plain_before,
+            );
+            let finer = with_pairs(
+                Sense::Finer,
+                sheet,
+                played,
+                settle_once(Sense::Finer, sheet),
+                fields,
+                finer_before,
+            );
             Count {
                 settled: one_more(count.settled),
-                part,
+                part: with_part_used(sheet, count.part),
                 refused: count.refused,
-                tally,
+                plain,
+                finer,
             }
         }
+    }
+}
+
+// One part-used sheet more, if the sheet is one.
+fn with_part_used(sheet: &[u8], part: u64) -> u64 {
+    if reached_part::part_used(sheet) {
+        one_more(part)
+    } else {
+        part
     }
 }
 
@@ -218,7 +257,9 @@ fn print_count(title: &[u8], count: Count) {
     print(b", of which part-used ", count.part);
     print(b", refused ", count.refused);
     io::write_all(STDOUT_FILENO, b"\n");
-    print_tally(count.tally);
+    print_tally(count.plain);
+    io::write_all(STDOUT_FILENO, b"  in the finer sense:\n");
+    print_tally(count.finer);
 }
 
 fn print_tally(tally: Tally) {

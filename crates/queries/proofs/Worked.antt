@@ -9,7 +9,7 @@ use Rattle.model.specs.Field.{bit, unit, weigh}
 use Rattle.model.specs.Card.{reaches, reached, reachedKinds, reachedLines}
 use Rattle.model.specs.Norm.{ready, best, sweeps, cardNorm, kindNorm, gainOf}
 use Rattle.model.specs.Expansion.{simulates, expands}
-use Rattle.model.specs.Stage.{lowering, equalNorm, falling, refined, stageFrom, stage}
+use Rattle.model.specs.Stage.{lowering, equalNorm, equalNormAndTotal, falling, refined, stageFrom, stageIn}
 use Rattle.model.specs.Base.{fieldsOfNorm, earlier, earlierThan, atom, row, passes, firstSettled, formAt, partingStage, roundsFor, roundsAt}
 use Rattle.model.specs.Walk.{tryReplies, tryChallenges, examine, walk}
 use Rattle.model.specs.Shelf.{entry, listed, agree, placeOf, shelfNumber, shelfField}
@@ -17,7 +17,7 @@ use Rattle.model.specs.Squads.{goesIn, timesIn, remainder}
 use Rattle.model.specs.Sheet.{fieldsOffset, totalOf, counts, lineOf, cardOf, fieldOf}
 use Rattle.model.specs.Refusal.{firstOf, headerChecks, lineChecks, normChecks, sheetChecks, settleChecks, compareChecks, formChecks, walkChecks, rowChecks, shelfNumberChecks, shelfFieldChecks, squadsChecks}
 use Rattle.model.specs.Page.{bytes, digits, number, newline, countsOf, wordOf, refusedLine}
-use Rattle.model.specs.Answer.{written, tableOf, settleOf, verdict, compareOf, primeForm, formOf, within, fullWalk, walkOf, rowOf, rowCheckOf, shelfNumberOf, shelfCounts, shelfFieldOf, squadCount, remainderForm, squadsOf}
+use Rattle.model.specs.Answer.{written, tableOf, settleOf, verdictIn, compareIn, primeFormIn, formingIn, within, fullWalk, walkOf, rowOf, rowCheckOf, shelfNumberOf, shelfCounts, shelfFieldOf, squadCount, remainderForm, squadsOf}
 use Rattle.model.proofs.Worked.{sheetOf, page, chain}
 use Rattle.text.specs.Count.{countText, countTexts, countsLine}
 use Rattle.walk_text.specs.Line.{drawnText, foundText}
@@ -29,11 +29,11 @@ use Rattle.replies.specs.Numbers.{withNone, withOne, withTwo, withFourOrFive}
 use Rattle.replies.specs.declared.reply.Outcome.{Outcome}
 use Rattle.replies.specs.declared.reply.Outcome.the-variants.{Answered, Refused, NoCall}
 use Rattle.replies.specs.Texts.{worded, lentText, countsText}
-use Rattle.verbs.specs.Texts.{tableRoom, formRoom, stagesLine, rowLines, settleText, rowIn, rowAfter, rowText, verdictText, compareText, formText}
+use Rattle.verbs.specs.Texts.{tableRoom, formRoom, stagesLine, rowLines, settleText, rowIn, rowAfter, rowText, verdictText, compareTextIn, formTextIn}
 use Rattle.walk_verb.specs.Texts.{givenTo, walkText}
 use Rattle.shelf_verbs.specs.Texts.{shelfRoom, shelvedLine, shelvedText, numberText, fieldText}
 use Rattle.squads_verb.specs.Texts.{remainderRoom, squadsLine, squadsText}
-use Rattle.verbs.specs.Calls.{settleTold, rowTold, compareTold, formTold}
+use Rattle.verbs.specs.Calls.{settleTold, rowTold, compareToldIn, formToldIn}
 use Rattle.walk_verb.specs.Calls.{allowanceTold, walkTold}
 use Rattle.shelf_verbs.specs.Calls.{numberTold, fieldTold}
 use Rattle.squads_verb.specs.Calls.{squadsTold}
@@ -85,6 +85,13 @@ examples =
     ∷ asks crowded ("squads" ∷ "1" ∷ "0" ∷ []) Answered "squads 0 = 16\n"
     ∷ asks crowded ("squads" ∷ "0" ∷ "2" ∷ []) (Refused 17 1) "refused 17 1\n"
     ∷ asks crowded ("squads" ∷ "0" ∷ "3" ∷ []) (Refused 11 1) "refused 11 1\n"
+    ∷ asks page ("finer" ∷ "0" ∷ "1" ∷ []) Answered "different 0 3\n"
+    ∷ asks chain ("finer" ∷ "0" ∷ "01" ∷ []) Answered "different 3 4\n"
+    ∷ asks page ("finer" ∷ "1" ∷ "1" ∷ []) Answered "same\n"
+    ∷ asks page ("finer" ∷ "0" ∷ "2" ∷ []) (Refused 11 1) "refused 11 1\n"
+    ∷ asks page ("finer-form" ∷ "0" ∷ []) Answered "0 1\n"
+    ∷ asks page ("finer-form" ∷ "1" ∷ []) Answered "2 0\n"
+    ∷ asks page ("finer-form" ∷ "2" ∷ []) (Refused 11 0) "refused 11 0\n"
     ∷ asks partUsed ("settle" ∷ []) Answered "stages 1\n0 0\n0 1\n"
     ∷ asks partUsed ("row" ∷ "0" ∷ []) Answered "0 0\n"
     ∷ asks partUsed ("number" ∷ "0" ∷ []) Answered "size 1 number 0\n"
@@ -102,6 +109,11 @@ examples =
     ∷ asks [] ("field" ∷ "1" ∷ "0" ∷ "0" ∷ []) NoCall ""
     ∷ asks [] ("squads" ∷ "0" ∷ []) NoCall ""
     ∷ asks [] ("squads" ∷ "0" ∷ "0" ∷ "0" ∷ []) NoCall ""
+    ∷ asks [] ("finer" ∷ "0" ∷ []) NoCall ""
+    ∷ asks [] ("finer" ∷ "0" ∷ "0" ∷ "0" ∷ []) NoCall ""
+    ∷ asks [] ("finer-form" ∷ []) NoCall ""
+    ∷ asks [] ("finer-form" ∷ "0" ∷ "1" ∷ []) NoCall ""
+    ∷ asks [] ("finer-" ∷ "0" ∷ []) NoCall ""
     ∷ asks [] ("compare" ∷ "0" ∷ "" ∷ []) NoCall ""
     ∷ asks [] ("compare" ∷ "0" ∷ "18446744073709551616" ∷ []) NoCall ""
     ∷ asks [] ("compare" ∷ "0" ∷ "1" ∷ "2" ∷ "3" ∷ "4" ∷ []) NoCall ""
@@ -111,5 +123,5 @@ examples =
     ∷ []
 
 pub worked : map (λ (x : Example). queryOf (x .sheet) (ended (map bytes (x .words)))) examples ≡ map (λ (x : Example). x .told) examples
-unfolding any all keep pick concat listFrom below leastFrom greatestTo bit unit ℕ-discrete weigh reaches reached reachedKinds reachedLines ready best sweeps cardNorm kindNorm gainOf simulates expands lowering equalNorm falling refined stageFrom stage fieldsOfNorm earlier earlierThan atom row passes firstSettled formAt partingStage roundsFor roundsAt tryReplies tryChallenges examine walk entry listed agree placeOf shelfNumber shelfField goesIn timesIn remainder fieldsOffset totalOf counts lineOf cardOf fieldOf firstOf headerChecks lineChecks normChecks sheetChecks settleChecks compareChecks formChecks walkChecks rowChecks shelfNumberChecks shelfFieldChecks squadsChecks bytes digits number newline countsOf wordOf refusedLine written tableOf settleOf verdict compareOf primeForm formOf within fullWalk walkOf rowOf rowCheckOf shelfNumberOf shelfCounts shelfFieldOf squadCount remainderForm squadsOf countText countTexts countsLine drawnText foundText digitOf valueFrom some numberOf firstWord startedBy wordsOf sameWord saidAfter numbersOf ended told noCall withNone withOne withTwo withFourOrFive worded tableRoom formRoom shelfRoom stagesLine rowLines settleText rowIn rowAfter rowText verdictText compareText lentText countsText formText givenTo walkText shelvedLine shelvedText numberText fieldText remainderRoom squadsLine squadsText settleTold rowTold compareTold formTold allowanceTold walkTold numberTold fieldTold squadsTold verbs verbIn verbOf verbTold saidTold wordsTold queryOf
+unfolding any all keep pick concat listFrom below leastFrom greatestTo bit unit ℕ-discrete weigh reaches reached reachedKinds reachedLines ready best sweeps cardNorm kindNorm gainOf simulates expands lowering equalNorm equalNormAndTotal falling refined stageFrom stageIn fieldsOfNorm earlier earlierThan atom row passes firstSettled formAt partingStage roundsFor roundsAt tryReplies tryChallenges examine walk entry listed agree placeOf shelfNumber shelfField goesIn timesIn remainder fieldsOffset totalOf counts lineOf cardOf fieldOf firstOf headerChecks lineChecks normChecks sheetChecks settleChecks compareChecks formChecks walkChecks rowChecks shelfNumberChecks shelfFieldChecks squadsChecks bytes digits number newline countsOf wordOf refusedLine written tableOf settleOf verdictIn compareIn primeFormIn formingIn within fullWalk walkOf rowOf rowCheckOf shelfNumberOf shelfCounts shelfFieldOf squadCount remainderForm squadsOf countText countTexts countsLine drawnText foundText digitOf valueFrom some numberOf firstWord startedBy wordsOf sameWord saidAfter numbersOf ended told noCall withNone withOne withTwo withFourOrFive worded tableRoom formRoom shelfRoom stagesLine rowLines settleText rowIn rowAfter rowText verdictText compareTextIn lentText countsText formTextIn givenTo walkText shelvedLine shelvedText numberText fieldText remainderRoom squadsLine squadsText settleTold rowTold compareToldIn formToldIn allowanceTold walkTold numberTold fieldTold squadsTold verbs verbIn verbOf verbTold saidTold wordsTold queryOf
 worked = refl

@@ -3,13 +3,13 @@ use mathlib.Core.List.{List, [], _∷_}
 use Prim.Native.Nat.{ℕ}
 use Rattle.words.specs.Words.{Said, numbers, nothing, numbersOf, wordsOf}
 use Rattle.replies.specs.Told.{Told, noCall}
-use Rattle.verbs.specs.Calls.{settleTold, rowTold, compareTold, formTold}
+use Rattle.verbs.specs.Calls.{settleTold, rowTold, compareTold, formTold, finerTold, finerFormTold}
 use Rattle.walk_verb.specs.Calls.{walkTold}
 use Rattle.shelf_verbs.specs.Calls.{numberTold, fieldTold}
 use Rattle.squads_verb.specs.Calls.{squadsTold}
 use Rattle.queries.specs.Verb.{verbOf}
 use Rattle.queries.specs.declared.table.Verb.{Verb}
-use Rattle.queries.specs.declared.table.Verb.the-variants.{Settle, Row, Compare, Form, Walk, Number, Field, Squads, Other}
+use Rattle.queries.specs.declared.table.Verb.the-variants.{Settle, Row, Compare, Form, Walk, Number, Field, Squads, Finer, FinerForm, Other}
 
 -- What the call of each verb, with its numbers, comes to.
 unfoldable pub verbTold : List ℕ → Verb → List ℕ → Told
@@ -21,6 +21,8 @@ verbTold s Walk = walkTold s
 verbTold s Number = numberTold s
 verbTold s Field = fieldTold s
 verbTold s Squads = squadsTold s
+verbTold s Finer = finerTold s
+verbTold s FinerForm = finerFormTold s
 verbTold s Other = λ _. noCall
 
 -- What a verb and the words after it come to: its call, where these words say numbers; otherwise it is no call.

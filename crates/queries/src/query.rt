@@ -7,7 +7,9 @@ use shelf_verbs::field::numbered_field;
 use shelf_verbs::number::field_number;
 use squads_verb::count::count_squads;
 use verbs::compare::compare_fields;
+use verbs::compare::finer_compare_fields;
 use verbs::form::field_form;
+use verbs::form::finer_field_form;
 use verbs::settle::settle;
 use verbs::settle::settled_row;
 use walk_verb::walk::walk_fields;
@@ -40,6 +42,8 @@ fn call(sheet: &[u8], verb: Verb, numbers: &[u64], out: &mut [u8]) -> Reply
         Verb::Number => field_number(sheet, numbers, out),
         Verb::Field => numbered_field(sheet, numbers, out),
         Verb::Squads => count_squads(sheet, numbers, out),
+        Verb::Finer => finer_compare_fields(sheet, numbers, out),
+        Verb::FinerForm => finer_field_form(sheet, numbers, out),
         Verb::Other => no_call(),
     }
 }

@@ -13,6 +13,8 @@ pub enum Verb {
     Number,
     Field,
     Squads,
+    Finer,
+    FinerForm,
     Other,
 }
 
@@ -43,6 +45,12 @@ pub fn verb_of(word: &[u8]) -> Verb
     }
     if same_word(word, b"squads") {
         return Verb::Squads;
+    }
+    if same_word(word, b"finer") {
+        return Verb::Finer;
+    }
+    if same_word(word, b"finer-form") {
+        return Verb::FinerForm;
     }
     Verb::Other
 }

@@ -2,6 +2,8 @@
 
 // Norm-reducing expansion of a kind against its row.
 pub mod norm_reducing;
+// The total of a kind's row.
+pub mod total;
 // The tests of a kind's row.
 pub mod passes;
 // Whether the rows of a stage satisfy expansion.

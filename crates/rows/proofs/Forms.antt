@@ -9,9 +9,10 @@ use lib.Dec.{T}
 use Rattle.model.specs.Field.{Field, none, _⊕_, unit, weigh}
 use Rattle.model.specs.Card.{Line, Card, Reached, leads, reached}
 use Rattle.model.specs.Norm.{kindNorm, norm}
-use Rattle.model.specs.Stage.{equalNorm, stage}
+use Rattle.model.specs.Sense.{Sense, plain}
+use Rattle.model.specs.Stage.{equalIn, stageIn}
 use Rattle.theory.specs.Stages.{Lowers}
-use Rattle.model.specs.Base.{earlier, formAt, stageRow, stageForm}
+use Rattle.model.specs.Base.{earlier, formAt, stageRowIn, stageFormIn}
 use Rattle.theory.specs.Terms.{OfKinds, Earlier, Before}
 use Rattle.theory.proofs.Field.{unit-same, weigh-plus, weigh-unit, weigh-part, weigh-some, weigh-weights}
 use Rattle.theory.proofs.Normed.{Normed}
@@ -24,7 +25,7 @@ use Rattle.theory.proofs.Count.{past, past-whole, level-low, level-base}
 use Rattle.theory.proofs.Certified.{Found}
 use Rattle.theory.proofs.Reach.{dec-tells}
 use Rattle.theory.proofs.Rows.{finite, order-iff, tells-earlier}
-use Rattle.theory.proofs.Plain.{plain, tidy, tells-equal, stages}
+use Rattle.theory.proofs.Senses.{weightOf, normedIn, tidy, tells-start, stages}
 use Rattle.theory.proofs.Settling.{base, row-of, within, before}
 use Rattle.theory.proofs.Program.{theirs, test-next, row-none, kept, kept-kinds, kept-norm, kept-form}
 
@@ -44,12 +45,6 @@ none-of : (n : ℕ) → ¬ (0 < n) → n ≡ 0
 none-of n h = omega arith
 
 module _ (c : Card) (F : Found c (kindNorm c)) where
-  abbrev N : Normed
-  N = plain c (kindNorm c) F
-
-  abbrev fin : Finite (N .on)
-  fin = finite c (kindNorm c) (λ _. 0) F (equalNorm c (kindNorm c)) (tells-equal c (kindNorm c) F)
-
   -- A kind is reached, or it is out.
   pub reached-or-out : (k : ℕ) → Dec (Reached c k)
   reached-or-out k = dec-tells (reached c k) (record { fact = F .reach .test-iff k .0; test = F .reach .test-iff k .1 })
@@ -57,8 +52,8 @@ module _ (c : Card) (F : Found c (kindNorm c)) where
   -- The order of kinds as the test `earlier` and as a type.
   pub earlier-iff : (k j : ℕ) → k < c .kinds → j < c .kinds → T (earlier (kindNorm c) j k) ↔ Earlier c j k
   earlier-iff k j h i =
-      let o = order-iff c (kindNorm c) (λ _. 0) F (equalNorm c (kindNorm c)) (tells-equal c (kindNorm c) F) k j h i in
-      let t = tells-earlier c (kindNorm c) (λ _. 0) F (equalNorm c (kindNorm c)) (tells-equal c (kindNorm c) F) k j h i in
+      let o = order-iff c (kindNorm c) (weightOf plain) F (equalIn plain c (kindNorm c)) (tells-start plain c (kindNorm c) F) k j h i in
+      let t = tells-earlier c (kindNorm c) (weightOf plain) F (equalIn plain c (kindNorm c)) (tells-start plain c (kindNorm c) F) k j h i in
       ((λ x. o .1 (t .fact x)), (λ x. t .test (o .0 x)))
 
   pub earlier-not : (k : ℕ) → ¬ Earlier c k k
@@ -73,7 +68,7 @@ module _ (c : Card) (F : Found c (kindNorm c)) where
 
   -- What a line that lowers the norm leaves is of kinds earlier than its own, and weighs one less.
   pub lowers-before : (l : Line) → Lowers c (kindNorm c) l → Before c (l .kind) (l .left)
-  lowers-before l o = before c F (l .kind) (o .0 .1) (l .left) (low-within N l o)
+  lowers-before l o = before plain c F (l .kind) (o .0 .1) (l .left) (low-within (normedIn plain c (kindNorm c) F) l o)
 
   pub lowers-earlier : (k : ℕ) (l : Line) → Lowers c (kindNorm c) l → (l .kind ≡ k) ⊎ Earlier c (l .kind) k → Before c k (l .left)
   lowers-earlier k l o (inl e) = rw e at (lowers-before l o)
@@ -96,175 +91,182 @@ module _ (c : Card) (F : Found c (kindNorm c)) where
       go (yes i) = count-weight (c .kinds) (kindNorm c) a j (F .reach .under j (u j i)) (F .positive j (u j i))
       go (no i) = omega arith
 
-  module _ (q : ℕ) where
-    -- A form by a table that has the stage's rows of the kinds that the field holds.
-    pub form-table : (rows : ℕ → Field) (a : Field) → ((k : ℕ) → k < c .kinds → 0 < a k → rows k ≡ stageRow c (suc q) k)
-        → (j : ℕ) → weigh (c .kinds) (λ k. rows k j) a ≡ stageForm c (suc q) a j
-    unfolding formAt
-    form-table rows a h j = form-rows (c .kinds) rows (stageRow c (suc q)) a h j
+-- Of a sense: the rows and forms of stage q + 1.
+module _ (sense : Sense) (c : Card) (F : Found c (kindNorm c)) (q : ℕ) where
+  abbrev N : Normed
+  N = normedIn sense c (kindNorm c) F
 
-    -- The form of what a lowering line of kind k, or of an earlier kind, leaves: the rows of the kinds earlier than k are enough.
-    pub form-earlier : (k : ℕ) (rows : ℕ → Field) → ((j : ℕ) → j < c .kinds → Earlier c j k → rows j ≡ stageRow c (suc q) j)
-        → (l : Line) → Lowers c (kindNorm c) l → (l .kind ≡ k) ⊎ Earlier c (l .kind) k → (j : ℕ) → weigh (c .kinds) (λ i. rows i j) (l .left) ≡ stageForm c (suc q) (l .left) j
-    form-earlier k rows f l o e = form-table rows (l .left) (λ i h p. f i h (lowers-earlier k l o e i p .1))
+  abbrev fin : Finite (N .on)
+  fin = finite c (kindNorm c) (weightOf sense) F (equalIn sense c (kindNorm c)) (tells-start sense c (kindNorm c) F)
 
-    pub form-unit : (k : ℕ) → k < c .kinds → stageForm c (suc q) (unit k) ≡ stageRow c (suc q) k
-    unfolding formAt
-    form-unit k h = fun-ext (λ j. weigh-unit (c .kinds) (λ i. stageRow c (suc q) i j) k h)
+  -- A form by a table that has the stage's rows of the kinds that the field holds.
+  pub form-table : (rows : ℕ → Field) (a : Field) → ((k : ℕ) → k < c .kinds → 0 < a k → rows k ≡ stageRowIn sense c (suc q) k)
+      → (j : ℕ) → weigh (c .kinds) (λ k. rows k j) a ≡ stageFormIn sense c (suc q) a j
+  unfolding formAt
+  form-table rows a h j = form-rows (c .kinds) rows (stageRowIn sense c (suc q)) a h j
 
-    pub form-plus : (a b : Field) → stageForm c (suc q) (a ⊕ b) ≡ stageForm c (suc q) a ⊕ stageForm c (suc q) b
-    unfolding formAt
-    form-plus a b = fun-ext (λ j. weigh-plus (c .kinds) (λ k. stageRow c (suc q) k j) a b)
+  -- The form of what a lowering line of kind k, or of an earlier kind, leaves: the rows of the kinds earlier than k are enough.
+  pub form-earlier : (k : ℕ) (rows : ℕ → Field) → ((j : ℕ) → j < c .kinds → Earlier c j k → rows j ≡ stageRowIn sense c (suc q) j)
+      → (l : Line) → Lowers c (kindNorm c) l → (l .kind ≡ k) ⊎ Earlier c (l .kind) k → (j : ℕ) → weigh (c .kinds) (λ i. rows i j) (l .left) ≡ stageFormIn sense c (suc q) (l .left) j
+  form-earlier k rows f l o e = form-table rows (l .left) (λ i h p. f i h (lowers-earlier c F k l o e i p .1))
 
-    -- A product of atoms is its own form.
-    pub form-self : (a : Field) → OfKinds c a → ((k : ℕ) → 0 < a k → stageRow c (suc q) k ≡ unit k) → stageForm c (suc q) a ≡ a
-    unfolding formAt decomp
-    form-self a u g = decomp-self N (stageRow c (suc q)) (past N fin) a (tidy-within N (past N fin) (past-whole N fin) a (tidy c (kindNorm c) F a u)) g
+  pub form-unit : (k : ℕ) → k < c .kinds → stageFormIn sense c (suc q) (unit k) ≡ stageRowIn sense c (suc q) k
+  unfolding formAt
+  form-unit k h = fun-ext (λ j. weigh-unit (c .kinds) (λ i. stageRowIn sense c (suc q) i j) k h)
 
-    -- The row of a reached kind is the kind itself, an atom, or a product of earlier atoms; that of any other kind is empty.
-    pub row-sort : (k : ℕ) → Reached c k
-        → (stageRow c (suc q) k ≡ unit k) ⊎ (Before c k (stageRow c (suc q) k) × ((j : ℕ) → 0 < stageRow c (suc q) k j → stageRow c (suc q) j ≡ unit j))
-    row-sort k h = go (base c F q .counts k h)
-      where
-        go : {A : Type 0} → ((stageRow c (suc q) k ≡ unit k) × A) ⊎ (Before c k (stageRow c (suc q) k) × ((j : ℕ) → 0 < stageRow c (suc q) k j → stageRow c (suc q) j ≡ unit j))
-            → (stageRow c (suc q) k ≡ unit k) ⊎ (Before c k (stageRow c (suc q) k) × ((j : ℕ) → 0 < stageRow c (suc q) k j → stageRow c (suc q) j ≡ unit j))
-        go (inl p) = inl (p .0)
-        go (inr p) = inr p
+  pub form-plus : (a b : Field) → stageFormIn sense c (suc q) (a ⊕ b) ≡ stageFormIn sense c (suc q) a ⊕ stageFormIn sense c (suc q) b
+  unfolding formAt
+  form-plus a b = fun-ext (λ j. weigh-plus (c .kinds) (λ k. stageRowIn sense c (suc q) k j) a b)
 
-    pub row-empty : (k : ℕ) → ¬ Reached c k → stageRow c (suc q) k ≡ none
-    row-empty k n = row-none c (kindNorm c) F q k n
+  -- A product of atoms is its own form.
+  pub form-self : (a : Field) → OfKinds c a → ((k : ℕ) → 0 < a k → stageRowIn sense c (suc q) k ≡ unit k) → stageFormIn sense c (suc q) a ≡ a
+  unfolding formAt decomp
+  form-self a u g = decomp-self N (stageRowIn sense c (suc q)) (past N fin) a (tidy-within N (past N fin) (past-whole N fin) a (tidy sense c (kindNorm c) F a u)) g
 
-    -- A kind whose row has a token is reached.
-    pub row-some : (k j : ℕ) → 0 < stageRow c (suc q) k j → Reached c k
-    row-some k j i = go (reached-or-out k)
-      where
-        go : Dec (Reached c k) → Reached c k
-        go (yes v) = v
-        go (no n) = absurd (omega (arith, ap (λ (x : Field). x j) (row-empty k n)))
+  -- The row of a reached kind is the kind itself, an atom, or a product of earlier atoms; that of any other kind is empty.
+  pub row-sort : (k : ℕ) → Reached c k
+      → (stageRowIn sense c (suc q) k ≡ unit k) ⊎ (Before c k (stageRowIn sense c (suc q) k) × ((j : ℕ) → 0 < stageRowIn sense c (suc q) k j → stageRowIn sense c (suc q) j ≡ unit j))
+  row-sort k h = go (base sense c F q .counts k h)
+    where
+      go : {A : Type 0} → ((stageRowIn sense c (suc q) k ≡ unit k) × A) ⊎ (Before c k (stageRowIn sense c (suc q) k) × ((j : ℕ) → 0 < stageRowIn sense c (suc q) k j → stageRowIn sense c (suc q) j ≡ unit j))
+          → (stageRowIn sense c (suc q) k ≡ unit k) ⊎ (Before c k (stageRowIn sense c (suc q) k) × ((j : ℕ) → 0 < stageRowIn sense c (suc q) k j → stageRowIn sense c (suc q) j ≡ unit j))
+      go (inl p) = inl (p .0)
+      go (inr p) = inr p
 
-    pub row-atom : (k : ℕ) → stageRow c (suc q) k ≡ unit k → Reached c k
-    row-atom k e = row-some k k (omega (arith, ap (λ (x : Field). x k) e, unit-same k))
+  pub row-empty : (k : ℕ) → ¬ Reached c k → stageRowIn sense c (suc q) k ≡ none
+  row-empty k n = row-none sense c (kindNorm c) F q k n
 
-    -- A row holds reached kinds alone, and atoms alone.
-    pub row-kinds : (k : ℕ) → OfKinds c (stageRow c (suc q) k)
-    row-kinds k j i = go (row-some k j i) (row-sort k (row-some k j i))
-      where
-        go : {A : Type 0} → Reached c k → (stageRow c (suc q) k ≡ unit k) ⊎ (Before c k (stageRow c (suc q) k) × A) → Reached c j
-        go v (inl e) = rw (unit-some k j (rw (ap (λ (x : Field). x j) e) at i)) v
-        go v (inr p) = p .0 j i .0
+  -- A kind whose row has a token is reached.
+  pub row-some : (k j : ℕ) → 0 < stageRowIn sense c (suc q) k j → Reached c k
+  row-some k j i = go (reached-or-out c F k)
+    where
+      go : Dec (Reached c k) → Reached c k
+      go (yes v) = v
+      go (no n) = absurd (omega (arith, ap (λ (x : Field). x j) (row-empty k n)))
 
-    pub row-atoms : (k j : ℕ) → 0 < stageRow c (suc q) k j → stageRow c (suc q) j ≡ unit j
-    row-atoms k j i = go (row-sort k (row-some k j i))
-      where
-        go : (stageRow c (suc q) k ≡ unit k) ⊎ (Before c k (stageRow c (suc q) k) × ((j : ℕ) → 0 < stageRow c (suc q) k j → stageRow c (suc q) j ≡ unit j))
-            → stageRow c (suc q) j ≡ unit j
-        go (inl e) = rw (unit-some k j (rw (ap (λ (x : Field). x j) e) at i)) e
-        go (inr p) = p .1 j i
+  pub row-atom : (k : ℕ) → stageRowIn sense c (suc q) k ≡ unit k → Reached c k
+  row-atom k e = row-some k k (omega (arith, ap (λ (x : Field). x k) e, unit-same k))
 
-    -- A kind and its row have one form, the row.
-    pub row-form : (k : ℕ) → stageForm c (suc q) (stageRow c (suc q) k) ≡ stageRow c (suc q) k
-    row-form k = form-self (stageRow c (suc q) k) (row-kinds k) (row-atoms k)
+  -- A row holds reached kinds alone, and atoms alone.
+  pub row-kinds : (k : ℕ) → OfKinds c (stageRowIn sense c (suc q) k)
+  row-kinds k j i = go (row-some k j i) (row-sort k (row-some k j i))
+    where
+      go : {A : Type 0} → Reached c k → (stageRowIn sense c (suc q) k ≡ unit k) ⊎ (Before c k (stageRowIn sense c (suc q) k) × A) → Reached c j
+      go v (inl e) = rw (unit-some k j (rw (ap (λ (x : Field). x j) e) at i)) v
+      go v (inr p) = p .0 j i .0
 
-    pub row-equal : (k : ℕ) → k < c .kinds → stageForm c (suc q) (unit k) ≡ stageForm c (suc q) (stageRow c (suc q) k)
-    row-equal k h = form-unit k h ∙ sym (row-form k)
+  pub row-atoms : (k j : ℕ) → 0 < stageRowIn sense c (suc q) k j → stageRowIn sense c (suc q) j ≡ unit j
+  row-atoms k j i = go (row-sort k (row-some k j i))
+    where
+      go : (stageRowIn sense c (suc q) k ≡ unit k) ⊎ (Before c k (stageRowIn sense c (suc q) k) × ((j : ℕ) → 0 < stageRowIn sense c (suc q) k j → stageRowIn sense c (suc q) j ≡ unit j))
+          → stageRowIn sense c (suc q) j ≡ unit j
+      go (inl e) = rw (unit-some k j (rw (ap (λ (x : Field). x j) e) at i)) e
+      go (inr p) = p .1 j i
 
-    -- The kind's own count tells whether it is an atom.
-    pub row-own : (k : ℕ) → (stageRow c (suc q) k k ≡ 1) ↔ (stageRow c (suc q) k ≡ unit k)
-    row-own k = ((λ e. go e (row-sort k (row-some k k (omega arith)))), (λ e. ap (λ (x : Field). x k) e ∙ unit-same k))
-      where
-        go : {A : Type 0} → stageRow c (suc q) k k ≡ 1 → (stageRow c (suc q) k ≡ unit k) ⊎ (Before c k (stageRow c (suc q) k) × A) → stageRow c (suc q) k ≡ unit k
-        go e (inl p) = p
-        go e (inr p) = absurd (earlier-not k (p .0 k (omega arith) .1))
+  -- A kind and its row have one form, the row.
+  pub row-form : (k : ℕ) → stageFormIn sense c (suc q) (stageRowIn sense c (suc q) k) ≡ stageRowIn sense c (suc q) k
+  row-form k = form-self (stageRowIn sense c (suc q) k) (row-kinds k) (row-atoms k)
 
-    -- An atom stays one at the next stage.
-    pub atom-stays : (k : ℕ) → stageRow c (suc q) k ≡ unit k → stageRow c (suc (suc q)) k ≡ unit k
-    atom-stays k e = go (base c F q .counts k h) (base c F (suc q) .counts k h)
-      where
-        h : Reached c k
-        h = row-atom k e
+  pub row-equal : (k : ℕ) → k < c .kinds → stageFormIn sense c (suc q) (unit k) ≡ stageFormIn sense c (suc q) (stageRowIn sense c (suc q) k)
+  row-equal k h = form-unit k h ∙ sym (row-form k)
 
-        Test : ℕ → Field → Type 0
-        Test s a = T (stage c (kindNorm c) s (unit k) a)
+  -- The kind's own count tells whether it is an atom.
+  pub row-own : (k : ℕ) → (stageRowIn sense c (suc q) k k ≡ 1) ↔ (stageRowIn sense c (suc q) k ≡ unit k)
+  row-own k = ((λ e. go e (row-sort k (row-some k k (omega arith)))), (λ e. ap (λ (x : Field). x k) e ∙ unit-same k))
+    where
+      go : {A : Type 0} → stageRowIn sense c (suc q) k k ≡ 1 → (stageRowIn sense c (suc q) k ≡ unit k) ⊎ (Before c k (stageRowIn sense c (suc q) k) × A) → stageRowIn sense c (suc q) k ≡ unit k
+      go e (inl p) = p
+      go e (inr p) = absurd (earlier-not c F k (p .0 k (omega arith) .1))
 
-        go : {A B C D : Type 0} → (A × ((a : Field) → Before c k a → ¬ Test (suc q) a)) ⊎ (Before c k (stageRow c (suc q) k) × B)
-            → ((stageRow c (suc (suc q)) k ≡ unit k) × C) ⊎ (Before c k (stageRow c (suc (suc q)) k) × D) → stageRow c (suc (suc q)) k ≡ unit k
-        go p (inl r) = r .0
-        go (inl p) (inr r) =
-            absurd (p .1 (stageRow c (suc (suc q)) k) (r .0) (stages c (kindNorm c) F .next q (unit k) (stageRow c (suc (suc q)) k) (unit-kinds k h) (λ j i. r .0 j i .0) .0 (base c F (suc q) .related k h) .0))
-        go (inr p) (inr r) = absurd (earlier-not k (p .0 k (rw e (omega (arith, unit-same k))) .1))
+  -- An atom stays one at the next stage.
+  pub atom-stays : (k : ℕ) → stageRowIn sense c (suc q) k ≡ unit k → stageRowIn sense c (suc (suc q)) k ≡ unit k
+  atom-stays k e = go (base sense c F q .counts k h) (base sense c F (suc q) .counts k h)
+    where
+      h : Reached c k
+      h = row-atom k e
 
-    -- A form is a product of atoms of the field's norm, of kinds no later than the field's.
-    module _ (a : Field) (u : OfKinds c a) where
-      whole : Within N (past N fin) a
-      whole = tidy-within N (past N fin) (past-whole N fin) a (tidy c (kindNorm c) F a u)
+      Test : ℕ → Field → Type 0
+      Test s a = T (stageIn sense c (kindNorm c) s (unit k) a)
 
-      pub form-atoms : (j : ℕ) → 0 < stageForm c (suc q) a j → Reached c j × (stageRow c (suc q) j ≡ unit j)
-      form-atoms j i =
-          let t = form-within N (level N q) (past N fin) (level-base N fin q) (past N fin) a (omega arith) whole in
-          let p = rw (ap (λ (x : Field). x j) (theirs c (kindNorm c) F q a u)) at i in
-          let h = F .out j (t .0 j p .1) in
-          (h, row-of c F q j h ∙ t .1 j p)
+      go : {A B C D : Type 0} → (A × ((a : Field) → Before c k a → ¬ Test (suc q) a)) ⊎ (Before c k (stageRowIn sense c (suc q) k) × B)
+          → ((stageRowIn sense c (suc (suc q)) k ≡ unit k) × C) ⊎ (Before c k (stageRowIn sense c (suc (suc q)) k) × D) → stageRowIn sense c (suc (suc q)) k ≡ unit k
+      go p (inl r) = r .0
+      go (inl p) (inr r) =
+          absurd (p .1 (stageRowIn sense c (suc (suc q)) k) (r .0) (stages sense c (kindNorm c) F .next q (unit k) (stageRowIn sense c (suc (suc q)) k) (unit-kinds c F k h) (λ j i. r .0 j i .0) .0 (base sense c F (suc q) .related k h) .0))
+      go (inr p) (inr r) = absurd (earlier-not c F k (p .0 k (rw e (omega (arith, unit-same k))) .1))
 
-      pub form-kinds : OfKinds c (stageForm c (suc q) a)
-      form-kinds j i = form-atoms j i .0
+  -- A form is a product of atoms of the field's norm, of kinds no later than the field's.
+  module _ (a : Field) (u : OfKinds c a) where
+    whole : Within N (past N fin) a
+    whole = tidy-within N (past N fin) (past-whole N fin) a (tidy sense c (kindNorm c) F a u)
 
-      pub form-norm : norm c (stageForm c (suc q) a) ≡ norm c a
-      form-norm =
-          ap (norm c) (theirs c (kindNorm c) F q a u)
-          ∙ sym (level-cong N q .norms a _ (form-rel N (level N q) (past N fin) (level-base N fin q) (level-cong N q) (level-low N fin q) a whole))
+    pub form-atoms : (j : ℕ) → 0 < stageFormIn sense c (suc q) a j → Reached c j × (stageRowIn sense c (suc q) j ≡ unit j)
+    form-atoms j i =
+        let t = form-within N (level N q) (past N fin) (level-base N fin q) (past N fin) a (omega arith) whole in
+        let p = rw (ap (λ (x : Field). x j) (theirs sense c (kindNorm c) F q a u)) at i in
+        let h = F .out j (t .0 j p .1) in
+        (h, row-of sense c F q j h ∙ t .1 j p)
 
-    pub form-before : (k : ℕ) → Reached c k → (a : Field) → Before c k a → Before c k (stageForm c (suc q) a)
-    form-before k h a f = before c F k h (stageForm c (suc q) a) (λ j i.
-        form-within N (level N q) (past N fin) (level-base N fin q) (rank N k) a (omega (arith, past-whole N fin k (F .reach .under k h))) (within c F k h a f) .0 j
-        (rw (ap (λ (x : Field). x j) (theirs c (kindNorm c) F q a (λ j i. f j i .0))) at i))
+    pub form-kinds : OfKinds c (stageFormIn sense c (suc q) a)
+    form-kinds j i = form-atoms j i .0
 
-    -- No count of a form passes the field's norm, and none of a row its kind's.
-    pub form-count : (a : Field) (j : ℕ) → stageForm c (suc q) a j ≤ norm c a
-    form-count a j =
-        let b = kept c (kindNorm c) F a in
-        let u : OfKinds c b = kept-kinds c (kindNorm c) F a in
-        omega (arith, count-most (stageForm c (suc q) b) (form-kinds b u) j, form-norm b u, ap (λ (x : Field). x j) (kept-form c (kindNorm c) F q a), kept-norm c (kindNorm c) F a)
+    pub form-norm : norm c (stageFormIn sense c (suc q) a) ≡ norm c a
+    form-norm =
+        ap (norm c) (theirs sense c (kindNorm c) F q a u)
+        ∙ sym (level-cong N q .norms a _ (form-rel N (level N q) (past N fin) (level-base N fin q) (level-cong N q) (level-low N fin q) a whole))
 
-    pub row-norm : (k : ℕ) → Reached c k → norm c (stageRow c (suc q) k) ≡ kindNorm c k
-    row-norm k h =
-        let l = F .reach .under k h in
-        ap (norm c) (sym (form-unit k l)) ∙ form-norm (unit k) (unit-kinds k h) ∙ weigh-unit (c .kinds) (kindNorm c) k l
+  pub form-before : (k : ℕ) → Reached c k → (a : Field) → Before c k a → Before c k (stageFormIn sense c (suc q) a)
+  form-before k h a f = before sense c F k h (stageFormIn sense c (suc q) a) (λ j i.
+      form-within N (level N q) (past N fin) (level-base N fin q) (rank N k) a (omega (arith, past-whole N fin k (F .reach .under k h))) (within sense c F k h a f) .0 j
+      (rw (ap (λ (x : Field). x j) (theirs sense c (kindNorm c) F q a (λ j i. f j i .0))) at i))
 
-    pub row-count : (k j : ℕ) → stageRow c (suc q) k j ≤ kindNorm c k
-    row-count k j = go (decLt 0 (stageRow c (suc q) k j))
-      where
-        go : Dec (0 < stageRow c (suc q) k j) → stageRow c (suc q) k j ≤ kindNorm c k
-        go (yes p) = omega (arith, count-most (stageRow c (suc q) k) (row-kinds k) j, row-norm k (row-some k j p))
-        go (no p) = omega arith
+  -- No count of a form passes the field's norm, and none of a row its kind's.
+  pub form-count : (a : Field) (j : ℕ) → stageFormIn sense c (suc q) a j ≤ norm c a
+  form-count a j =
+      let b = kept sense c (kindNorm c) F a in
+      let u : OfKinds c b = kept-kinds sense c (kindNorm c) F a in
+      omega (arith, count-most c F (stageFormIn sense c (suc q) b) (form-kinds b u) j, form-norm b u, ap (λ (x : Field). x j) (kept-form sense c (kindNorm c) F q a), kept-norm sense c (kindNorm c) F a)
 
-    -- A row and a form are 0 past the kinds.
-    pub row-past : (k j : ℕ) → c .kinds ≤ j → stageRow c (suc q) k j ≡ 0
-    row-past k j i = go (decLt 0 (stageRow c (suc q) k j))
-      where
-        go : Dec (0 < stageRow c (suc q) k j) → stageRow c (suc q) k j ≡ 0
-        go (yes p) = absurd (omega (arith, F .reach .under j (row-kinds k j p)))
-        go (no p) = none-of _ p
+  pub row-norm : (k : ℕ) → Reached c k → norm c (stageRowIn sense c (suc q) k) ≡ kindNorm c k
+  row-norm k h =
+      let l = F .reach .under k h in
+      ap (norm c) (sym (form-unit k l)) ∙ form-norm (unit k) (unit-kinds c F k h) ∙ weigh-unit (c .kinds) (kindNorm c) k l
 
-    pub form-past : (a : Field) (j : ℕ) → c .kinds ≤ j → stageForm c (suc q) a j ≡ 0
-    unfolding formAt
-    form-past a j i = go (decLt 0 (weigh (c .kinds) (λ k. stageRow c (suc q) k j) a))
-      where
-        go : Dec (0 < weigh (c .kinds) (λ k. stageRow c (suc q) k j) a) → weigh (c .kinds) (λ k. stageRow c (suc q) k j) a ≡ 0
-        go (yes p) = let t = weigh-some (c .kinds) (λ k. stageRow c (suc q) k j) a p in absurd (omega (arith, F .reach .under j (row-kinds (t .0) j (t .3))))
-        go (no p) = none-of _ p
+  pub row-count : (k j : ℕ) → stageRowIn sense c (suc q) k j ≤ kindNorm c k
+  row-count k j = go (decLt 0 (stageRowIn sense c (suc q) k j))
+    where
+      go : Dec (0 < stageRowIn sense c (suc q) k j) → stageRowIn sense c (suc q) k j ≤ kindNorm c k
+      go (yes p) = omega (arith, count-most c F (stageRowIn sense c (suc q) k) (row-kinds k) j, row-norm k (row-some k j p))
+      go (no p) = omega arith
+
+  -- A row and a form are 0 past the kinds.
+  pub row-past : (k j : ℕ) → c .kinds ≤ j → stageRowIn sense c (suc q) k j ≡ 0
+  row-past k j i = go (decLt 0 (stageRowIn sense c (suc q) k j))
+    where
+      go : Dec (0 < stageRowIn sense c (suc q) k j) → stageRowIn sense c (suc q) k j ≡ 0
+      go (yes p) = absurd (omega (arith, F .reach .under j (row-kinds k j p)))
+      go (no p) = none-of _ p
+
+  pub form-past : (a : Field) (j : ℕ) → c .kinds ≤ j → stageFormIn sense c (suc q) a j ≡ 0
+  unfolding formAt
+  form-past a j i = go (decLt 0 (weigh (c .kinds) (λ k. stageRowIn sense c (suc q) k j) a))
+    where
+      go : Dec (0 < weigh (c .kinds) (λ k. stageRowIn sense c (suc q) k j) a) → weigh (c .kinds) (λ k. stageRowIn sense c (suc q) k j) a ≡ 0
+      go (yes p) = let t = weigh-some (c .kinds) (λ k. stageRowIn sense c (suc q) k j) a p in absurd (omega (arith, F .reach .under j (row-kinds (t .0) j (t .3))))
+      go (no p) = none-of _ p
 
 -- A later stage relates no more than an earlier one: a field and its form at the next stage have one form at this one.
-module _ (c : Card) (F : Found c (kindNorm c)) (q : ℕ) where
-  next-kept : (a : Field) → OfKinds c a → stageForm c (suc q) (stageForm c (suc (suc q)) a) ≡ stageForm c (suc q) a
+module _ (sense : Sense) (c : Card) (F : Found c (kindNorm c)) (q : ℕ) where
+  next-kept : (a : Field) → OfKinds c a → stageFormIn sense c (suc q) (stageFormIn sense c (suc (suc q)) a) ≡ stageFormIn sense c (suc q) a
   next-kept a u =
-      let f = form-kinds c F (suc q) a u in
-      let e = form-self c F (suc q) (stageForm c (suc (suc q)) a) f (λ j i. form-atoms c F (suc q) a u j i .1) in
-      test-next c (kindNorm c) F (stageForm c (suc (suc q)) a) a f u q .0 e .0
+      let f = form-kinds sense c F (suc q) a u in
+      let e = form-self sense c F (suc q) (stageFormIn sense c (suc (suc q)) a) f (λ j i. form-atoms sense c F (suc q) a u j i .1) in
+      test-next sense c (kindNorm c) F (stageFormIn sense c (suc (suc q)) a) a f u q .0 e .0
 
-  pub form-next : (a : Field) → stageForm c (suc q) (stageForm c (suc (suc q)) a) ≡ stageForm c (suc q) a
+  pub form-next : (a : Field) → stageFormIn sense c (suc q) (stageFormIn sense c (suc (suc q)) a) ≡ stageFormIn sense c (suc q) a
   form-next a =
       let w = kindNorm c in
-      ap (stageForm c (suc q)) (sym (kept-form c w F (suc q) a)) ∙ next-kept (kept c w F a) (kept-kinds c w F a) ∙ kept-form c w F q a
+      ap (stageFormIn sense c (suc q)) (sym (kept-form sense c w F (suc q) a)) ∙ next-kept (kept sense c w F a) (kept-kinds sense c w F a) ∙ kept-form sense c w F q a
 
-  pub equal-before : (a b : Field) → stageForm c (suc (suc q)) a ≡ stageForm c (suc (suc q)) b → stageForm c (suc q) a ≡ stageForm c (suc q) b
-  equal-before a b e = sym (form-next a) ∙ ap (stageForm c (suc q)) e ∙ form-next b
+  pub equal-before : (a b : Field) → stageFormIn sense c (suc (suc q)) a ≡ stageFormIn sense c (suc (suc q)) b → stageFormIn sense c (suc q) a ≡ stageFormIn sense c (suc q) b
+  equal-before a b e = sym (form-next a) ∙ ap (stageFormIn sense c (suc q)) e ∙ form-next b

@@ -8,8 +8,9 @@ use borrow.Author.Count.{below-more}
 use native.Mathlib.Decide.{ℕ-discrete}
 use native.Mathlib.Omega.{arith}
 use lib.ListN.{length}
+use Rattle.model.specs.Sense.{Sense}
 use Rattle.model.specs.Field.{Field, unit, at}
-use Rattle.model.specs.Base.{stageRow}
+use Rattle.model.specs.Base.{stageRowIn}
 use Rattle.model.specs.Limits.{mostKinds}
 use Rattle.model.specs.Refusal.{Accepted}
 use Rattle.model.specs.Sheet.{lineOf, cardOf}
@@ -40,19 +41,19 @@ module _ (lines : List ℕ) {own : List ℕ} {k : ℕ} (L : Lists (UsableIn line
   own-some w = omega (arith, L .entries (w .0) .1 (w .1 .0, rw (w .1 .1) (omega (arith, unit-same k))) .1)
 
 -- The lines before line m are tried: none of them tells the row, and all rows of the table but k's are as they were.
-pub record Searched (lines classes forms : List ℕ) (k l : ℕ) (old rows : List ℕ) (m : ℕ) : Type 0 where
+pub record Searched (sense : Sense) (lines classes forms : List ℕ) (k l : ℕ) (old rows : List ℕ) (m : ℕ) : Type 0 where
   pub within : m ≤ linesIn lines
   pub long : length rows ≡ length old
   pub others : OthersKept k old rows
-  pub sought : (s : List ℕ) (t : ℕ) → StageGiven s t lines classes → RowSought s t k old forms → RowSought s t k rows forms
-  pub none : (s : List ℕ) (t : ℕ) → StageGiven s t lines classes → RowSought s t k old forms → (x : ℕ) → x < m → TellsNone s t k l x
+  pub sought : (s : List ℕ) (t : ℕ) → StageGiven sense s t lines classes → RowSought sense s t k old forms → RowSought sense s t k rows forms
+  pub none : (s : List ℕ) (t : ℕ) → StageGiven sense s t lines classes → RowSought sense s t k old forms → (x : ℕ) → x < m → TellsNone sense s t k l x
 
-pub searched-none : {lines classes forms : List ℕ} {k l : ℕ} {rows : List ℕ} → Searched lines classes forms k l rows rows 0
+pub searched-none : {sense : Sense} {lines classes forms : List ℕ} {k l : ℕ} {rows : List ℕ} → Searched sense lines classes forms k l rows rows 0
 searched-none = record { within = omega arith; long = refl; others = λ i _. refl; sought = λ s t _ K. K; none = λ s t _ _ x h. absurd (omega arith) }
 
 -- The table with another row k, whose own count is not 1, tells as much of the earlier kinds.
-sought-kept : {s : List ℕ} {t k : ℕ} {rows new forms : List ℕ} → Accepted s → OthersKept k rows new → ¬ (rowIn new k k ≡ 1) → RowSought s t k rows forms → RowSought s t k new forms
-sought-kept {s} {t} {k} {rows} {new} ok o n K =
+sought-kept : {sense : Sense} {s : List ℕ} {t k : ℕ} {rows new forms : List ℕ} → Accepted s → OthersKept k rows new → ¬ (rowIn new k k ≡ 1) → RowSought sense s t k rows forms → RowSought sense s t k new forms
+sought-kept {sense} {s} {t} {k} {rows} {new} ok o n K =
     let E = K .earlier-set in
     record {
       earlier-set = record {
@@ -73,9 +74,9 @@ sought-kept {s} {t} {k} {rows} {new} ok o n K =
     early j one (yes e) f = absurd (n (rw e at one))
     early j one (no d) f = f (ap (λ (g : Field). g j) (sym (o j d)) ∙ one)
 
-module _ {lines classes forms : List ℕ} {k l : ℕ} {old rows : List ℕ} {m : ℕ} (H : Searched lines classes forms k l old rows m) (lw : LowersKind lines k l) (hm : m < linesIn lines) where
+module _ {sense : Sense} {lines classes forms : List ℕ} {k l : ℕ} {old rows : List ℕ} {m : ℕ} (H : Searched sense lines classes forms k l old rows m) (lw : LowersKind lines k l) (hm : m < linesIn lines) where
   -- Line m does not suit.
-  pub searched-skip : (Suits lines classes rows l m → ⊥) → Searched lines classes forms k l old rows (m + 1)
+  pub searched-skip : (Suits lines classes rows l m → ⊥) → Searched sense lines classes forms k l old rows (m + 1)
   searched-skip n =
       record {
         within = omega arith;
@@ -87,15 +88,15 @@ module _ {lines classes forms : List ℕ} {k l : ℕ} {old rows : List ℕ} {m :
 
   -- Line m suits, and tells the candidate with l.
   module _ (S : Suits lines classes rows l m) {found : Bool} {counts : List ℕ} (I : IsCandidate (rowIn forms l) (rowIn forms m) (kindIn lines m) found counts) where
-    only-told : {s : List ℕ} {t : ℕ} (G : StageGiven s t lines classes) → RowSought s t k old forms → LowersAt s m → Earlier (cardOf s) (lineKind s m) k → (b : Field)
-        → ToldAt (cardOf s) t (lineOf s l) (lineOf s m) b → (found ≡ true) × (b ≡ at counts)
+    only-told : {s : List ℕ} {t : ℕ} (G : StageGiven sense s t lines classes) → RowSought sense s t k old forms → LowersAt s m → Earlier (cardOf s) (lineKind s m) k → (b : Field)
+        → ToldAt sense (cardOf s) t (lineOf s l) (lineOf s m) b → (found ≡ true) × (b ≡ at counts)
     only-told {s} {t} G K w e b q =
         let now = H .sought s t G K in
         let told = told-is G now lw m w e b .1 q in
         I .only b (product-narrow G now lw b (suits-product G now lw hm S b told)) told
 
     -- There is none.
-    pub searched-unfound : found ≡ false → Searched lines classes forms k l old rows (m + 1)
+    pub searched-unfound : found ≡ false → Searched sense lines classes forms k l old rows (m + 1)
     searched-unfound e =
         record {
           within = omega arith;
@@ -116,18 +117,18 @@ module _ {lines classes forms : List ℕ} {k l : ℕ} {old rows : List ℕ} {m :
       row-told : ToldIn lines forms l m (rowIn new k)
       row-told = rw row-is (I .gives yes-found)
 
-      module _ {s : List ℕ} {t : ℕ} (G : StageGiven s t lines classes) (K : RowSought s t k old forms) where
-        product : Product (cardOf s) t k (rowIn new k)
+      module _ {s : List ℕ} {t : ℕ} (G : StageGiven sense s t lines classes) (K : RowSought sense s t k old forms) where
+        product : Product sense (cardOf s) t k (rowIn new k)
         product = suits-product G (H .sought s t G K) lw hm S (rowIn new k) row-told
 
-        now-sought : RowSought s t k new forms
+        now-sought : RowSought sense s t k new forms
         now-sought = sought-kept (G .accepted) kept (λ one. earlier-not (cardOf s) (certified s (G .accepted)) k (product .before k (omega arith) .1)) (H .sought s t G K)
 
-        passes-row : Passes lines new forms classes k ↔ (stageRow (cardOf s) (suc t) k ≡ rowIn new k)
+        passes-row : Passes sense lines new forms classes k ↔ (stageRowIn sense (cardOf s) (suc t) k ≡ rowIn new k)
         passes-row = passes-iff G now-sought product (suits-form G (H .sought s t G K) lw hm S (rowIn new k) row-told)
 
       -- It does not pass.
-      pub searched-failed : length new ≡ length rows → (Passes lines new forms classes k → ⊥) → Searched lines classes forms k l old new (m + 1)
+      pub searched-failed : length new ≡ length rows → (Passes sense lines new forms classes k → ⊥) → Searched sense lines classes forms k l old new (m + 1)
       searched-failed same n =
           record {
             within = omega arith;
@@ -141,17 +142,17 @@ module _ {lines classes forms : List ℕ} {k l : ℕ} {old rows : List ℕ} {m :
       pub searched-passed : OthersKept k old new
       searched-passed i d = kept i d ∙ H .others i d
 
-      pub searched-row : Passes lines new forms classes k → (s : List ℕ) (t : ℕ) → StageGiven s t lines classes → RowSought s t k old forms → rowIn new k ≡ stageRow (cardOf s) (suc t) k
+      pub searched-row : Passes sense lines new forms classes k → (s : List ℕ) (t : ℕ) → StageGiven sense s t lines classes → RowSought sense s t k old forms → rowIn new k ≡ stageRowIn sense (cardOf s) (suc t) k
       searched-row p s t G K = sym (passes-row G K .0 p)
 
 -- All lines are tried, and the kind is set as its own row.
-module _ {lines classes forms : List ℕ} {k l : ℕ} {old rows : List ℕ} {m : ℕ} (H : Searched lines classes forms k l old rows m) (lw : LowersKind lines k l) (all : linesIn lines ≤ m)
+module _ {sense : Sense} {lines classes forms : List ℕ} {k l : ℕ} {old rows : List ℕ} {m : ℕ} (H : Searched sense lines classes forms k l old rows m) (lw : LowersKind lines k l) (all : linesIn lines ≤ m)
     {new : List ℕ} (set : RowSet (unit k) k rows new) where
   pub searched-all : OthersKept k old new
   searched-all i d = set .others i d ∙ H .others i d
 
-  pub searched-atom : (s : List ℕ) (t : ℕ) → StageGiven s t lines classes → RowSought s t k old forms → rowIn new k ≡ stageRow (cardOf s) (suc t) k
+  pub searched-atom : (s : List ℕ) (t : ℕ) → StageGiven sense s t lines classes → RowSought sense s t k old forms → rowIn new k ≡ stageRowIn sense (cardOf s) (suc t) k
   searched-atom s t G K =
       let now = H .sought s t G K in
       set .here
-      ∙ sym (no-line-tells s (G .accepted) t k (K .earlier-set .is-reached) l (ll G now lw) (lk G now lw) (λ x. λ w. H .none s t G K x (omega (arith, w .0, G .lines-are .long)) w))
+      ∙ sym (no-line-tells sense s (G .accepted) t k (K .earlier-set .is-reached) l (ll G now lw) (lk G now lw) (λ x. λ w. H .none s t G K x (omega (arith, w .0, G .lines-are .long)) w))

@@ -3,8 +3,9 @@ use mathlib.Core.List.{List}
 use Prim.Native.Nat.{ℕ, suc, _+_, _^_, _≤_, _<_}
 use native.Mathlib.Bridge.{le-by-compare, IsLe}
 use native.Mathlib.Omega.{arith}
+use Rattle.model.specs.Sense.{Sense}
 use Rattle.model.specs.Field.{Field}
-use Rattle.model.specs.Base.{stageForm}
+use Rattle.model.specs.Base.{stageFormIn}
 use Rattle.model.specs.Sheet.{kindCount, cardOf, fieldOf}
 use Rattle.model.specs.Limits.{normLimit}
 use Rattle.model.specs.Refusal.{Accepted}
@@ -20,12 +21,12 @@ pub narrow : (mostFieldNorm + normLimit < 2 ^ 64) × (normLimit < 2 ^ 32)
 unfolding IsLe
 narrow = (le-by-compare _ _ tt, le-by-compare _ _ tt)
 
-module _ (s : List ℕ) (ok : Accepted s) (q : ℕ) where
+module _ (sense : Sense) (s : List ℕ) (ok : Accepted s) (q : ℕ) where
   -- No count of a candidate passes the norm limit.
-  pub product-limit : (k : ℕ) → k < kindCount s → (b : Field) → Product (cardOf s) q k b → (j : ℕ) → b j ≤ normLimit
+  pub product-limit : (k : ℕ) → k < kindCount s → (b : Field) → Product sense (cardOf s) q k b → (j : ℕ) → b j ≤ normLimit
   product-limit k h b P j = omega (arith, P .small j, limit-of s ok k h)
 
   module _ (bytes : Bytes s) where
     -- No count of the form of a field passes the most norm that a field can have.
-    pub field-form-limit : (i j : ℕ) → stageForm (cardOf s) (suc q) (fieldOf s i) j ≤ mostFieldNorm
-    field-form-limit i j = omega (arith, form-count (cardOf s) (certified s ok) q (fieldOf s i) j, widths s bytes ok .field-norm i)
+    pub field-form-limit : (i j : ℕ) → stageFormIn sense (cardOf s) (suc q) (fieldOf s i) j ≤ mostFieldNorm
+    field-form-limit i j = omega (arith, form-count sense (cardOf s) (certified s ok) q (fieldOf s i) j, widths s bytes ok .field-norm i)

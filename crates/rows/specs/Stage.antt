@@ -6,7 +6,8 @@ use Prim.Native.Nat.{ℕ, suc, _<_}
 use Rattle.model.specs.Field.{Field, _⊕_, unit, at}
 use Rattle.model.specs.Card.{Line, Card}
 use Rattle.model.specs.Norm.{kindNorm, norm}
-use Rattle.model.specs.Base.{stageRow, stageForm}
+use Rattle.model.specs.Sense.{Sense}
+use Rattle.model.specs.Base.{stageRowIn, stageFormIn}
 use Rattle.model.specs.Sheet.{kindCount, lineCount, lineOf, cardOf}
 use Rattle.tables.specs.Table.{rowIn}
 use Rattle.tables.specs.Lines.{linesIn, kindIn, codeIn, LowersIn}
@@ -17,21 +18,22 @@ use Rattle.tables.specs.Class.{MayUseAlike}
 abbrev pub Told : {A : Type 0} → (A → ℕ) → (A → Field) → A → A → Field → Type 0
 Told kind form l m b = b ⊕ form m ≡ unit (kind m) ⊕ form l
 
--- The form, at stage q + 1, of what a line leaves.
-abbrev pub leftForm : Card → ℕ → Line → Field
-leftForm c q l = stageForm c (suc q) (l .left)
+module _ (sense : Sense) (c : Card) where
+  -- The form, at stage q + 1, of what a line leaves.
+  abbrev pub leftForm : ℕ → Line → Field
+  leftForm q l = stageFormIn sense c (suc q) (l .left)
 
--- b is the candidate that two lines of a card tell, by the forms of stage q + 1.
-abbrev pub ToldAt : Card → ℕ → Line → Line → Field → Type 0
-ToldAt c q = Told (λ l. l .kind) (leftForm c q)
+  -- b is the candidate that two lines of a card tell, by the forms of stage q + 1.
+  abbrev pub ToldAt : ℕ → Line → Line → Field → Type 0
+  ToldAt q = Told (λ l. l .kind) (leftForm q)
 
--- Two lines of a card match, by any rows of the kinds and the forms of stage q + 1.
-abbrev pub MatchBy : Card → ℕ → (ℕ → Field) → Line → Line → Type 0
-MatchBy c q row = Match (λ l. l .kind) (λ l. l .code) row (leftForm c q)
+  -- Two lines of a card match, by any rows of the kinds and the forms of stage q + 1.
+  abbrev pub MatchBy : ℕ → (ℕ → Field) → Line → Line → Type 0
+  MatchBy q row = Match (λ l. l .kind) (λ l. l .code) row (leftForm q)
 
--- Two lines of a card match at stage q + 1, by its rows and forms: wherever two fields of equal forms may use them, they read one code and leave equal forms.
-abbrev pub MatchAt : Card → ℕ → Line → Line → Type 0
-MatchAt c q = MatchBy c q (stageRow c (suc q))
+  -- Two lines of a card match at stage q + 1, by its rows and forms: wherever two fields of equal forms may use them, they read one code and leave equal forms.
+  abbrev pub MatchAt : ℕ → Line → Line → Type 0
+  MatchAt q = MatchBy q (stageRowIn sense c (suc q))
 
 module _ (s : List ℕ) where
   -- The kind of line j of the sheet.
@@ -46,9 +48,22 @@ module _ (s : List ℕ) where
   abbrev pub UsableAt : Field → ℕ → Type 0
   UsableAt = Usable LowersAt lineKind
 
+  -- The two fields may use lines of the same classes.
+  abbrev pub AlikeAt : List ℕ → Field → Field → Type 0
+  AlikeAt classes = MayUseAlike lineKind (at classes) (lineCount s)
+
+  -- The table holds the lines, read once: their kinds, their codes, and which of them lower the norm.
+  pub record LinesAre (lines : List ℕ) : Type 0 where
+    pub long : linesIn lines ≡ lineCount s
+    pub kind-is : (j : ℕ) → j < lineCount s → kindIn lines j ≡ lineOf s j .kind
+    pub code-is : (j : ℕ) → j < lineCount s → codeIn lines j ≡ lineOf s j .code
+    pub lowers-is : (j : ℕ) → j < lineCount s → LowersIn lines j ↔ LowersAt j
+
+-- At a stage of a sense.
+module _ (sense : Sense) (s : List ℕ) where
   -- Lines i and j of the sheet match at stage q + 1.
   abbrev pub LinesMatch : ℕ → ℕ → ℕ → Type 0
-  LinesMatch q i j = MatchAt (cardOf s) q (lineOf s i) (lineOf s j)
+  LinesMatch q i j = MatchAt sense (cardOf s) q (lineOf s i) (lineOf s j)
 
   -- A number for each line, its class, tells which lines match.
   abbrev pub Classes : ℕ → List ℕ → Type 0
@@ -58,21 +73,10 @@ module _ (s : List ℕ) where
   abbrev pub BoundsAt : ℕ → List ℕ → Type 0
   BoundsAt q bounds = Bounds (LinesMatch q) (lineCount s) bounds
 
-  -- The two fields may use lines of the same classes.
-  abbrev pub AlikeAt : List ℕ → Field → Field → Type 0
-  AlikeAt classes = MayUseAlike lineKind (at classes) (lineCount s)
-
   -- "A base at a stage gives each kind the counts" of the table's row. Stages here are from 1 up.
   abbrev pub BaseAt : ℕ → List ℕ → Type 0
-  BaseAt t rows = (k : ℕ) → k < kindCount s → rowIn rows k ≡ stageRow (cardOf s) t k
+  BaseAt t rows = (k : ℕ) → k < kindCount s → rowIn rows k ≡ stageRowIn sense (cardOf s) t k
 
   -- The table's rows are the decompositions, at a stage, of what the lines leave.
   abbrev pub FormsAt : ℕ → List ℕ → Type 0
-  FormsAt t forms = (j : ℕ) → j < lineCount s → rowIn forms j ≡ stageForm (cardOf s) t (lineOf s j .left)
-
-  -- The table holds the lines, read once: their kinds, their codes, and which of them lower the norm.
-  pub record LinesAre (lines : List ℕ) : Type 0 where
-    pub long : linesIn lines ≡ lineCount s
-    pub kind-is : (j : ℕ) → j < lineCount s → kindIn lines j ≡ lineOf s j .kind
-    pub code-is : (j : ℕ) → j < lineCount s → codeIn lines j ≡ lineOf s j .code
-    pub lowers-is : (j : ℕ) → j < lineCount s → LowersIn lines j ↔ LowersAt j
+  FormsAt t forms = (j : ℕ) → j < lineCount s → rowIn forms j ≡ stageFormIn sense (cardOf s) t (lineOf s j .left)

@@ -6,6 +6,7 @@ use tables::effect::candidate;
 use tables::lines::code_of;
 use tables::lines::kind_of;
 use tables::lines::lowers;
+use tables::sense::Sense;
 use tables::table::form_of;
 use tables::table::is_atom;
 use tables::table::set_row;
@@ -15,13 +16,14 @@ ghost use mathlib.Core.List.{List};
 ghost use mathlib.Core.Logic.{_↔_};
 ghost use Prim.Native.Nat.{ℕ, suc, _^_, _≤_, _<_};
 ghost use lib.ListN.{length};
-ghost use Rattle.model.specs.Base.{stageRow};
+ghost use Rattle.model.specs.Base.{stageRowIn};
 ghost use Rattle.model.specs.Field.{unit};
 ghost use Rattle.model.specs.Limits.{mostKinds};
 ghost use Rattle.model.specs.Sheet.{cardOf};
 ghost use Rattle.tables.specs.Table.{Under, rowIn, IsCandidate};
 ghost use Rattle.tables.specs.Lines.{linesIn, kindIn, LineTable};
 ghost use Rattle.tables.specs.Match.{Lists, MatchTables, UsableIn};
+ghost use Rattle.tables.specs.Senses.{senseOf};
 ghost use Rattle.tables.specs.Class.{KindMarks};
 ghost use Rattle.rows.specs.Forms.{OthersKept, RowSet};
 ghost use Rattle.rows.specs.Row.{Suits};
@@ -67,6 +69,7 @@ pub fn set_atom(rows: &mut [u32], kind: usize)
 
 // Sets the row of a kind, of those that the first of its own lowering lines tells: each candidate is set in the table and tested there. Where none passes, the kind is its own row.
 pub fn told_row(
+    sense: Sense,
     lines: &[u8],
     classes: &[u8],
     marks: &[bool],
@@ -80,7 +83,7 @@ pub fn told_row(
     requires { ⌜ KindMarks (now lines) (now classes) (now marks) ⌝ }
     requires { ⌜ Lists (UsableIn (now lines) (unit kind)) (now own) × (0 < length (now own)) ⌝ }
     ensures { λ _. ⌜ OthersKept kind (now (rows .entry)) (now (rows .exit)) ⌝ }
-    ensures { λ _. ⌜ ((s : List ℕ) (t : ℕ) → StageGiven s t (now (lines .entry)) (now (classes .entry)) → RowSought s t kind (now (rows .entry)) (now (forms .entry)) → rowIn (now (rows .exit)) kind ≡ stageRow (cardOf s) (suc t) kind) ⌝ }
+    ensures { λ _. ⌜ ((s : List ℕ) (t : ℕ) → StageGiven (senseOf sense) s t (now (lines .entry)) (now (classes .entry)) → RowSought (senseOf sense) s t kind (now (rows .entry)) (now (forms .entry)) → rowIn (now (rows .exit)) kind ≡ stageRowIn (senseOf sense) (cardOf s) (suc t) kind) ⌝ }
 {
     let count = lines.len() / 3;
     let line = own[0] as usize;
@@ -91,7 +94,7 @@ pub fn told_row(
             if tried.found {
                 let counts = tried.counts;
                 set_row(rows, kind, &counts);
-                if passes(lines, marks, rows, forms, own, kind) {
+                if passes(sense, lines, marks, rows, forms, own, kind) {
                     return;
                 }
             }

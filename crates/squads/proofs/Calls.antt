@@ -6,6 +6,7 @@ use Prim.Native.Nat.{ℕ, _≤_, _<_}
 use native.Mathlib.Omega.{arith}
 use lib.Dec.{eqb}
 use lib.ListN.{length}
+use Rattle.model.specs.Sense.{plain}
 use Rattle.model.specs.Finite.{listFrom}
 use Rattle.model.specs.Field.{at, tokens}
 use Rattle.model.specs.Squads.{timesIn, remainder}
@@ -79,10 +80,10 @@ module _ (s : List ℕ) (i j : ℕ) (buffer : List ℕ) where
 -- Two lists of counts that are the prime forms, divided.
 module _ (s : List ℕ) (i j : ℕ) (whole squad : List ℕ) (w : whole ≡ primeForm s i) (q : squad ≡ primeForm s j) where
   whole-long : length whole ≡ kindCount s
-  whole-long = ap length w ∙ demand1 s .form-size i
+  whole-long = ap length w ∙ demand1 s .form-size plain i
 
   squad-long : length squad ≡ kindCount s
-  squad-long = ap length q ∙ demand1 s .form-size j
+  squad-long = ap length q ∙ demand1 s .form-size plain j
 
   -- They can be: they are as long as each other, the squad's are not all 0, and the buffer has room.
   pub can-divide : Accepted s → 0 < tokens (kindCount s) (fieldOf s j) → (room : ℕ) → kindCount s ≤ room

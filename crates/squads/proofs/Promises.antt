@@ -6,6 +6,7 @@ use Prim.Native.Nat.{ℕ, _+_, _*_, _≤_, _<_}
 use native.Mathlib.Omega.{arith}
 use lib.ListN.{length, take}
 use lib.Seq.{take-at}
+use Rattle.model.specs.Sense.{plain}
 use Rattle.model.specs.Field.{Field, at, tokens}
 use Rattle.model.specs.Limits.{Limits}
 use Rattle.model.specs.Sheet.{kindCount, fieldCount, fieldOf}
@@ -87,7 +88,7 @@ module _ (s : List ℕ) (i j : ℕ) (buffer : List ℕ) (answer : Squads) (after
         × ((x : Field) → ((k : ℕ) → q * at (take (kindCount s) after-squad) k + x k ≡ at (take (kindCount s) after-whole) k) → x ≡ at (take (kindCount s) after))
     exact whole squad after-whole after-squad f g l m =
         let S = squads {0} s ok i j in
-        rw (form-begins s i whole after-whole f ok (taken .1) l, form-begins s j squad after-squad g ok (taken .2) m, begins, ← count-is) (S .exact, S .no-other)
+        rw (form-begins plain s i whole after-whole f ok (taken .1) l, form-begins plain s j squad after-squad g ok (taken .2) m, begins, ← count-is) (S .exact, S .no-other)
 
 pub promises {ℓ} : Promises {ℓ}
 promises = record {

@@ -4,6 +4,7 @@ ghost use Prim.Native.Nat.{_≤_, _<_};
 ghost use lib.Dec.{eqb};
 ghost use lib.ListN.{length};
 ghost use Rattle.model.specs.Field.{tokens};
+ghost use Rattle.model.specs.Sense.{plain};
 ghost use Rattle.model.specs.Base.{settledStage};
 ghost use Rattle.model.specs.Sheet.{kindCount, cardOf, fieldOf};
 ghost use Rattle.model.specs.Refusal.{Accepted};
@@ -16,6 +17,7 @@ use filer::form::prime_counts;
 use filer::settlement::settle_once;
 use quotients::divide::divide;
 use sheet::Card;
+use tables::sense::Sense;
 use tables::table::Base;
 use validation::checks::Checked;
 use validation::fields::check_fields;
@@ -26,7 +28,7 @@ pub fn squads(sheet: &[u8], whole: usize, squad: usize, remainder: &mut [u64]) -
     ensures { λ r. ⌜ squadsAnswer r ≡ squadsOf (now (sheet .entry)) whole squad (now (remainder .entry)) .answer ⌝ }
     ensures { λ r. ⌜ now (remainder .exit) ≡ squadsOf (now (sheet .entry)) whole squad (now (remainder .entry)) .lent ⌝ }
 {
-    let settlement = settle_once(sheet);
+    let settlement = settle_once(Sense::Plain, sheet);
     let checked = settlement.checked;
     let settled = settlement.settled;
     match check_fields(checked, whole, squad) {
@@ -52,7 +54,7 @@ fn squads_accepted(
     remainder: &mut [u64],
 ) -> Squads
     requires { ⌜ Reads (now sheet) card × Accepted (now sheet) ⌝ }
-    requires { ⌜ BaseAt (now sheet) (settledStage (cardOf (now sheet))) (base .rows) ⌝ }
+    requires { ⌜ BaseAt plain (now sheet) (settledStage (cardOf (now sheet))) (base .rows) ⌝ }
     requires { ⌜ (whole < card .fields) × (squad < card .fields) ⌝ }
     ensures { λ r. ⌜ squadsAnswer r ≡ squadsOf (now (sheet .entry)) whole squad (now (remainder .entry)) .answer ⌝ }
     ensures { λ r. ⌜ now (remainder .exit) ≡ squadsOf (now (sheet .entry)) whole squad (now (remainder .entry)) .lent ⌝ }
@@ -92,7 +94,7 @@ fn divide_forms(
     remainder: &mut [u64],
 ) -> u64
     requires { ⌜ Reads (now sheet) card × Accepted (now sheet) ⌝ }
-    requires { ⌜ BaseAt (now sheet) (settledStage (cardOf (now sheet))) (base .rows) ⌝ }
+    requires { ⌜ BaseAt plain (now sheet) (settledStage (cardOf (now sheet))) (base .rows) ⌝ }
     requires { ⌜ (whole < card .fields) × (squad < card .fields) ⌝ }
     requires { ⌜ 0 < tokens (kindCount (now sheet)) (fieldOf (now sheet) squad) ⌝ }
     requires { ⌜ kindCount (now sheet) ≤ length (now remainder) ⌝ }

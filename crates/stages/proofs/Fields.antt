@@ -6,7 +6,8 @@ use native.Mathlib.Decide.{decLt}
 use native.Mathlib.Omega.{arith}
 use lib.ListN.{length, take}
 use lib.Seq.{length-take-le}
-use Rattle.model.specs.Field.{Field, weigh, at}
+use Rattle.model.specs.Sense.{Sense, total}
+use Rattle.model.specs.Field.{Field, weigh, at, tokens}
 use Rattle.model.specs.Norm.{norm}
 use Rattle.model.specs.Sheet.{kindCount, u16At, fieldsOffset, cardOf, fieldOf}
 use Rattle.model.specs.Refusal.{Accepted}
@@ -15,6 +16,7 @@ use Rattle.sheet.specs.Reader.{Reads, fieldCounts}
 use Rattle.sheet.specs.declared.reader.Card.{Card}
 use Rattle.sheet.proofs.Counts.{counts-past}
 use Rattle.sheet.proofs.Laws.{kinds-are, kinds-most, field-under, field-counts-length, field-counts-at}
+use Rattle.weights.proofs.Bounds.{counts-fit}
 use Rattle.norms.specs.Norms.{Accepts}
 use Rattle.norms.proofs.Laws.{norm-is, norm-fits}
 use Rattle.tables.specs.Table.{formIn}
@@ -36,6 +38,14 @@ module _ {s : List ℕ} {c : Card} (R : Reads s c) (i : ℕ) (xs : List ℕ) (re
   pub read-norm : {norms : List ℕ} → Accepts s c norms → weigh (c .kinds) (at norms) (at xs) ≡ norm (cardOf s) (fieldOf s i)
   read-norm {norms} A = ap (weigh (c .kinds) (at norms)) counts-are ∙ norm-is A (fieldOf s i)
 
+  -- Its tokens fit 64 bits, and are the field's total.
+  pub read-few : Bytes s → tokens (c .kinds) (at xs) < 2 ^ 64
+  read-few bytes = counts-fit (c .kinds) (λ _. 1) (at xs) (kinds-most R) (λ k. omega arith) (λ k. omega (arith, at-kind counts-are k, field-under s i bytes k))
+
+  pub read-total : tokens (c .kinds) (at xs) ≡ total (cardOf s) (fieldOf s i)
+  unfolding cardOf
+  read-total = ap (λ n. tokens n (at xs)) (kinds-are R) ∙ ap (tokens (kindCount s)) counts-are
+
   -- The part of the card's kinds.
   pub part-long : length (take (c .kinds) xs) ≡ c .kinds
   part-long = length-take-le (c .kinds) xs (omega (arith, kinds-most R, ap length read, field-counts-length s i))
@@ -56,7 +66,7 @@ module _ {s : List ℕ} {c : Card} (R : Reads s c) (i : ℕ) (xs : List ℕ) (re
   part-form rows = ap₂ (λ (n : ℕ) (a : Field). formIn n rows a) (part-long ∙ kinds-are R) part-field
 
 -- The decompositions of fields by the rows of a stage, from 1 up, fit 64 bits.
-pub fields-fit : (s : List ℕ) → Accepted s → Bytes s → (t : ℕ) (rows : List ℕ) → 1 ≤ t → BaseAt s t rows → FieldsFit s rows
-fields-fit s ok bytes zero rows h B = λ i j. absurd (omega arith)
-fields-fit s ok bytes (suc q) rows h B = λ i j.
-    omega (arith, at-kind (base-form s ok q rows B (fieldOf s i)) j, field-form-limit s ok q bytes i j, narrow .0)
+pub fields-fit : (sense : Sense) (s : List ℕ) → Accepted s → Bytes s → (t : ℕ) (rows : List ℕ) → 1 ≤ t → BaseAt sense s t rows → FieldsFit s rows
+fields-fit sense s ok bytes zero rows h B = λ i j. absurd (omega arith)
+fields-fit sense s ok bytes (suc q) rows h B = λ i j.
+    omega (arith, at-kind (base-form sense s ok q rows B (fieldOf s i)) j, field-form-limit sense s ok q bytes i j, narrow .0)

@@ -8,20 +8,20 @@ use native.Mathlib.Omega.{arith}
 use borrow.Author.Tests.{eq-eqb, ne-eqb}
 use lib.ListN.{length, set, replicate}
 use lib.Seq.{getD-set-same, getD-set-other}
+use Rattle.model.specs.Sense.{Sense}
 use Rattle.model.specs.Field.{Field, _⊕_, times, unit, at, weigh}
 use Rattle.model.specs.Limits.{mostKinds}
-use Rattle.model.specs.Base.{stageRow, stageForm}
+use Rattle.model.specs.Base.{stageRowIn, stageFormIn}
 use Rattle.model.specs.Sheet.{kindCount, cardOf}
 use Rattle.model.specs.Refusal.{Accepted}
 use Rattle.theory.specs.Terms.{OfKinds}
-use Rattle.theory.proofs.Field.{unit-same, weigh-next}
+use Rattle.theory.proofs.Field.{unit-same, weigh-next, weigh-past}
 use Rattle.theory.proofs.Sheets.{certified}
 use Rattle.tables.specs.Table.{rowIn, rowPart, withRow}
 use Rattle.tables.proofs.Tables.{at-kind, zero-counts, weigh-fewer, added-tokens, row-added, row-bound, lent-row, lent-length}
 use Rattle.tables.proofs.Stores.{with-row, with-others}
 use Rattle.rows.specs.Stage.{BaseAt}
 use Rattle.rows.proofs.Forms.{form-table, form-next, form-atoms, form-past, row-own, atom-stays}
-use Rattle.rows.proofs.Lines.{kind-of}
 use Rattle.stages.specs.Kept.{AsKept, KindKept, KeptFrom, KeptTo, rowBefore, formBefore}
 
 -- What stands for an atom at the stage before.
@@ -126,9 +126,9 @@ module _ {before after : List ℕ} {stage m : ℕ} {since rows oldSince oldRows 
             left = λ n. let w = y .left n in (o .0 ∙ w .0, o .1 ∙ w .1);
           }
 
-module _ (s : List ℕ) (ok : Accepted s) where
+module _ (sense : Sense) (s : List ℕ) (ok : Accepted s) where
   -- Before stage 1 nothing is kept.
-  pub kept-start : (rows : List ℕ) → KeptTo s 0 (replicate mostKinds 0) rows
+  pub kept-start : (rows : List ℕ) → KeptTo sense s 0 (replicate mostKinds 0) rows
   kept-start rows = record {
     none = λ k q _ _ l. absurd (omega arith);
     first = λ k q _ e. absurd (omega (arith, zero-counts mostKinds k));
@@ -136,27 +136,27 @@ module _ (s : List ℕ) (ok : Accepted s) where
   }
 
   -- The table of a stage tells its atoms.
-  atom-told : (p : ℕ) (after : List ℕ) → BaseAt s (suc p) after → (k : ℕ) → k < kindCount s → (rowIn after k k ≡ 1 → stageRow (cardOf s) (suc p) k ≡ unit k) × (stageRow (cardOf s) (suc p) k ≡ unit k → rowIn after k k ≡ 1)
+  atom-told : (p : ℕ) (after : List ℕ) → BaseAt sense s (suc p) after → (k : ℕ) → k < kindCount s → (rowIn after k k ≡ 1 → stageRowIn sense (cardOf s) (suc p) k ≡ unit k) × (stageRowIn sense (cardOf s) (suc p) k ≡ unit k → rowIn after k k ≡ 1)
   atom-told p after B k h =
-      let o = row-own (cardOf s) (certified s ok) p k in
+      let o = row-own sense (cardOf s) (certified s ok) p k in
       ((λ e. o .0 (sym (at-kind (B k h) k) ∙ e)), (λ e. at-kind (B k h) k ∙ o .1 e))
 
   -- An atom of a stage is one at every later stage.
-  pub atom-later : (r p k : ℕ) → k < kindCount s → p ≤ r → stageRow (cardOf s) (suc p) k ≡ unit k → stageRow (cardOf s) (suc r) k ≡ unit k
+  pub atom-later : (r p k : ℕ) → k < kindCount s → p ≤ r → stageRowIn sense (cardOf s) (suc p) k ≡ unit k → stageRowIn sense (cardOf s) (suc r) k ≡ unit k
   atom-later zero p k h l e = let z : p ≡ 0 = omega arith in rw z at e
   atom-later (suc r) p k h l e = go (ℕ-discrete p (suc r)) (λ u. atom-later r p k h u e)
     where
-      go : Dec (p ≡ suc r) → (p ≤ r → stageRow (cardOf s) (suc r) k ≡ unit k) → stageRow (cardOf s) (suc (suc r)) k ≡ unit k
+      go : Dec (p ≡ suc r) → (p ≤ r → stageRowIn sense (cardOf s) (suc r) k ≡ unit k) → stageRowIn sense (cardOf s) (suc (suc r)) k ≡ unit k
       go (yes z) f = rw z at e
-      go (no n) f = atom-stays (cardOf s) (certified s ok) r k (f (omega arith))
+      go (no n) f = atom-stays sense (cardOf s) (certified s ok) r k (f (omega arith))
 
   abbrev Atom : ℕ → ℕ → Type 0
-  Atom q k = stageRow (cardOf s) (suc q) k ≡ unit k
+  Atom q k = stageRowIn sense (cardOf s) (suc q) k ≡ unit k
 
   -- One stage more.
-  module _ (t : ℕ) {before after since rows newSince newRows : List ℕ} (K : KeptTo s t since rows) (B : BaseAt s (suc t) after)
-      (P : (q : ℕ) → t ≡ suc q → BaseAt s (suc q) before) (X : KeptFrom before after (suc t) mostKinds since rows newSince newRows) where
-    pub kept-stage : kindCount s ≤ mostKinds → KeptTo s (suc t) newSince newRows
+  module _ (t : ℕ) {before after since rows newSince newRows : List ℕ} (K : KeptTo sense s t since rows) (B : BaseAt sense s (suc t) after)
+      (P : (q : ℕ) → t ≡ suc q → BaseAt sense s (suc q) before) (X : KeptFrom before after (suc t) mostKinds since rows newSince newRows) where
+    pub kept-stage : kindCount s ≤ mostKinds → KeptTo sense s (suc t) newSince newRows
     kept-stage few = record {
       none = λ k q h e l. none′ k q h e l (ℕ-discrete (at since k) 0) (ℕ-discrete (rowIn after k k) 1);
       first = λ k q h e. first′ k q h e (ℕ-discrete (at since k) 0) (ℕ-discrete (rowIn after k k) 1);
@@ -184,7 +184,7 @@ module _ (s : List ℕ) (ok : Accepted s) where
             let f = K .first k q h (sym (is k h .left (λ w. z (w .0)) .0) ∙ e) in
             (omega (arith, f .0), f .1)
 
-        before′ : (k q : ℕ) → k < kindCount s → at newSince k ≡ suc (suc q) → Dec (at since k ≡ 0) → Dec (rowIn after k k ≡ 1) → (¬ Atom q k) × (rowIn newRows k ≡ stageRow (cardOf s) (suc q) k)
+        before′ : (k q : ℕ) → k < kindCount s → at newSince k ≡ suc (suc q) → Dec (at since k ≡ 0) → Dec (rowIn after k k ≡ 1) → (¬ Atom q k) × (rowIn newRows k ≡ stageRowIn sense (cardOf s) (suc q) k)
         before′ k q h e (yes z) (yes a) =
             let m = is k h .marked z a in
             let i : t ≡ suc q = omega (arith, m .0) in
@@ -195,22 +195,12 @@ module _ (s : List ℕ) (ok : Accepted s) where
             let f = K .before k q h (sym (o .0) ∙ e) in
             (f .0, o .1 ∙ f .1)
 
-  -- A sum over kinds that are not there is a sum over those that are.
-  weigh-past : (n m : ℕ) (w : ℕ → ℕ) (a : Field) → m ≤ n → ((k : ℕ) → m ≤ k → a k ≡ 0) → weigh n w a ≡ weigh m w a
-  unfolding weigh
-  weigh-past zero m w a l h = let z : m ≡ 0 = omega arith in rw z refl
-  weigh-past (suc n) m w a l h = go (ℕ-discrete m (suc n)) (λ u. weigh-past n m w a u h)
-    where
-      go : Dec (m ≡ suc n) → (m ≤ n → weigh n w a ≡ weigh m w a) → weigh (suc n) w a ≡ weigh m w a
-      go (yes z) f = rw z refl
-      go (no d) f = rw (h n (omega arith)) (omega (arith, f (omega arith)))
-
   -- What stands for an atom of stage q + 2 at stage q + 1 is its row there.
-  module _ (t : ℕ) {since rows : List ℕ} (K : KeptTo s t since rows) (q : ℕ) (l : suc (suc q) ≤ t) where
-    before-row : (k : ℕ) → k < kindCount s → stageRow (cardOf s) (suc (suc q)) k ≡ unit k → rowBefore since rows (suc (suc q)) k ≡ stageRow (cardOf s) (suc q) k
+  module _ (t : ℕ) {since rows : List ℕ} (K : KeptTo sense s t since rows) (q : ℕ) (l : suc (suc q) ≤ t) where
+    before-row : (k : ℕ) → k < kindCount s → stageRowIn sense (cardOf s) (suc (suc q)) k ≡ unit k → rowBefore since rows (suc (suc q)) k ≡ stageRowIn sense (cardOf s) (suc q) k
     before-row k h a = go (ℕ-discrete (at since k) (suc (suc q)))
       where
-        old : (p : ℕ) → at since k ≡ p → ¬ (p ≡ suc (suc q)) → stageRow (cardOf s) (suc q) k ≡ unit k
+        old : (p : ℕ) → at since k ≡ p → ¬ (p ≡ suc (suc q)) → stageRowIn sense (cardOf s) (suc q) k ≡ unit k
         old zero e n = absurd (K .none k (suc q) h e l a)
         old (suc p) e n = side (decLt q p)
           where
@@ -219,22 +209,22 @@ module _ (s : List ℕ) (ok : Accepted s) where
             late (suc r) e n u =
                 K .before k r h e .0 (atom-later r (suc q) k h (omega arith) a)
 
-            side : Dec (q < p) → stageRow (cardOf s) (suc q) k ≡ unit k
+            side : Dec (q < p) → stageRowIn sense (cardOf s) (suc q) k ≡ unit k
             side (yes u) = absurd (late p e n u)
             side (no u) = atom-later q p k h (omega arith) (K .first k p h e .1)
 
-        go : Dec (at since k ≡ suc (suc q)) → rowBefore since rows (suc (suc q)) k ≡ stageRow (cardOf s) (suc q) k
+        go : Dec (at since k ≡ suc (suc q)) → rowBefore since rows (suc (suc q)) k ≡ stageRowIn sense (cardOf s) (suc q) k
         go (yes e) = before-new since rows (suc (suc q)) k e ∙ K .before k q h e .1
         go (no n) = before-old since rows (suc (suc q)) k n ∙ sym (old (at since k) refl n)
 
     -- The form at the stage before, from that at a stage and what is kept.
     pub before-form : kindCount s ≤ mostKinds → (a : Field) → OfKinds (cardOf s) a
-        → formBefore since rows (suc (suc q)) (stageForm (cardOf s) (suc (suc q)) a) ≡ stageForm (cardOf s) (suc q) a
+        → formBefore since rows (suc (suc q)) (stageFormIn sense (cardOf s) (suc (suc q)) a) ≡ stageFormIn sense (cardOf s) (suc q) a
     unfolding formBefore cardOf
-    before-form few a u = fun-ext (λ j. short j ∙ form-table (cardOf s) (certified s ok) q (rowBefore since rows (suc (suc q))) form (λ k h p. before-row k h (form-atoms (cardOf s) (certified s ok) (suc q) a u k p .1)) j) ∙ form-next (cardOf s) (certified s ok) q a
+    before-form few a u = fun-ext (λ j. short j ∙ form-table sense (cardOf s) (certified s ok) q (rowBefore since rows (suc (suc q))) form (λ k h p. before-row k h (form-atoms sense (cardOf s) (certified s ok) (suc q) a u k p .1)) j) ∙ form-next sense (cardOf s) (certified s ok) q a
       where
         form : Field
-        form = stageForm (cardOf s) (suc (suc q)) a
+        form = stageFormIn sense (cardOf s) (suc (suc q)) a
 
         short : (j : ℕ) → weigh mostKinds (λ k. rowBefore since rows (suc (suc q)) k j) form ≡ weigh (kindCount s) (λ k. rowBefore since rows (suc (suc q)) k j) form
-        short j = weigh-past mostKinds (kindCount s) (λ k. rowBefore since rows (suc (suc q)) k j) form few (form-past (cardOf s) (certified s ok) (suc q) a)
+        short j = weigh-past mostKinds (kindCount s) (λ k. rowBefore since rows (suc (suc q)) k j) form few (form-past sense (cardOf s) (certified s ok) (suc q) a)

@@ -1,4 +1,4 @@
--- Where two fields part: at stage 0 by their norms, at every later stage by their forms, from the settled stage down.
+-- Where two fields part: at stage 0 by what the sense asks for, at every later stage by their forms, from the settled stage down.
 use mathlib.Core.Bool.{Bool, true, false, not}
 use mathlib.Core.List.{List}
 use mathlib.Core.Logic.{_↔_, _⊎_, inl, inr}
@@ -7,12 +7,14 @@ use Prim.Native.Nat.{ℕ, zero, suc, _+_, _-_, _^_, _≤_, _<_}
 use native.Mathlib.Decide.{decLt}
 use native.Mathlib.Omega.{arith}
 use lib.Dec.{T}
+use Rattle.model.specs.Sense.{Sense}
 use Rattle.model.specs.Finite.{leastFrom}
 use Rattle.model.specs.Field.{Field, at}
-use Rattle.model.specs.Norm.{kindNorm, norm}
-use Rattle.model.specs.Stage.{stage}
-use Rattle.model.specs.Base.{stageForm}
-use Rattle.theory.specs.Terms.{OfKinds, Stage}
+use Rattle.model.specs.Norm.{kindNorm}
+use Rattle.model.specs.Stage.{stageIn}
+use Rattle.model.specs.Base.{stageFormIn}
+use Rattle.theory.specs.Stages.{Start}
+use Rattle.theory.specs.Terms.{OfKinds, StageIn}
 use Rattle.model.specs.Sheet.{cardOf, fieldOf}
 use Rattle.model.specs.Refusal.{Accepted}
 use Rattle.theory.proofs.Lists.{least-cases}
@@ -22,7 +24,7 @@ use Rattle.rows.proofs.Sizes.{narrow, field-form-limit}
 use Rattle.stages.specs.Kept.{formBefore}
 use Rattle.stages.specs.Parting.{partedBy, FormsPart, LeastPart}
 use Rattle.stages.proofs.Keeping.{before-form}
-use Rattle.stages.proofs.Verdict.{stage-norm, stage-form, stage-earlier}
+use Rattle.stages.proofs.Verdict.{stage-start, stage-form, stage-earlier}
 
 -- The first of m numbers that pass a test.
 module _ (p : ℕ → Bool) (m : ℕ) where
@@ -59,7 +61,7 @@ related : (b : Bool) → ¬ T (not b) → T b
 related true n = tt
 related false n = absurd (n tt)
 
-module _ (s : List ℕ) (ok : Accepted s) (i j : ℕ) where
+module _ (sense : Sense) (s : List ℕ) (ok : Accepted s) (i j : ℕ) where
   abbrev a : Field
   a = fieldOf s i
 
@@ -67,24 +69,24 @@ module _ (s : List ℕ) (ok : Accepted s) (i j : ℕ) where
   b = fieldOf s j
 
   abbrev test : ℕ → Bool
-  test q = not (stage (cardOf s) (kindNorm (cardOf s)) q a b)
+  test q = not (stageIn sense (cardOf s) (kindNorm (cardOf s)) q a b)
 
   kinds : (i : ℕ) → OfKinds (cardOf s) (fieldOf s i)
   kinds i = field-kinds s (sheet-clear s ok) i
 
-  parts : (q : ℕ) → T (test q) ↔ (¬ Stage (cardOf s) q a b)
-  parts q = not-tells (stage (cardOf s) (kindNorm (cardOf s)) q a b)
+  parts : (q : ℕ) → T (test q) ↔ (¬ StageIn sense (cardOf s) q a b)
+  parts q = not-tells (stageIn sense (cardOf s) (kindNorm (cardOf s)) q a b)
 
-  forms : (q : ℕ) → Stage (cardOf s) (suc q) a b ↔ (stageForm (cardOf s) (suc q) a ≡ stageForm (cardOf s) (suc q) b)
-  forms q = stage-form (cardOf s) (certified s ok) a b (kinds i) (kinds j) q
+  forms : (q : ℕ) → StageIn sense (cardOf s) (suc q) a b ↔ (stageFormIn sense (cardOf s) (suc q) a ≡ stageFormIn sense (cardOf s) (suc q) b)
+  forms q = stage-form sense (cardOf s) (certified s ok) a b (kinds i) (kinds j) q
 
   -- Where they part: every stage before relates them, and that one, if it is one of the stages up to t, does not.
-  module _ (t d : ℕ) (parted : d ≡ partedBy s t i j) where
-    pub parted-related : (q : ℕ) → q < d → Stage (cardOf s) q a b
+  module _ (t d : ℕ) (parted : d ≡ partedBy sense s t i j) where
+    pub parted-related : (q : ℕ) → q < d → StageIn sense (cardOf s) q a b
     unfolding partedBy
-    parted-related q h = related (stage (cardOf s) (kindNorm (cardOf s)) q a b) (least-before test (suc t) q (omega arith))
+    parted-related q h = related (stageIn sense (cardOf s) (kindNorm (cardOf s)) q a b) (least-before test (suc t) q (omega arith))
 
-    pub parted-not : d ≤ t → ¬ Stage (cardOf s) d a b
+    pub parted-not : d ≤ t → ¬ StageIn sense (cardOf s) d a b
     unfolding partedBy
     parted-not h x = end (least-cases test 0 (suc t) .0)
       where
@@ -92,66 +94,66 @@ module _ (s : List ℕ) (ok : Accepted s) (i j : ℕ) where
         end (inl e) = omega arith
         end (inr y) = parts d .0 (rw (← parted) at (y .1)) x
 
-  -- Stage 0 parts them: their norms differ.
-  pub parted-first : (t : ℕ) → ¬ (norm (cardOf s) a ≡ norm (cardOf s) b) → 0 ≡ partedBy s t i j
+  -- Stage 0 parts them: they do not share what the sense asks for.
+  pub parted-first : (t : ℕ) → ¬ Start sense (cardOf s) (kindNorm (cardOf s)) a b → 0 ≡ partedBy sense s t i j
   unfolding partedBy
   parted-first t n =
-      sym (least-is test (suc t) 0 (omega arith) (λ k h. absurd (omega arith)) (λ _. parts 0 .1 (λ x. n (stage-norm (cardOf s) (certified s ok) a b (kinds i) (kinds j) .0 x))))
+      sym (least-is test (suc t) 0 (omega arith) (λ k h. absurd (omega arith)) (λ _. parts 0 .1 (λ x. n (stage-start sense (cardOf s) (certified s ok) a b (kinds i) (kinds j) .0 x))))
 
   -- No stage up to q + 1 does: that one relates them, and so each before it.
-  pub parted-none : (q : ℕ) → stageForm (cardOf s) (suc q) a ≡ stageForm (cardOf s) (suc q) b → suc q + 1 ≡ partedBy s (suc q) i j
+  pub parted-none : (q : ℕ) → stageFormIn sense (cardOf s) (suc q) a ≡ stageFormIn sense (cardOf s) (suc q) b → suc q + 1 ≡ partedBy sense s (suc q) i j
   unfolding partedBy
   parted-none q e = sym (least-is test (suc (suc q)) (suc q + 1) (omega arith) before (λ h. absurd (omega arith)))
     where
       before : (k : ℕ) → k < suc q + 1 → ¬ T (test k)
-      before k h n = parts k .0 n (stage-earlier (cardOf s) (certified s ok) a b (suc q) k (omega arith) (forms q .1 e))
+      before k h n = parts k .0 n (stage-earlier sense (cardOf s) (certified s ok) a b (suc q) k (omega arith) (forms q .1 e))
 
-  -- The least stage at which the forms differ does, where the norms are the same.
-  pub parted-least : (t r : ℕ) → norm (cardOf s) a ≡ norm (cardOf s) b → LeastPart s t i j r → r ≡ partedBy s t i j
+  -- The least stage at which the forms differ does, where stage 0 relates them.
+  pub parted-least : (t r : ℕ) → Start sense (cardOf s) (kindNorm (cardOf s)) a b → LeastPart sense s t i j r → r ≡ partedBy sense s t i j
   unfolding partedBy
   parted-least t zero e p = absurd (omega (arith, p .from))
   parted-least t (suc q) e p = sym (least-is test (suc t) (suc q) (omega (arith, p .most)) before (λ _. parts (suc q) .1 (λ x. p .differ (forms q .0 x))))
     where
       before : (k : ℕ) → k < suc q → ¬ T (test k)
-      before zero h n = parts 0 .0 n (stage-norm (cardOf s) (certified s ok) a b (kinds i) (kinds j) .1 e)
+      before zero h n = parts 0 .0 n (stage-start sense (cardOf s) (certified s ok) a b (kinds i) (kinds j) .1 e)
       before (suc k) h n = parts (suc k) .0 n (forms k .1 (p .same (suc k) (omega arith) (omega arith)))
 
   -- Forms that are the same at a stage are the same at every stage before it.
-  pub same-before : (t : ℕ) → 1 ≤ t → stageForm (cardOf s) t a ≡ stageForm (cardOf s) t b → (q : ℕ) → 1 ≤ q → q ≤ t → stageForm (cardOf s) q a ≡ stageForm (cardOf s) q b
+  pub same-before : (t : ℕ) → 1 ≤ t → stageFormIn sense (cardOf s) t a ≡ stageFormIn sense (cardOf s) t b → (q : ℕ) → 1 ≤ q → q ≤ t → stageFormIn sense (cardOf s) q a ≡ stageFormIn sense (cardOf s) q b
   same-before zero h e q u l = absurd (omega arith)
   same-before (suc t) h e zero u l = absurd (omega arith)
-  same-before (suc t) h e (suc q) u l = forms q .0 (stage-earlier (cardOf s) (certified s ok) a b (suc t) (suc q) (omega arith) (forms t .1 e))
+  same-before (suc t) h e (suc q) u l = forms q .0 (stage-earlier sense (cardOf s) (certified s ok) a b (suc t) (suc q) (omega arith) (forms t .1 e))
 
 -- From a stage down to the one before it.
-module _ {s : List ℕ} {i j : ℕ} {since rows first second : List ℕ} where
+module _ {sense : Sense} {s : List ℕ} {i j : ℕ} {since rows first second : List ℕ} where
   -- The forms there are found.
-  pub forms-before : (t : ℕ) → 1 < t → FormsPart s t i j since rows first second
-      → (formBefore since rows t (at first) ≡ stageForm (cardOf s) (t - 1) (fieldOf s i)) × (formBefore since rows t (at second) ≡ stageForm (cardOf s) (t - 1) (fieldOf s j))
+  pub forms-before : (t : ℕ) → 1 < t → FormsPart sense s t i j since rows first second
+      → (formBefore since rows t (at first) ≡ stageFormIn sense (cardOf s) (t - 1) (fieldOf s i)) × (formBefore since rows t (at second) ≡ stageFormIn sense (cardOf s) (t - 1) (fieldOf s j))
   forms-before zero h p = absurd (omega arith)
   forms-before (suc zero) h p = absurd (omega arith)
   forms-before (suc (suc q)) h p =
       let z : suc (suc q) - 1 ≡ suc q = omega arith in
-      (rw (z, p .first-is) (lower (fieldOf s i) (kinds s (p .accepted) i j i)), rw (z, p .second-is) (lower (fieldOf s j) (kinds s (p .accepted) i j j)))
+      (rw (z, p .first-is) (lower (fieldOf s i) (kinds sense s (p .accepted) i j i)), rw (z, p .second-is) (lower (fieldOf s j) (kinds sense s (p .accepted) i j j)))
     where
-      lower : (a : Field) → OfKinds (cardOf s) a → formBefore since rows (suc (suc q)) (stageForm (cardOf s) (suc (suc q)) a) ≡ stageForm (cardOf s) (suc q) a
-      lower = before-form s (p .accepted) (p .kept .0) (p .kept .2) q (p .kept .1) (p .few)
+      lower : (a : Field) → OfKinds (cardOf s) a → formBefore since rows (suc (suc q)) (stageFormIn sense (cardOf s) (suc (suc q)) a) ≡ stageFormIn sense (cardOf s) (suc q) a
+      lower = before-form sense s (p .accepted) (p .kept .0) (p .kept .2) q (p .kept .1) (p .few)
 
   -- They fit 64 bits.
-  pub forms-fit : (t : ℕ) → 1 < t → FormsPart s t i j since rows first second
+  pub forms-fit : (t : ℕ) → 1 < t → FormsPart sense s t i j since rows first second
       → ((k : ℕ) → formBefore since rows t (at first) k < 2 ^ 64) × ((k : ℕ) → formBefore since rows t (at second) k < 2 ^ 64)
   forms-fit zero h p = absurd (omega arith)
   forms-fit (suc zero) h p = absurd (omega arith)
   forms-fit (suc (suc q)) h p =
       let z : suc (suc q) - 1 ≡ suc q = omega arith in
       let f = rw z at (forms-before (suc (suc q)) h p) in (
-        λ k. omega (arith, at-kind (f .0) k, field-form-limit s (p .accepted) q (p .bytes) i k, narrow .0),
-        λ k. omega (arith, at-kind (f .1) k, field-form-limit s (p .accepted) q (p .bytes) j k, narrow .0),
+        λ k. omega (arith, at-kind (f .0) k, field-form-limit sense s (p .accepted) q (p .bytes) i k, narrow .0),
+        λ k. omega (arith, at-kind (f .1) k, field-form-limit sense s (p .accepted) q (p .bytes) j k, narrow .0),
       )
 
-  module _ (t : ℕ) (h : 1 < t) (p : FormsPart s t i j since rows first second) (one other : List ℕ)
+  module _ (t : ℕ) (h : 1 < t) (p : FormsPart sense s t i j since rows first second) (one other : List ℕ)
       (e : at one ≡ formBefore since rows t (at first)) (d : at other ≡ formBefore since rows t (at second)) where
     -- Where they differ, the least stage at which they do is to be sought further down.
-    pub part-before : ¬ (at one ≡ at other) → FormsPart s (t - 1) i j since rows one other
+    pub part-before : ¬ (at one ≡ at other) → FormsPart sense s (t - 1) i j since rows one other
     part-before n =
         let f = forms-before t h p in
         record {
@@ -165,16 +167,16 @@ module _ {s : List ℕ} {i j : ℕ} {since rows first second : List ℕ} where
         }
 
     -- Where they are the same, this stage is the least.
-    pub part-here : (top : ℕ) → t ≤ top → at one ≡ at other → LeastPart s top i j t
+    pub part-here : (top : ℕ) → t ≤ top → at one ≡ at other → LeastPart sense s top i j t
     part-here top l x =
         let f = forms-before t h p in
         record {
           from = omega arith;
           most = l;
           differ = p .differ;
-          same = λ q u v. same-before s (p .accepted) i j (t - 1) (omega arith) (sym (f .0) ∙ sym e ∙ x ∙ d ∙ f .1) q u (omega arith);
+          same = λ q u v. same-before sense s (p .accepted) i j (t - 1) (omega arith) (sym (f .0) ∙ sym e ∙ x ∙ d ∙ f .1) q u (omega arith);
         }
 
   -- Where the forms differ at stage 1, before which there is none, it is the least stage at which they do.
-  pub part-first : (top : ℕ) → 1 ≤ top → FormsPart s 1 i j since rows first second → LeastPart s top i j 1
+  pub part-first : (top : ℕ) → 1 ≤ top → FormsPart sense s 1 i j since rows first second → LeastPart sense s top i j 1
   part-first top l p = record { from = omega arith; most = l; differ = p .differ; same = λ q h u. absurd (omega arith) }

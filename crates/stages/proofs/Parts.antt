@@ -4,9 +4,10 @@ use mathlib.Core.Path.{_≡_, sym, _∙_, ap, subst}
 use Prim.Native.Nat.{ℕ, suc, _<_}
 use native.Mathlib.Omega.{arith}
 use lib.ListN.{take}
+use Rattle.model.specs.Sense.{Sense}
 use Rattle.model.specs.Field.{Field}
 use Rattle.model.specs.Card as model
-use Rattle.model.specs.Base.{stageRow, settledStage}
+use Rattle.model.specs.Base.{stageRowIn, settledStageIn}
 use Rattle.model.specs.Sheet.{kindCount, cardOf}
 use Rattle.model.specs.Refusal.{clear, firstOf, sheetChecks}
 use Rattle.theory.proofs.Part.{parts}
@@ -17,33 +18,33 @@ use Rattle.stages.specs.Kept.{KeptTo}
 use Rattle.stages.specs.Settle.{IsSettled}
 use Rattle.stages.specs.declared.settle.Settled.{Settled}
 
-module _ {s : List ℕ} {d : Card} {t : List ℕ} (clean : firstOf (sheetChecks s) ≡ clear) (P : IsPart s d t) where
+module _ (sense : Sense) {s : List ℕ} {d : Card} {t : List ℕ} (clean : firstOf (sheetChecks s) ≡ clear) (P : IsPart s d t) where
   abbrev u : List ℕ
   u = take (sizeOf d) t
 
   -- The settled stage and the rows of every stage are those of the sheet.
-  same-stage : settledStage (cardOf u) ≡ settledStage (cardOf s)
-  same-stage = ap (λ (c : model.Card). settledStage c) (P .card-is) ∙ parts s clean .stage
+  same-stage : settledStageIn sense (cardOf u) ≡ settledStageIn sense (cardOf s)
+  same-stage = ap (λ (c : model.Card). settledStageIn sense c) (P .card-is) ∙ parts s clean .stage sense
 
-  same-row : (q k : ℕ) → stageRow (cardOf u) q k ≡ stageRow (cardOf s) q k
-  same-row q k = ap (λ (c : model.Card). stageRow c q k) (P .card-is) ∙ ap (λ (f : ℕ → Field). f k) (parts s clean .stage-rows q)
+  same-row : (q k : ℕ) → stageRowIn sense (cardOf u) q k ≡ stageRowIn sense (cardOf s) q k
+  same-row q k = ap (λ (c : model.Card). stageRowIn sense c q k) (P .card-is) ∙ ap (λ (f : ℕ → Field). f k) (parts s clean .stage-rows sense q)
 
   under : (k : ℕ) → k < kindCount s → k < kindCount u
   under k h = omega (arith, part-kinds P)
 
-  kept-part : {q : ℕ} {since rows : List ℕ} → KeptTo u q since rows → KeptTo s q since rows
+  kept-part : {q : ℕ} {since rows : List ℕ} → KeptTo sense u q since rows → KeptTo sense s q since rows
   kept-part K = record {
     none = λ k q h e l x. K .none k q (under k h) e l (same-row (suc q) k ∙ x);
     first = λ k q h e. let f = K .first k q (under k h) e in (f .0, sym (same-row (suc q) k) ∙ f .1);
     before = λ k q h e. let b = K .before k q (under k h) e in (λ x. b .0 (same-row (suc q) k ∙ x), b .1 ∙ same-row (suc q) k);
   }
 
-  settled : {r : Settled} → IsSettled u r → IsSettled s r
+  settled : {r : Settled} → IsSettled sense u r → IsSettled sense s r
   settled {r} S = record {
     stage-is = S .stage-is ∙ same-stage;
-    base-is = λ k h. S .base-is k (under k h) ∙ same-row (settledStage (cardOf u)) k ∙ ap (λ q. stageRow (cardOf s) q k) same-stage;
-    kept-is = subst (λ q. KeptTo s q (r .kept .since) (r .kept .rows)) same-stage (kept-part (S .kept-is));
+    base-is = λ k h. S .base-is k (under k h) ∙ same-row (settledStageIn sense (cardOf u)) k ∙ ap (λ q. stageRowIn sense (cardOf s) q k) same-stage;
+    kept-is = subst (λ q. KeptTo sense s q (r .kept .since) (r .kept .rows)) same-stage (kept-part (S .kept-is));
   }
 
-  pub part-settled : {r : Settled} {n : ℕ} → n ≡ sizeOf d → IsSettled (take n t) r → IsSettled s r
+  pub part-settled : {r : Settled} {n : ℕ} → n ≡ sizeOf d → IsSettled sense (take n t) r → IsSettled sense s r
   part-settled e S = settled (rw e at S)

@@ -4,9 +4,10 @@ use mathlib.Core.List.{List}
 use mathlib.Core.Path.{_≡_}
 use Prim.Native.Nat.{ℕ, suc, _≤_, _<_}
 use lib.Dec.{eqb}
+use Rattle.model.specs.Sense.{Sense}
 use Rattle.model.specs.Field.{Field, unit, at, weigh}
 use Rattle.model.specs.Limits.{mostKinds}
-use Rattle.model.specs.Base.{stageRow}
+use Rattle.model.specs.Base.{stageRowIn}
 use Rattle.model.specs.Sheet.{kindCount, cardOf}
 use Rattle.tables.specs.Table.{rowIn}
 
@@ -26,10 +27,10 @@ pub record KeptFrom (before after : List ℕ) (stage m : ℕ) (since rows newSin
   pub others : (k : ℕ) → m ≤ k → (at newSince k ≡ at since k) × (rowIn newRows k ≡ rowIn rows k)
 
 -- What is kept of the stages 1 to t: a kind's mark is the first of them at which it is an atom, 0 where it is none at all of them; and its row is that of the stage before that one.
-pub record KeptTo (s : List ℕ) (t : ℕ) (since rows : List ℕ) : Type 0 where
-  pub none : (k q : ℕ) → k < kindCount s → at since k ≡ 0 → suc q ≤ t → ¬ (stageRow (cardOf s) (suc q) k ≡ unit k)
-  pub first : (k q : ℕ) → k < kindCount s → at since k ≡ suc q → (suc q ≤ t) × (stageRow (cardOf s) (suc q) k ≡ unit k)
-  pub before : (k q : ℕ) → k < kindCount s → at since k ≡ suc (suc q) → (¬ (stageRow (cardOf s) (suc q) k ≡ unit k)) × (rowIn rows k ≡ stageRow (cardOf s) (suc q) k)
+pub record KeptTo (sense : Sense) (s : List ℕ) (t : ℕ) (since rows : List ℕ) : Type 0 where
+  pub none : (k q : ℕ) → k < kindCount s → at since k ≡ 0 → suc q ≤ t → ¬ (stageRowIn sense (cardOf s) (suc q) k ≡ unit k)
+  pub first : (k q : ℕ) → k < kindCount s → at since k ≡ suc q → (suc q ≤ t) × (stageRowIn sense (cardOf s) (suc q) k ≡ unit k)
+  pub before : (k q : ℕ) → k < kindCount s → at since k ≡ suc (suc q) → (¬ (stageRowIn sense (cardOf s) (suc q) k ≡ unit k)) × (rowIn rows k ≡ stageRowIn sense (cardOf s) (suc q) k)
 
 -- What stands for an atom of a stage at the stage before: its row there where it is new, else the kind itself.
 unfoldable pub rowBefore : List ℕ → List ℕ → ℕ → ℕ → Field

@@ -1,9 +1,10 @@
--- What the settle loop holds at a stage, and what it answers.
+-- What the settle loop holds at a stage of a sense, and what it answers.
 use mathlib.Core.List.{List}
 use mathlib.Core.Path.{_≡_}
 use Prim.Native.Nat.{ℕ, suc}
+use Rattle.model.specs.Sense.{Sense}
 use Rattle.model.specs.Field.{at}
-use Rattle.model.specs.Base.{settledStage}
+use Rattle.model.specs.Base.{settledStageIn}
 use Rattle.model.specs.Sheet.{cardOf}
 use Rattle.rows.specs.Stage.{BaseAt, Classes, BoundsAt}
 use Rattle.rows.specs.StageRows.{RowsBefore}
@@ -11,14 +12,14 @@ use Rattle.stages.specs.Kept.{KeptTo}
 use Rattle.stages.specs.declared.settle.Settled.{Settled}
 
 -- What is held at stage t: its rows, the classes of the lines by it, and bounds of the classes at the next stage. Stage 0 is before the first: no kind is an atom, and all lines have one class.
-pub record AtStage (s : List ℕ) (t : ℕ) (rows classes : List ℕ) : Type 0 where
-  pub rows-are : RowsBefore s t rows
-  pub classes-tell : (q : ℕ) → t ≡ suc q → Classes s q classes
+pub record AtStage (sense : Sense) (s : List ℕ) (t : ℕ) (rows classes : List ℕ) : Type 0 where
+  pub rows-are : RowsBefore sense s t rows
+  pub classes-tell : (q : ℕ) → t ≡ suc q → Classes sense s q classes
   pub one-class : t ≡ 0 → (j : ℕ) → at classes j ≡ 0
-  pub bounds : BoundsAt s t classes
+  pub bounds : BoundsAt sense s t classes
 
 -- "The settled stage", "the final base", and what is kept of the stages up to that one.
-pub record IsSettled (s : List ℕ) (r : Settled) : Type 0 where
-  pub stage-is : r .stage ≡ settledStage (cardOf s)
-  pub base-is : BaseAt s (settledStage (cardOf s)) (r .base .rows)
-  pub kept-is : KeptTo s (settledStage (cardOf s)) (r .kept .since) (r .kept .rows)
+pub record IsSettled (sense : Sense) (s : List ℕ) (r : Settled) : Type 0 where
+  pub stage-is : r .stage ≡ settledStageIn sense (cardOf s)
+  pub base-is : BaseAt sense s (settledStageIn sense (cardOf s)) (r .base .rows)
+  pub kept-is : KeptTo sense s (settledStageIn sense (cardOf s)) (r .kept .since) (r .kept .rows)

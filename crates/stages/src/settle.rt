@@ -7,6 +7,7 @@ use rows::line_table::line_table;
 use rows::stage_rows::stage_rows;
 use sheet::Card;
 use tables::class::classes;
+use tables::sense::Sense;
 use tables::table::Base;
 ghost use mathlib.Core.Path.{_≡_};
 ghost use Prim.Native.Nat.{ℕ, suc, _≤_};
@@ -18,6 +19,8 @@ ghost use Rattle.tables.specs.Lines.{linesIn};
 ghost use Rattle.rows.specs.Stage.{BaseAt, Classes, BoundsAt, LinesAre};
 ghost use Rattle.rows.specs.Forms.{FormTable};
 ghost use Rattle.rows.specs.StageRows.{RowsFound};
+ghost use Rattle.model.specs.Sense as model;
+ghost use Rattle.tables.specs.Senses.{senseOf};
 ghost use Rattle.stages.specs.Settle.{IsSettled};
 
 // "the final base" and "the settled stage", and what is kept of the stages up to it.
@@ -39,16 +42,17 @@ fn line_classes(
     requires { ⌜ Reads (now sheet) card × Accepted (now sheet) ⌝ }
     requires { ⌜ LinesAre (now sheet) (now lines) ⌝ }
     requires { ⌜ (length (now rows) ≡ 1024) × (linesIn (now lines) ≤ length (now bounds)) ⌝ }
-    requires { ⌜ ((q : ℕ) × RowsFound (now sheet) (suc q) (now rows) (now forms) × BoundsAt (now sheet) q (now bounds)) ⌝ }
-    ensures { λ r. ⌜ ((q : ℕ) → BaseAt (now (sheet .entry)) (suc q) (now (rows .entry)) → Classes (now (sheet .entry)) q r × BoundsAt (now (sheet .entry)) q r) ⌝ }
+    requires { ⌜ ((sense : model.Sense) × (q : ℕ) × RowsFound sense (now sheet) (suc q) (now rows) (now forms) × BoundsAt sense (now sheet) q (now bounds)) ⌝ }
+    ensures { λ r. ⌜ ((sense : model.Sense) (q : ℕ) → BaseAt sense (now (sheet .entry)) (suc q) (now (rows .entry)) → Classes sense (now (sheet .entry)) q r × BoundsAt sense (now (sheet .entry)) q r) ⌝ }
     ensures { λ _. ⌜ FormTable (now (forms .exit)) ⌝ }
 {
     all_forms(sheet, card, lines, rows, forms);
     classes(lines, rows, forms, bounds)
 }
 
-// The first stage that is settled, from stage 1 on. Before it all rows are 0, and so are all classes.
+// The first stage of a sense that is settled, from stage 1 on. Before it all rows are 0, and so are all classes.
 fn settle_lines(
+    sense: Sense,
     sheet: &[u8],
     card: Card,
     norms: [u32; 32],
@@ -58,7 +62,7 @@ fn settle_lines(
     requires { ⌜ Accepts (now sheet) card norms ⌝ }
     requires { ⌜ LinesAre (now sheet) (now lines) ⌝ }
     requires { ⌜ FormTable (now forms) ⌝ }
-    ensures { λ r. ⌜ IsSettled (now (sheet .entry)) r ⌝ }
+    ensures { λ r. ⌜ IsSettled (senseOf sense) (now (sheet .entry)) r ⌝ }
 {
     let mut rows = [0u32; 1024];
     let mut classes = [0u8; 256];
@@ -66,7 +70,7 @@ fn settle_lines(
     let mut rows_before = [0u32; 1024];
     let mut stage = 0;
     loop {
-        let base = stage_rows(sheet, card, norms, lines, &rows, &classes, forms);
+        let base = stage_rows(sense, sheet, card, norms, lines, &rows, &classes, forms);
         let next = base.rows;
         classes = line_classes(sheet, card, lines, &next, &classes, forms);
         stage += 1;
@@ -85,13 +89,13 @@ fn settle_lines(
     }
 }
 
-// "The settled stage is the least s from 1 up in which every related pair satisfies expansion", with its base and what is kept of the stages.
-pub fn settle(sheet: &[u8], card: Card, norms: [u32; 32]) -> Settled
+// Of a sense: "The settled stage is the least s from 1 up in which every related pair satisfies expansion", with its base and what is kept of the stages.
+pub fn settle(sense: Sense, sheet: &[u8], card: Card, norms: [u32; 32]) -> Settled
     requires { ⌜ Accepts (now sheet) card norms ⌝ }
-    ensures { λ r. ⌜ IsSettled (now (sheet .entry)) r ⌝ }
+    ensures { λ r. ⌜ IsSettled (senseOf sense) (now (sheet .entry)) r ⌝ }
 {
     let bytes = 3 * card.lines;
     let lines = line_table(sheet, card, norms);
     let mut forms = [0u64; 8192];
-    settle_lines(sheet, card, norms, &lines[..bytes], &mut forms)
+    settle_lines(sense, sheet, card, norms, &lines[..bytes], &mut forms)
 }

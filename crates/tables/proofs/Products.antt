@@ -13,8 +13,10 @@ use lib.ListN.{set, replicate, length-replicate}
 use lib.Seq.{getD-set-same, getD-set-other}
 use Rattle.model.specs.Field.{Field, unit, at}
 use Rattle.model.specs.Limits.{mostKinds}
+use Rattle.model.specs.Sense.{Sense}
 use Rattle.theory.proofs.Field.{unit-same, unit-other}
 use Rattle.tables.specs.Table.{rowPart, rowIn}
+use Rattle.tables.specs.Senses.{SharesTotal}
 use Rattle.tables.specs.Match.{Answered}
 use Rattle.tables.specs.Class.{AlikeIn, Passes}
 use Rattle.tables.proofs.Tables.{zero-counts, row-at, lent-row}
@@ -31,17 +33,21 @@ token-counts n k h = fun-ext (λ j. go j (ℕ-discrete j k))
 pub atom-uses : (lines classes : List ℕ) (k : ℕ) {f : Field} → f ≡ unit k → AlikeIn lines classes (unit k) f
 atom-uses lines classes k e = rw e (λ x. ((λ u. u), (λ u. u)))
 
--- The test of the part of a table that holds a row is that of the row.
+-- A test of the part of a table that holds a row is that of the row.
 pub uses-row : {r : Bool} {row : List ℕ} (rows lines classes : List ℕ) (k : ℕ) → row ≡ rowPart rows k → (r ≡ true) ↔ AlikeIn lines classes (unit k) (at row)
     → (r ≡ true) ↔ AlikeIn lines classes (unit k) (rowIn rows k)
 uses-row {r} rows lines classes k e t = subst (λ (f : Field). (r ≡ true) ↔ AlikeIn lines classes (unit k) f) (lent-row rows k e) t
+
+pub shares-row : {r : Bool} {row : List ℕ} (sense : Sense) (rows : List ℕ) (k : ℕ) → row ≡ rowPart rows k → (r ≡ true) ↔ SharesTotal sense (at row)
+    → (r ≡ true) ↔ SharesTotal sense (rowIn rows k)
+shares-row {r} sense rows k e t = subst (λ (f : Field). (r ≡ true) ↔ SharesTotal sense f) (lent-row rows k e) t
 
 -- The test of a kind's own count in its row.
 pub own-one : (rows : List ℕ) (k : ℕ) → k < mostKinds → (eqb (at rows (k * mostKinds + k)) 1 ≡ true) ↔ (rowIn rows k k ≡ 1)
 own-one rows k h =
     (λ t. row-at rows k k h ∙ eqb-true (at rows (k * mostKinds + k)) 1 t, λ e. eq-eqb (at rows (k * mostKinds + k)) 1 (sym (row-at rows k k h) ∙ e))
 
--- Both tests, where the first holds.
-pub passes-tells : {r : Bool} {lines rows forms classes : List ℕ} {k : ℕ} → AlikeIn lines classes (unit k) (rowIn rows k) → (r ≡ true) ↔ Answered lines rows forms k
-    → (r ≡ true) ↔ Passes lines rows forms classes k
-passes-tells w a = (λ h. record { uses = w; answered = a .0 h }, λ p. a .1 (p .answered))
+-- The tests, where the first two hold.
+pub passes-tells : {sense : Sense} {r : Bool} {lines rows forms classes : List ℕ} {k : ℕ} → SharesTotal sense (rowIn rows k) → AlikeIn lines classes (unit k) (rowIn rows k)
+    → (r ≡ true) ↔ Answered lines rows forms k → (r ≡ true) ↔ Passes sense lines rows forms classes k
+passes-tells shared alike tells = (λ h. record { shares = shared; uses = alike; answered = tells .0 h }, λ p. tells .1 (p .answered))

@@ -7,7 +7,9 @@ use Prim.Native.Nat.{ℕ, _*_, _<_}
 use lib.ListN.{length, getD, take, drop}
 use Rattle.model.specs.Field.{Field, unit, at}
 use Rattle.model.specs.Limits.{mostKinds, mostLines}
+use Rattle.model.specs.Sense.{Sense}
 use Rattle.tables.specs.Table.{rowIn}
+use Rattle.tables.specs.Senses.{SharesTotal}
 use Rattle.tables.specs.Lines.{linesIn, kindIn}
 use Rattle.tables.specs.Match.{Answered}
 
@@ -42,7 +44,9 @@ pub record KindMarks (lines classes : List ℕ) (marks : List Bool) : Type 0 whe
 abbrev pub RowsExpand : List ℕ → List ℕ → List ℕ → List ℕ → ℕ → Type 0
 RowsExpand lines classes rows norms n = (k : ℕ) → k < n → 0 < at norms k → AlikeIn lines classes (unit k) (rowIn rows k)
 
--- The row of kind k in the table passes the tests of a stage: it and the kind may use lines of the same classes of the stage before, and every challenge that lowers the norm has a reply.
-pub record Passes (lines rows forms classes : List ℕ) (k : ℕ) : Type 0 where
+-- The row of kind k in the table passes the tests of a stage of a sense: it shares with the kind what related fields must, it and the kind may use lines of the same classes of the stage before,
+-- and every challenge that lowers the norm has a reply.
+pub record Passes (sense : Sense) (lines rows forms classes : List ℕ) (k : ℕ) : Type 0 where
+  pub shares : SharesTotal sense (rowIn rows k)
   pub uses : AlikeIn lines classes (unit k) (rowIn rows k)
   pub answered : Answered lines rows forms k

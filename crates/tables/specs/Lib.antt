@@ -5,5 +5,7 @@ pub mod Table
 pub mod Lines
 -- Which lines match, and what can be said by it.
 pub mod Match
+-- In which sense fields are compared.
+pub mod Senses
 -- The classes of the lines that a field may use.
 pub mod Class

@@ -6,6 +6,8 @@ pub mod table;
 pub mod lines;
 // Comparisons of effects; the candidates for a row.
 pub mod effect;
+// In which sense fields are compared.
+pub mod sense;
 // The order in which the kinds' rows are found.
 pub mod order;
 // Tables of marks: which classes of lines a field may use.

@@ -35,7 +35,7 @@ abbrev pub heldOf : ℕ → ℕ → Judgement
 heldOf r rounds = choose (ltb r rounds) Open Wrong
 
 -- "Fields called same hold at every r": they agree where they hold at all rounds asked for, and are open where fewer were played. "Fields called
--- different do not hold at the rounds reported."
+-- different do not hold at the rounds reported." What lies past the player's bounds leaves every verdict open.
 abbrev pub judgementOf : Called → Tried → Judgement
 judgementOf Same (Parted r) = Wrong
 judgementOf Same (Held r) = Agrees
@@ -44,7 +44,7 @@ judgementOf Same (OutOfBounds r) = Open
 judgementOf (Different stage rounds) (Parted r) = choose (leb r rounds) Agrees Wrong
 judgementOf (Different stage rounds) (Held r) = heldOf r rounds
 judgementOf (Different stage rounds) (OutOfBudget r) = heldOf r rounds
-judgementOf (Different stage rounds) (OutOfBounds r) = heldOf r rounds
+judgementOf (Different stage rounds) (OutOfBounds r) = Open
 
 abbrev pub chooseExtent : Bool → Extent → Extent → Extent
 chooseExtent true a b = a

@@ -87,7 +87,7 @@ fn judge(called: Called, tried: Tried) -> Judgement
             },
             Tried::Held(r) => judge_held(r, rounds),
             Tried::OutOfBudget(r) => judge_held(r, rounds),
-            Tried::OutOfBounds(r) => judge_held(r, rounds),
+            Tried::OutOfBounds(_) => Judgement::Open,
         },
     }
 }

@@ -7,13 +7,15 @@ use native.Mathlib.Omega.{arith}
 use lib.Dec.{ltb, eqb}
 use Rattle.model.specs.Finite.{both, listFrom}
 use Rattle.model.specs.Field.{Field}
-use Rattle.model.specs.Card.{Line, fire}
+use Rattle.model.specs.Card.{Line, Card, fire}
+use Rattle.model.specs.Sense.{Sense}
 use Rattle.model.specs.Sheet.{lineCount, lineOf, cardOf}
-use Rattle.model.specs.Walk.{Seen, tryReplies, tryChallenges, examine}
-use Rattle.theory.specs.Counted.{Counted, holds, fails, outcome, cut, leaves}
-use Rattle.theory.proofs.Counted.{follow, followed, pair-next}
+use Rattle.model.specs.Walk.{Seen, tryReplies, tryChallenges}
+use Rattle.theory.specs.Counted.{Counted, holds, fails, outcome, cut}
+use Rattle.theory.proofs.Counted.{follow, followed}
 use Rattle.theory.proofs.Runs.{Runs, run-end, run-first, one-passed, one-played, challenges, replies}
-use Rattle.test_player.specs.Played.{challenger}
+use Rattle.test_player.specs.Played.{challenger, sharesTotal, examineIn, leavesIn}
+use Rattle.test_player.proofs.Pairs.{pair-next}
 
 -- The lines of a sheet from number j on.
 abbrev pub linesFrom : List ℕ → ℕ → List Line
@@ -53,17 +55,17 @@ module _ (see : Field → Field → Seen) (v : ℕ) (b : Field) {u : Bool} where
     reply-passed t = one-passed (replies see l x b) v m (sym e ∙ t)
 
 -- A pair by what is known of the first side's challenges.
-pub pair-sides : (xs : List Line) (a b : Field) (v r : ℕ) → ¬ (v ≡ 0) → ¬ (r ≡ 0) → {found known : Counted}
-    → found ≡ cut (v - 1) (tryChallenges (leaves (challenger false) xs (r - 1)) xs a b xs) → found ≡ known
-    → follow true known (tryChallenges (leaves (challenger true) xs (r - 1)) xs b a xs) ≡ cut v (examine xs r a b)
-pair-sides xs a b v r n m d k = followed true (tryChallenges (leaves (challenger true) xs (r - 1)) xs b a xs) (pair-next xs a b v r n m) (sym k ∙ d)
+pub pair-sides : (m : Sense) (c : Card) (a b : Field) (v r : ℕ) → ¬ (v ≡ 0) → {h : Bool} → h ≡ sharesTotal m c a b → h ≡ true → ¬ (r ≡ 0) → {found known : Counted}
+    → found ≡ cut (v - 1) (tryChallenges (leavesIn m (challenger false) c (r - 1)) (c .lines) a b (c .lines)) → found ≡ known
+    → follow true known (tryChallenges (leavesIn m (challenger true) c (r - 1)) (c .lines) b a (c .lines)) ≡ cut v (examineIn m c r a b)
+pair-sides m c a b v r n l t z d k = followed true (tryChallenges (leavesIn m (challenger true) c (r - 1)) (c .lines) b a (c .lines)) (pair-next m c a b v r n l t z) (sym k ∙ d)
 
 -- The pair that is left, whoever challenged.
-module _ (xs : List Line) (r v : ℕ) {second : Bool} {x y : Field} {found : Counted} {p q : Field} (e : p ≡ x) (d : q ≡ y) where
-  pub left-first : second ≡ false → found ≡ cut v (examine xs r p q) → found ≡ cut v (leaves (challenger second) xs r x y)
-  unfolding leaves
+module _ (m : Sense) (c : Card) (r v : ℕ) {second : Bool} {x y : Field} {found : Counted} {p q : Field} (e : p ≡ x) (d : q ≡ y) where
+  pub left-first : second ≡ false → found ≡ cut v (examineIn m c r p q) → found ≡ cut v (leavesIn m (challenger second) c r x y)
+  unfolding leavesIn
   left-first b f = f ∙ rw (b, e, d) refl
 
-  pub left-second : second ≡ true → found ≡ cut v (examine xs r q p) → found ≡ cut v (leaves (challenger second) xs r x y)
-  unfolding leaves
+  pub left-second : second ≡ true → found ≡ cut v (examineIn m c r q p) → found ≡ cut v (leavesIn m (challenger second) c r x y)
+  unfolding leavesIn
   left-second b f = f ∙ rw (b, e, d) refl

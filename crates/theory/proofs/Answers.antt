@@ -13,6 +13,7 @@ use lib.Seq.{getD-append-add, getD-set-other}
 use Rattle.theory.proofs.Lists.{length-from, getD-from}
 use Rattle.model.specs.Finite.{concat, listFrom}
 use Rattle.model.specs.Norm.{kindNorm}
+use Rattle.model.specs.Sense.{Sense}
 use Rattle.model.specs.Base.{roundsAt, settledStage, settledRow}
 use Rattle.model.specs.Field.{at}
 use Rattle.model.specs.Card.{reachedCount}
@@ -20,9 +21,9 @@ use Rattle.model.specs.Shelf.{shelfField}
 use Rattle.model.specs.Walk.{WalkAnswer, spent, Walk}
 use Rattle.model.specs.Sheet.{kindCount, fieldCount, cardOf, fieldOf}
 use Rattle.model.specs.Refusal.{Finding, clear, refusal, firstOf, Accepted, settleChecks, compareChecks, formChecks, walkChecks, shelfNumberChecks, shelfFieldChecks, squadsChecks}
-use Rattle.model.specs.Answer.{tableOf, primeForm, refused, given, Session, Walked, same, different, settleOf, rowCheckOf, rowOf, verdict, compareOf, formOf, drawing, within, fullWalk, walkOf, shelfNumberOf, shelfCounts, shelfFieldOf, squadCount, remainderForm, squadsOf}
+use Rattle.model.specs.Answer.{tableOf, primeFormIn, refused, given, Session, Walked, same, different, settleOf, rowCheckOf, rowOf, verdictIn, compareIn, formingIn, drawing, within, fullWalk, walkOf, shelfNumberOf, shelfCounts, shelfFieldOf, squadCount, remainderForm, squadsOf}
 use Rattle.theory.specs.Demands.{Demand1}
-use Rattle.theory.proofs.Plain.{settled, verdict-cases}
+use Rattle.theory.proofs.Senses.{settled, verdict-cases}
 use Rattle.model.proofs.Plain.{plain}
 use Rattle.theory.proofs.Exec.{Tells, tells-lt}
 use Rattle.theory.proofs.Sheets.{never, certified}
@@ -30,7 +31,7 @@ use Rattle.theory.proofs.Limits.{limits-accepted, accepted-limits}
 use Rattle.theory.proofs.Walks.{walk-not-spent}
 use Rattle.theory.proofs.Verdicts.{compare-is, L, field-tidy}
 use Rattle.theory.proofs.Calls.{call-clear, call-refused, kept, past}
-use Rattle.theory.proofs.Taken.{settle-clear, settle-room, form-clear, form-room, row-taken, walk-taken, walk-desk, number-taken, shelf-taken, squads-taken}
+use Rattle.theory.proofs.Taken.{settle-taken, compare-taken, form-taken, row-taken, walk-taken, walk-desk, number-taken, shelf-taken, squads-taken}
 
 -- An entry of a list that is lowered; one that the list does not have is 0, and stays so.
 pub set-lowered : (xs : List ℕ) (d n : ℕ) → at (set xs d (at xs d - n)) d ≡ at xs d - n
@@ -65,17 +66,17 @@ module _ (s : List ℕ) where
   unfolding cardOf
   kinds-of = refl
 
-  called : Accepted s → (i j : ℕ) → i < fieldCount s → j < fieldCount s
-      → (compareOf s i j ≡ given same) ⊎ ((t : ℕ) × (r : ℕ) × (compareOf s i j ≡ given (different t r)))
-  called ok i j h k =
-      go (verdict-cases (cardOf s) (kindNorm (cardOf s)) (certified s ok) _ (L s ok .most) (L s ok .settled) (fieldOf s i) (fieldOf s j) (field-tidy s ok i) (field-tidy s ok j))
+  called : Accepted s → (m : Sense) (i j : ℕ) → i < fieldCount s → j < fieldCount s
+      → (compareIn m s i j ≡ given same) ⊎ ((t : ℕ) × (r : ℕ) × (compareIn m s i j ≡ given (different t r)))
+  called ok m i j h k =
+      go (verdict-cases m (cardOf s) (kindNorm (cardOf s)) (certified s ok) _ (L m s ok .most) (L m s ok .settled) (fieldOf s i) (fieldOf s j) (field-tidy m s ok i) (field-tidy m s ok j))
     where
-      e : compareOf s i j ≡ given (verdict (cardOf s) (kindNorm (cardOf s)) (fieldOf s i) (fieldOf s j))
-      e = compare-is s ok i j h k
+      e : compareIn m s i j ≡ given (verdictIn m (cardOf s) (kindNorm (cardOf s)) (fieldOf s i) (fieldOf s j))
+      e = compare-is m s ok i j h k
 
-      go : {P : Type 0} {Q : ℕ → Type 0} → ((verdict (cardOf s) (kindNorm (cardOf s)) (fieldOf s i) (fieldOf s j) ≡ same) × P)
-          ⊎ ((d : ℕ) × ((d ≤ reachedCount (cardOf s)) × (verdict (cardOf s) (kindNorm (cardOf s)) (fieldOf s i) (fieldOf s j) ≡ different d (roundsAt (cardOf s) (kindNorm (cardOf s)) d (fieldOf s i) (fieldOf s j))) × Q d))
-          → (compareOf s i j ≡ given same) ⊎ ((t : ℕ) × (r : ℕ) × (compareOf s i j ≡ given (different t r)))
+      go : {P : Type 0} {Q : ℕ → Type 0} → ((verdictIn m (cardOf s) (kindNorm (cardOf s)) (fieldOf s i) (fieldOf s j) ≡ same) × P)
+          ⊎ ((d : ℕ) × ((d ≤ reachedCount (cardOf s)) × (verdictIn m (cardOf s) (kindNorm (cardOf s)) (fieldOf s i) (fieldOf s j) ≡ different d (roundsAt (cardOf s) (kindNorm (cardOf s)) d (fieldOf s i) (fieldOf s j))) × Q d))
+          → (compareIn m s i j ≡ given same) ⊎ ((t : ℕ) × (r : ℕ) × (compareIn m s i j ≡ given (different t r)))
       go (inl x) = inl (e ∙ ap given (x .0))
       go (inr x) = inr (x .0, roundsAt (cardOf s) (kindNorm (cardOf s)) (x .0) (fieldOf s i) (fieldOf s j), e ∙ ap given (x .1 .1))
 
@@ -187,26 +188,29 @@ module _ (s : List ℕ) where
   shelf-counts t x k h = let z : 0 + k ≡ k = omega arith in getD-from (shelfField (cardOf s) t x) 0 (kindCount s) k 0 h ∙ ap (shelfField (cardOf s) t x) z
 
   pub demand1 : Demand1 s
-  unfolding settleOf compareOf formOf rowOf shelfNumberOf shelfFieldOf squadsOf
+  unfolding settleOf compareIn formingIn rowOf shelfNumberOf shelfFieldOf squadsOf
   demand1 = record {
     accepted = (accepted-limits s, limits-accepted s);
-    settled = λ L table h. call-clear _ _ (firstOf (settleChecks s (length table))) (settle-clear s (limits-accepted s L) (length table) h);
+    settle-taken = settle-taken s;
+    settled = λ L table h. call-clear _ _ (firstOf (settleChecks s (length table))) (settle-taken s (length table) .1 (L, h));
     table-row = table-row;
     table-size = plain .table-size s;
-    form-size = plain .form-size s;
+    form-size = λ m. plain .form-size m s;
     settle-length = λ table.
-        kept (given (settledStage (cardOf s))) (tableOf s) table (firstOf (settleChecks s (length table))) (λ e. omega (arith, plain .table-size s, settle-room s (length table) e));
-    form-length = λ i buffer.
-        kept (given tt) (primeForm s i) buffer (firstOf (formChecks s i (length buffer))) (λ e. omega (arith, plain .form-size s i, form-room s i (length buffer) e));
+        kept (given (settledStage (cardOf s))) (tableOf s) table (firstOf (settleChecks s (length table))) (λ e. omega (arith, plain .table-size s, settle-taken s (length table) .0 e .1));
+    form-length = λ m i buffer.
+        kept (given tt) (primeFormIn m s i) buffer (firstOf (formChecks s i (length buffer))) (λ e. omega (arith, plain .form-size m s i, form-taken s i (length buffer) .0 e .2));
     settle-past = λ table e h.
         past (given (settledStage (cardOf s))) (tableOf s) table (firstOf (settleChecks s (length table))) e (omega (arith, plain .table-size s));
-    form-past = λ i buffer e h.
-        past (given tt) (primeForm s i) buffer (firstOf (formChecks s i (length buffer))) e (omega (arith, plain .form-size s i));
+    form-past = λ m i buffer e h.
+        past (given tt) (primeFormIn m s i) buffer (firstOf (formChecks s i (length buffer))) e (omega (arith, plain .form-size m s i));
+    compare-taken = compare-taken s;
     called = λ L. called (limits-accepted s L);
-    formed = λ L i buffer h k. call-clear _ _ (firstOf (formChecks s i (length buffer))) (form-clear s (limits-accepted s L) i (length buffer) h k);
+    form-taken = form-taken s;
+    formed = λ L m i buffer h k. call-clear _ _ (firstOf (formChecks s i (length buffer))) (form-taken s i (length buffer) .1 (L, h, k));
     settle-refused = λ table k p e. call-refused _ _ (firstOf (settleChecks s (length table))) k p e;
-    compare-refused = λ i j k p e. call-refused _ _ (firstOf (compareChecks s i j)) k p e;
-    form-refused = λ i buffer k p e. call-refused _ _ (firstOf (formChecks s i (length buffer))) k p e;
+    compare-refused = λ m i j k p e. call-refused _ _ (firstOf (compareChecks s i j)) k p e;
+    form-refused = λ m i buffer k p e. call-refused _ _ (firstOf (formChecks s i (length buffer))) k p e;
     walk-refused = walk-refused;
     walk-desk = walk-desk s;
     walk-taken = walk-taken s;

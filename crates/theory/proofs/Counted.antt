@@ -106,6 +106,14 @@ module _ (v : ℕ) (q : Seen) where
       go true e (yes l) = rw (over v p l) refl
       go true e (no l) = rw (under v p (omega arith), e) refl
 
+-- One pair more, before a part that another follows where it holds.
+pub one-more : (p q : Seen) → (elim (p .holds) as (λ _. Seen) [ true ↦ more (suc (p .count)) q | false ↦ more 1 p ]) ≡ more 1 (elim (p .holds) as (λ _. Seen) [ true ↦ more (p .count) q | false ↦ p ])
+one-more p q = go (p .holds)
+  where
+    go : (h : Bool) → (elim h as (λ _. Seen) [ true ↦ more (suc (p .count)) q | false ↦ more 1 p ]) ≡ more 1 (elim h as (λ _. Seen) [ true ↦ more (p .count) q | false ↦ p ])
+    go true = let e : suc (p .count) + q .count ≡ 1 + (p .count + q .count) = omega arith in ap (λ (n : ℕ). record { holds = q .holds; count = n }) e
+    go false = refl
+
 -- A pair that is examined: itself counted, then the first side's challenges, then the second's.
 module _ (xs : List Line) (a b : Field) where
   -- The challenges of a side, where r rounds are left after the one that they begin.
@@ -121,17 +129,7 @@ module _ (xs : List Line) (a b : Field) where
   -- "A pair examined at r rounds counts 1."
   counts-one : (r : ℕ) → examine xs (suc r) a b ≡ more 1 (sides r)
   unfolding examine sides leaves
-  counts-one r = go (s .holds)
-    where
-      s : Seen
-      s = tryChallenges (examine xs r) xs a b xs
-
-      t : Seen
-      t = tryChallenges (λ x y. examine xs r y x) xs b a xs
-
-      go : (h : Bool) → (elim h as (λ _. Seen) [ true ↦ more (suc (s .count)) t | false ↦ more 1 s ]) ≡ more 1 (elim h as (λ _. Seen) [ true ↦ more (s .count) t | false ↦ s ])
-      go true = let e : suc (s .count) + t .count ≡ 1 + (s .count + t .count) = omega arith in ap (λ (n : ℕ). record { holds = t .holds; count = n }) e
-      go false = refl
+  counts-one r = one-more (tryChallenges (examine xs r) xs a b xs) (tryChallenges (λ x y. examine xs r y x) xs b a xs)
 
   pub examines-some : (r : ℕ) → 0 < examine xs r a b .count
   unfolding examine

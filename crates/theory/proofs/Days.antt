@@ -5,12 +5,12 @@ use mathlib.Core.Path.{_≡_, refl, sym, _∙_, ap}
 use Prim.Native.Nat.{ℕ, _+_}
 use native.Mathlib.Omega.{arith}
 use lib.Dec.{eqb}
-use Rattle.model.specs.Finite.{keep}
+use Rattle.model.specs.Finite.{keep, sum}
 use Rattle.model.specs.Field.{at}
 use Rattle.model.specs.Walk.{WalkAnswer, Walk}
 use Rattle.model.specs.Refusal.{Finding, clear, refusal, firstOf, walkChecks}
 use Rattle.model.specs.Answer.{Answer, given, Session, Walked, within, fullWalk, walkOf}
-use Rattle.model.specs.Days.{WalkCall, walkBy, Made, callsBy, madeBy, day, leftAfter, answersOf, drawsOf, sum}
+use Rattle.model.specs.Days.{WalkCall, walkBy, Made, callsBy, madeBy, day, leftAfter, answersOf, drawsOf}
 use Rattle.theory.specs.Days.{Day}
 use Rattle.theory.proofs.Exec.{Tells, tells-eq}
 use Rattle.theory.proofs.Answers.{walk-clear, demand1}

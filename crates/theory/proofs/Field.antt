@@ -172,3 +172,13 @@ weigh-from i (suc m) w a = let z : i + suc m ≡ suc i + m = omega arith in rw z
 pub weigh-front : (n : ℕ) (w : ℕ → ℕ) (a : Field) → weigh n w a ≡ weighFrom 0 n w a
 unfolding weigh
 weigh-front n w a = let z : 0 + n ≡ n = omega arith in omega (arith, rw z at (weigh-from 0 n w a))
+
+-- A sum over kinds that are not there is a sum over those that are.
+pub weigh-past : (n m : ℕ) (w : ℕ → ℕ) (a : Field) → m ≤ n → ((k : ℕ) → m ≤ k → a k ≡ 0) → weigh n w a ≡ weigh m w a
+unfolding weigh
+weigh-past zero m w a l h = let z : m ≡ 0 = omega arith in rw z refl
+weigh-past (suc n) m w a l h = go (ℕ-discrete m (suc n)) (λ u. weigh-past n m w a u h)
+  where
+    go : Dec (m ≡ suc n) → (m ≤ n → weigh n w a ≡ weigh m w a) → weigh (suc n) w a ≡ weigh m w a
+    go (yes z) f = rw z refl
+    go (no d) f = rw (h n (omega arith)) (omega (arith, f (omega arith)))

@@ -1,9 +1,9 @@
--- A base is unique; primes by the largest bisimulation; a table of rows that passes the test; the finer comparison.
+-- A base is unique; primes by the largest bisimulation; a table of rows that passes the test.
 use mathlib.Core.Path.{_≡_, refl, sym, _∙_, ap, fun-ext}
 use mathlib.Core.Logic.{_⊎_, inl, inr}
-use Prim.Native.Nat.{ℕ, zero, suc, _<_}
+use Prim.Native.Nat.{ℕ, _<_}
 use native.Mathlib.Omega.{arith}
-use Rattle.model.specs.Field.{Field, unit, weigh}
+use Rattle.model.specs.Field.{Field, unit}
 use Rattle.theory.specs.Expansion.{Expands}
 use Rattle.theory.proofs.Field.{unit-same}
 use Rattle.theory.proofs.Moves.{expands-map}
@@ -128,27 +128,3 @@ module _ (N : Normed) (B : ℕ) (W : Whole N B) (A : Table N) where
           let u = decomp-rel N (Next N Both) K (A .row) B a (tidy-within N B W a (p .0)) (λ k h. let v = p .0 k h in passed k (v .0) (v .1)) in
           let v = decomp-rel N (Next N Both) K (A .row) B b (tidy-within N B W b (p .1)) (λ k h. let v = p .1 k h in passed k (v .0) (v .1)) in
           K .tr a x b u (K .sm b x (rw (p .2) v))
-
--- The plain comparison of a card: the second weight is 0.
-pub plain : Normed → Normed
-plain N = record {
-  n = N .n;
-  w = N .w;
-  e = λ _. 0;
-  on = N .on;
-  g = N .g;
-  live = N .live;
-  slow = N .slow;
-  gain = N .gain;
-  fast = N .fast;
-  tidy = N .tidy;
-}
-
--- A bisimulation of the finer comparison is one of the plain comparison.
-pub finer-plain {ℓ} : (N : Normed) (R : Field → Field → Type ℓ) → Fine N R → Fine (plain N) R
-unfolding Fine plain weigh
-finer-plain N R I = ((λ a b p. zeros (N .n) a ∙ sym (zeros (N .n) b)), I .1)
-  where
-    zeros : (m : ℕ) (c : Field) → weigh m (λ _. 0) c ≡ 0
-    zeros zero c = refl
-    zeros (suc m) c = omega (arith, zeros m c)

@@ -39,10 +39,11 @@ pub mod Remainders
 -- Pairs examined where an allowance may end the count: one part after another, and runs through lists.
 pub mod Counted
 pub mod Runs
--- Document 01: the plain comparison, whole games, sheets, checks, limits, calls, widths, decimals, pages.
-pub mod Plain
+-- Document 01 and the finer sense: the comparison in each sense, whole games, sheets, checks, limits, calls, widths, decimals, pages.
+pub mod Senses
 pub mod Paper
 pub mod Plays
+pub mod FinerPlays
 pub mod Sheets
 pub mod Checks
 pub mod Limits
@@ -58,12 +59,14 @@ pub mod Answers
 pub mod Days
 pub mod Settling
 pub mod Program
+pub mod FinerRows
 pub mod Squads
 pub mod Widths
 pub mod Decimals
 pub mod Pages
 pub mod Used
 pub mod Part
+pub mod Finer
 pub mod Meanings
 pub mod Demands
 -- For the crates above: buffers that are written in a loop, kinds that are done one after another, and what an enum tells.

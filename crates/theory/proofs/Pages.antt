@@ -21,6 +21,7 @@ use Rattle.model.specs.Answer.{tableOf, rowOf, rowCheckOf}
 use Rattle.model.specs.Page.{bytes, number, newline, itself, wordsOf, kindLine, refusedLine, pageOf, printed}
 use Rattle.theory.specs.Terms.{Earlier, Before, Prime}
 use Rattle.theory.specs.Meanings.{Pages}
+use Rattle.model.specs.Sense.{plain}
 use Rattle.theory.proofs.Field.{unit-same}
 use Rattle.theory.proofs.Exec.{Tells, tells-eq}
 use Rattle.theory.proofs.Sheets.{then, first-append, not-less, sheet-reaches, tells-reached}
@@ -163,7 +164,7 @@ module _ (s : List ℕ) where
         ∙ getD-drop (k * n) (tableOf s) j 0 ∙ demand1 s .table-row k j h i
 
     own : (k : ℕ) → Reached (cardOf s) k → (settledRow (cardOf s) k k ≡ 1) ↔ (settledRow (cardOf s) k ≡ unit k)
-    own k v = ((λ e. go e (sheet-settles s ok .final .counts k v)), (λ e. ap (λ (f : Field). f k) e ∙ unit-same k))
+    own k v = ((λ e. go e (sheet-settles plain s ok .final .counts k v)), (λ e. ap (λ (f : Field). f k) e ∙ unit-same k))
       where
         not-earlier : ¬ Earlier (cardOf s) k k
         not-earlier (inl p) = omega arith
@@ -185,12 +186,12 @@ module _ (s : List ℕ) where
 
         go : Dec (Reached (cardOf s) k) → T (eqb r 1) ↔ Prime {ℓ} (cardOf s) k
         go (yes v) =
-            let p = sheet-primes s ok .own-row k v in (
+            let p = sheet-primes plain s ok .own-row k v in (
               (λ t. p .0 (own k v .0 (sym e ∙ tells-eq r 1 .fact t))),
               (λ x. tells-eq r 1 .test (e ∙ own k v .1 (p .1 x))),
             )
         go (no n) = (
-          (λ t. absurd (omega (arith, e, tells-eq r 1 .fact t, ap (λ (f : Field). f k) (sheet-settles s ok .out-row (settledStage (cardOf s)) k n)))),
+          (λ t. absurd (omega (arith, e, tells-eq r 1 .fact t, ap (λ (f : Field). f k) (sheet-settles plain s ok .out-row (settledStage (cardOf s)) k n)))),
           (λ x. absurd (n (x .0))),
         )
 

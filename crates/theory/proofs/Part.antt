@@ -12,12 +12,14 @@ use Rattle.model.specs.Field.{Field, none, unit, weigh}
 use Rattle.model.specs.Card.{Line, Card, On, Reached, held, leads, reached, reachedKinds, reachedCount, reachedLines, fire}
 use Rattle.model.specs.Norm.{Clears, normBy, cardNorm, kindNorm, gainOf}
 use Rattle.model.specs.Expansion.{expands}
-use Rattle.model.specs.Stage.{equalNorm, stageFrom, stage}
+use Rattle.model.specs.Sense.{Sense, plain, finer}
+use Rattle.model.specs.Stage.{equalNorm, equalNormAndTotal, equalIn, stageFrom, stageIn}
 use Rattle.model.specs.Base.{fieldsOfNorm, earlier, earlierThan, atom, row, passes, firstSettled, formAt, partingStage, roundsFor, roundsAt}
-use Rattle.model.specs.Answer.{Verdict, same, different, verdict}
+use Rattle.model.specs.Answer.{Verdict, same, different, verdictIn}
 use Rattle.theory.specs.Meanings.{Parts, part}
 use Rattle.model.specs.Sheet.{cardOf}
 use Rattle.model.specs.Refusal.{clear, firstOf, sheetChecks}
+use Rattle.theory.specs.Terms.{OnReached, OfKinds}
 use Rattle.theory.proofs.Field.{unit-same, weigh-unit}
 use Rattle.theory.proofs.Base.{unit-some}
 use Rattle.theory.proofs.Reach.{dec-tells, tells-same, fire-kinds}
@@ -25,7 +27,6 @@ use Rattle.theory.proofs.Fewest.{Tame, clears-map, clears-reached, clea
 use Rattle.theory.proofs.Sweeps.{norm-attained}
 use Rattle.theory.proofs.Sheets.{tame}
 use Rattle.theory.proofs.Used.{keep-all}
-use Rattle.theory.specs.Terms.{OnReached, OfKinds}
 
 -- What clears a kind by one card's lines clears it by another's, in as many reads.
 norm-less : (c d : Card) → Tame c → Tame d → (k : ℕ) → k < c .kinds → ((r : ℕ) → Clears (On c) r (unit k) → Clears (On d) r (unit k))
@@ -117,9 +118,15 @@ module _ (c : Card) (S : Tame c) where
       go (no n) = none-out n (decLt 0 (cardNorm p k)) ∙ sym (out-norm c S k n)
 
   -- The stages, the rows, what they pass.
-  same-stage : (w : ℕ → ℕ) → stage p w ≡ stage c w
-  unfolding stage equalNorm
-  same-stage w = ap (λ (xs : List Line). stageFrom (c .kinds) xs w (λ a b. equalNorm c w a b)) same-lines
+  same-start : (m : Sense) (w : ℕ → ℕ) → equalIn m p w ≡ equalIn m c w
+  unfolding equalNorm equalNormAndTotal
+  same-start plain w = refl
+  same-start finer w = refl
+
+  same-stage : (m : Sense) (w : ℕ → ℕ) → stageIn m p w ≡ stageIn m c w
+  unfolding stageIn
+  same-stage m w =
+      ap (λ (xs : List Line). stageFrom (c .kinds) xs w (equalIn m p w)) same-lines ∙ ap (λ (r : Field → Field → Bool). stageFrom (c .kinds) (reachedLines c) w r) (same-start m w)
 
   module _ (w : ℕ → ℕ) (R : ℕ → Field → Field → Bool) where
     before : (ℕ → Bool) → ℕ → ℕ → Bool
@@ -182,32 +189,32 @@ module _ (c : Card) (S : Tame c) where
   Verdicts : (ℕ → ℕ) → Field → Field → ℕ → ℕ → (ℕ → ℕ) → Verdict
   Verdicts w a b s n rounds = elim (leb s n) [ true ↦ different s (rounds s) | false ↦ same ]
 
-  verdict-by : (d : Card) (w : ℕ → ℕ) (a b : Field) → verdict d w a b ≡ Verdicts w a b (partingStage d w (stage d w) a b) (reachedCount d) (λ s. roundsAt d w s a b)
-  unfolding verdict Verdicts
-  verdict-by d w a b = refl
+  verdict-by : (m : Sense) (d : Card) (w : ℕ → ℕ) (a b : Field) → verdictIn m d w a b ≡ Verdicts w a b (partingStage d w (stageIn m d w) a b) (reachedCount d) (λ s. roundsAt d w s a b)
+  unfolding verdictIn Verdicts
+  verdict-by m d w a b = refl
 
-  same-verdict : (w : ℕ → ℕ) (a b : Field) → verdict p w a b ≡ verdict c w a b
-  same-verdict w a b =
-      verdict-by p w a b
-      ∙ ap (λ s. Verdicts w a b s (reachedCount p) (λ q. roundsAt p w q a b)) (ap (λ (R : ℕ → Field → Field → Bool). partingStage p w R a b) (same-stage w) ∙ same-parting w (stage c w) a b)
-      ∙ ap (λ n. Verdicts w a b (partingStage c w (stage c w) a b) n (λ q. roundsAt p w q a b)) (same-count w (stage c w))
-      ∙ ap (λ (f : ℕ → ℕ). Verdicts w a b (partingStage c w (stage c w) a b) (reachedCount c) f) (fun-ext (λ q. same-rounds w (stage c w) q a b))
-      ∙ sym (verdict-by c w a b)
+  same-verdict : (m : Sense) (w : ℕ → ℕ) (a b : Field) → verdictIn m p w a b ≡ verdictIn m c w a b
+  same-verdict m w a b =
+      verdict-by m p w a b
+      ∙ ap (λ s. Verdicts w a b s (reachedCount p) (λ q. roundsAt p w q a b)) (ap (λ (R : ℕ → Field → Field → Bool). partingStage p w R a b) (same-stage m w) ∙ same-parting w (stageIn m c w) a b)
+      ∙ ap (λ n. Verdicts w a b (partingStage c w (stageIn m c w) a b) n (λ q. roundsAt p w q a b)) (same-count w (stageIn m c w))
+      ∙ ap (λ (f : ℕ → ℕ). Verdicts w a b (partingStage c w (stageIn m c w) a b) (reachedCount c) f) (fun-ext (λ q. same-rounds w (stageIn m c w) q a b))
+      ∙ sym (verdict-by m c w a b)
 
   -- Of the norms, and so of the answers.
   module _ {A : Type 0} (f : Card → (ℕ → ℕ) → (ℕ → Field → Field → Bool) → A) (each : (w : ℕ → ℕ) (R : ℕ → Field → Field → Bool) → f p w R ≡ f c w R) where
-    same-answer : f p (kindNorm p) (stage p (kindNorm p)) ≡ f c (kindNorm c) (stage c (kindNorm c))
-    same-answer = ap (λ (w : ℕ → ℕ). f p w (stage p w)) same-norm ∙ ap (f p (kindNorm c)) (same-stage (kindNorm c)) ∙ each (kindNorm c) (stage c (kindNorm c))
+    same-answer : (m : Sense) → f p (kindNorm p) (stageIn m p (kindNorm p)) ≡ f c (kindNorm c) (stageIn m c (kindNorm c))
+    same-answer m = ap (λ (w : ℕ → ℕ). f p w (stageIn m p w)) same-norm ∙ ap (f p (kindNorm c)) (same-stage m (kindNorm c)) ∙ each (kindNorm c) (stageIn m c (kindNorm c))
 
   all-parts : Parts c
   all-parts = record {
     reached-iff = λ k. (to-card k, to-part k);
     norms = same-norm;
     stage = same-answer firstSettled same-settled;
-    stage-rows = λ s. same-answer (λ d w R. row d w R s) (λ w R. ap (λ (x : ℕ → ℕ → Field). x s) (same-row w R));
+    stage-rows = λ m s. same-answer (λ d w R. row d w R s) (λ w R. ap (λ (x : ℕ → ℕ → Field). x s) (same-row w R)) m;
     rows = same-answer (λ d w R. row d w R (firstSettled d w R)) (λ w R. ap (row p w R) (same-settled w R) ∙ ap (λ (x : ℕ → ℕ → Field). x (firstSettled c w R)) (same-row w R));
     forms = same-answer (λ d w R. formAt d w R (firstSettled d w R)) (λ w R. ap (formAt p w R) (same-settled w R) ∙ ap (λ (x : ℕ → Field → Field). x (firstSettled c w R)) (same-form w R));
-    verdicts = λ a b. ap (λ (w : ℕ → ℕ). verdict p w a b) same-norm ∙ same-verdict (kindNorm c) a b;
+    verdicts = λ m a b. ap (λ (w : ℕ → ℕ). verdictIn m p w a b) same-norm ∙ same-verdict m (kindNorm c) a b;
   }
 
 -- Of a sheet that passes 1 to 8: by the lines of the reached part alone, each reached kind has its norm, and a kind that is out has none.

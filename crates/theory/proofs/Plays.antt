@@ -18,7 +18,7 @@ module _ (c : Card) where
   dec-Holds (suc r) a b = dec-expands (On c) (list-finite (c .lines)) (Holds c r) (dec-Holds r) a b
 
   -- Where a side does not simulate the other, one of its lines beats every reply.
-  beats : (R Q : Field → Field → Type 0) → ((x y : Field) → Dec (R x y)) → ((x y : Field) → ¬ R x y → Q x y)
+  pub beats : (R Q : Field → Field → Type 0) → ((x y : Field) → Dec (R x y)) → ((x y : Field) → ¬ R x y → Q x y)
       → (a b : Field) → ¬ Simulates (On c) R a b → Beats c Q a b
   beats R Q d f a b n = go (list-finite (c .lines) Bad dec-bad)
     where

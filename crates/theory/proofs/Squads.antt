@@ -9,6 +9,7 @@ use native.Mathlib.Omega.{arith}
 use Rattle.model.specs.Field.{Field, _⊕_, times, unit, weigh, at, tokens}
 use Rattle.model.specs.Card.{Card, On, Reached}
 use Rattle.model.specs.Norm.{Clears, IsNorm, kindNorm, norm}
+use Rattle.model.specs.Sense.{plain}
 use Rattle.model.specs.Base.{formAt, settledForm}
 use Rattle.model.specs.Squads.{remainder}
 use Rattle.model.specs.Sheet.{kindCount, cardOf, fieldOf}
@@ -26,7 +27,7 @@ use Rattle.theory.proofs.Settle.{tidy-within}
 use Rattle.theory.proofs.Count.{past-whole, level-low}
 use Rattle.theory.proofs.Lists.{getD-from, getD-past}
 use Rattle.theory.proofs.Reach.{fire-kinds}
-use Rattle.theory.proofs.Plain.{tidy}
+use Rattle.theory.proofs.Senses.{tidy}
 use Rattle.theory.proofs.Program.{theirs}
 use Rattle.theory.proofs.Gain.{sheet-norms}
 use Rattle.theory.proofs.Sheets.{sheet-clear, sheet-reaches, under-kinds, certified, field-kinds}
@@ -58,42 +59,42 @@ module _ (s : List ℕ) (ok : Accepted s) where
   of-kinds : (i : ℕ) → OfKinds c (fieldOf s i)
   of-kinds i = field-kinds s (sheet-clear s ok) i
 
-  prime-is : (x : Field) → OfKinds c x → prime x ≡ form (N s ok) (R s ok) (B s ok) (D s ok) x
-  prime-is x u = rw (L s ok .is) (theirs c (kindNorm c) (certified s ok) (q s ok) x u)
+  prime-is : (x : Field) → OfKinds c x → prime x ≡ form (N plain s ok) (R plain s ok) (B plain s ok) (D plain s ok) x
+  prime-is x u = rw (L plain s ok .is) (theirs plain c (kindNorm c) (certified s ok) (q plain s ok) x u)
 
   prime-joined : (m : ℕ) (x y : Field) (k : ℕ) → prime (times m x ⊕ y) k ≡ m * prime x k + prime y k
   unfolding formAt
   prime-joined m x y k = weigh-plus (c .kinds) _ (times m x) y ∙ ap (λ n. n + prime y k) (weigh-times (c .kinds) _ m x)
 
-  within : (x : Field) → OfKinds c x → Within (N s ok) (B s ok) x
-  within x u = tidy-within (N s ok) (B s ok) (past-whole (N s ok) (fin s ok)) x (tidy c (kindNorm c) (certified s ok) x u)
+  within : (x : Field) → OfKinds c x → Within (N plain s ok) (B plain s ok) x
+  within x u = tidy-within (N plain s ok) (B plain s ok) (past-whole (N plain s ok) (fin plain s ok)) x (tidy plain c (kindNorm c) (certified s ok) x u)
 
-  prime-parts : (x : Field) → OfKinds c x → (k : ℕ) → 0 < prime x k → Reached c k × (D s ok .row k ≡ unit k)
+  prime-parts : (x : Field) → OfKinds c x → (k : ℕ) → 0 < prime x k → Reached c k × (D plain s ok .row k ≡ unit k)
   prime-parts x u k h =
-      let t = form-within (N s ok) (R s ok) (B s ok) (D s ok) (B s ok) x (omega arith) (within x u) in
+      let t = form-within (N plain s ok) (R plain s ok) (B plain s ok) (D plain s ok) (B plain s ok) x (omega arith) (within x u) in
       let i = rw (ap (λ (f : Field). f k) (prime-is x u)) at h in
       (certified s ok .out k (t .0 k i .1), t .1 k i)
 
-  prime-self : (x : Field) → ((k : ℕ) → 0 < x k → Reached c k × (D s ok .row k ≡ unit k)) → prime x ≡ x
+  prime-self : (x : Field) → ((k : ℕ) → 0 < x k → Reached c k × (D plain s ok .row k ≡ unit k)) → prime x ≡ x
   prime-self x f =
       let u : OfKinds c x = λ k h. f k h .0 in
-      prime-is x u ∙ form-self (N s ok) (R s ok) (B s ok) (D s ok) x (within x u, λ k h. f k h .1)
+      prime-is x u ∙ form-self (N plain s ok) (R plain s ok) (B plain s ok) (D plain s ok) x (within x u, λ k h. f k h .1)
 
   same-prime {ℓ} : (x y : Field) → OfKinds c x → OfKinds c y → Bisimilar {ℓ} (On c) x y ↔ (prime x ≡ prime y)
   same-prime x y u v =
       let F = certified s ok in
-      let b = bisimilar s ok x y (tidy c (kindNorm c) F x u) (tidy c (kindNorm c) F y v) in
-      let f = form-iff (N s ok) (R s ok) (B s ok) (D s ok) (level-cong (N s ok) (q s ok)) (level-low (N s ok) (fin s ok) (q s ok)) x y (within x u) (within y v) in (
-        (λ p. prime-is x u ∙ f .0 (from-stage s ok x y (b .1 p)) ∙ sym (prime-is y v)),
-        (λ e. b .0 (to-stage s ok x y (f .1 (sym (prime-is x u) ∙ e ∙ prime-is y v)))),
+      let b = bisimilar plain s ok x y (tidy plain c (kindNorm c) F x u) (tidy plain c (kindNorm c) F y v) in
+      let f = form-iff (N plain s ok) (R plain s ok) (B plain s ok) (D plain s ok) (level-cong (N plain s ok) (q plain s ok)) (level-low (N plain s ok) (fin plain s ok) (q plain s ok)) x y (within x u) (within y v) in (
+        (λ p. prime-is x u ∙ f .0 (from-stage plain s ok x y (b .1 p)) ∙ sym (prime-is y v)),
+        (λ e. b .0 (to-stage plain s ok x y (f .1 (sym (prime-is x u) ∙ e ∙ prime-is y v)))),
       )
 
   -- The form has the field's norm, and so a field with tokens has a form with some.
   prime-norm : (x : Field) → OfKinds c x → norm c (prime x) ≡ norm c x
   prime-norm x u =
       ap (norm c) (prime-is x u)
-      ∙ sym (level-cong (N s ok) (q s ok) .norms x (form (N s ok) (R s ok) (B s ok) (D s ok) x)
-      (form-rel (N s ok) (R s ok) (B s ok) (D s ok) (level-cong (N s ok) (q s ok)) (level-low (N s ok) (fin s ok) (q s ok)) x (within x u)))
+      ∙ sym (level-cong (N plain s ok) (q plain s ok) .norms x (form (N plain s ok) (R plain s ok) (B plain s ok) (D plain s ok) x)
+      (form-rel (N plain s ok) (R plain s ok) (B plain s ok) (D plain s ok) (level-cong (N plain s ok) (q plain s ok)) (level-low (N plain s ok) (fin plain s ok) (q plain s ok)) x (within x u)))
 
   some-prime : (x : Field) → OfKinds c x → 0 < tokens (c .kinds) x → (k : ℕ) × (k < c .kinds) × (0 < prime x k)
   some-prime x u h =
@@ -103,23 +104,23 @@ module _ (s : List ℕ) (ok : Accepted s) where
       let r = weigh-some (c .kinds) (kindNorm c) (prime x) (omega (arith, prime-norm x u, p, m, t .2)) in
       (r .0, r .1, r .2)
 
-  prime-own {ℓ} : (k : ℕ) → Prime {ℓ} c k → D s ok .row k ≡ unit k
-  prime-own k p = sym (settled-row s ok k (p .0)) ∙ sheet-primes s ok .own-row k (p .0) .1 p
+  prime-own {ℓ} : (k : ℕ) → Prime {ℓ} c k → D plain s ok .row k ≡ unit k
+  prime-own k p = sym (settled-row plain s ok k (p .0)) ∙ sheet-primes plain s ok .own-row k (p .0) .1 p
 
   form-at : (i k : ℕ) → at (primeForm s i) k ≡ prime (fieldOf s i) k
-  form-at i k = ap (λ (f : Field). f k) (at-form s ok i ∙ sym (written-is s ok i))
+  form-at i k = ap (λ (f : Field). f k) (at-form plain s ok i ∙ sym (written-is plain s ok i))
 
   -- For the code: a field that is not empty has a form that is not.
   pub form-some : (j : ℕ) → 0 < tokens (kindCount s) (fieldOf s j) → 0 < tokens (kindCount s) (at (primeForm s j))
   form-some j full =
-      let v = some-prime (fieldOf s j) (of-kinds j) (rw (kinds-is s ok) full) in
-      omega (arith, v .2, form-at j (v .0), weigh-part (kindCount s) (λ _. 1) (at (primeForm s j)) (v .0) (omega (arith, v .1, kinds-is s ok)))
+      let v = some-prime (fieldOf s j) (of-kinds j) (rw (kinds-is plain s ok) full) in
+      omega (arith, v .2, form-at j (v .0), weigh-part (kindCount s) (λ _. 1) (at (primeForm s j)) (v .0) (omega (arith, v .1, kinds-is plain s ok)))
 
   -- A form has no more tokens than its field has norm.
   form-small : (i : ℕ) → tokens (kindCount s) (at (primeForm s i)) ≤ norm c (fieldOf s i)
   form-small i =
       let e : at (primeForm s i) ≡ prime (fieldOf s i) = fun-ext (form-at i) in
-      rw (e, ← kinds-is s ok, ← prime-norm (fieldOf s i) (of-kinds i)) (weigh-mono (c .kinds) (λ _. 1) (kindNorm c) (prime (fieldOf s i)) (λ k h p. certified s ok .positive k (prime-parts (fieldOf s i) (of-kinds i) k p .0)))
+      rw (e, ← kinds-is plain s ok, ← prime-norm (fieldOf s i) (of-kinds i)) (weigh-mono (c .kinds) (λ _. 1) (kindNorm c) (prime (fieldOf s i)) (λ k h p. certified s ok .positive k (prime-parts (fieldOf s i) (of-kinds i) k p .0)))
 
   module _ (i j : ℕ) where
     abbrev whole : Field
@@ -157,7 +158,7 @@ module _ (s : List ℕ) (ok : Accepted s) where
     exact-prime : (k : ℕ) → count * prime squad k + left k ≡ prime whole k
     exact-prime k = omega (arith, exact k, form-at i k, ap (λ n. count * n) (form-at j k))
 
-    left-parts : (k : ℕ) → 0 < left k → Reached c k × (D s ok .row k ≡ unit k)
+    left-parts : (k : ℕ) → 0 < left k → Reached c k × (D plain s ok .row k ≡ unit k)
     left-parts k h = prime-parts whole (of-kinds i) k (omega (arith, exact-prime k))
 
     joined-kinds : (m : ℕ) (x : Field) → OfKinds c x → OfKinds c (times m squad ⊕ x)
@@ -195,8 +196,8 @@ module _ (s : List ℕ) (ok : Accepted s) where
     no-larger full m x (Q, S, p) =
         let t = left-over c Q S (λ l a o h u. fire-kinds c l a (o, u (l .kind) h) u) (norm c (times m squad)) (times m squad) x whole (of-kinds i) (clear-squads m) p in
         let d = divides m (t .0) (t .1) (exchange (On c) Q S whole (times m squad) x (t .0) p (t .2)) in
-        let v = some-prime squad (of-kinds j) (rw (kinds-is s ok) full) in
-        times-largest (kindCount s) (at (primeForm s i)) (at (primeForm s j)) m (v .0) (omega (arith, v .1, kinds-is s ok)) (omega (arith, v .2, form-at j (v .0)))
+        let v = some-prime squad (of-kinds j) (rw (kinds-is plain s ok) full) in
+        times-largest (kindCount s) (at (primeForm s i)) (at (primeForm s j)) m (v .0) (omega (arith, v .1, kinds-is plain s ok)) (omega (arith, v .2, form-at j (v .0)))
         (λ k h. omega (arith, d k, form-at i k, ap (λ n. m * n) (form-at j k)))
 
     largest {ℓ} : 0 < tokens (kindCount s) squad → (m : ℕ) → (count ≡ m) ↔ IsLargest {ℓ} c whole squad m
@@ -227,7 +228,7 @@ module _ (s : List ℕ) (ok : Accepted s) where
     squads = record {
       largest = largest;
       joined = joined;
-      primes = λ k h. form-prime s ok i k (rw (ap (λ (f : Field). f k) (at-form s ok i)) at (some-left k h));
+      primes = λ k h. form-prime plain s ok i k (rw (ap (λ (f : Field). f k) (at-form plain s ok i)) at (some-left k h));
       form = form-of-rest;
       exact = exact;
       no-other = λ x f. fun-ext (λ k. omega (arith, f k, exact k));

@@ -1,8 +1,7 @@
 -- What each call takes: when its checks find nothing.
-use mathlib.Core.Bool.{not}
-use mathlib.Core.List.{List, [], _++_, _∷_, List·Memᴰ·head, List·Memᴰ·tail}
+use mathlib.Core.List.{List, [], _++_}
 use mathlib.Core.Logic.{_↔_}
-use mathlib.Core.Path.{_≡_, refl, sym, _∙_}
+use mathlib.Core.Path.{_≡_, sym, _∙_}
 use Prim.Native.Nat.{ℕ, _*_, _≤_, _<_}
 use lib.Dec.{ltb}
 use lib.ListN.{length}
@@ -11,10 +10,10 @@ use Rattle.model.specs.Card.{reachedCount}
 use Rattle.model.specs.Shelf.{entry}
 use Rattle.model.specs.Sheet.{kindCount, fieldCount, cardOf, fieldOf}
 use Rattle.model.specs.Limits.{mostKinds, mostRounds, mostTokens, lastDesk, Limits}
-use Rattle.model.specs.Refusal.{Check, check, clear, refusal, firstOf, sheetChecks, normChecks, acceptChecks, Accepted, settleChecks, formChecks, walkChecks, rowChecks, shelfNumberChecks, shelfFieldChecks, squadsChecks}
+use Rattle.model.specs.Refusal.{Check, check, clear, refusal, firstOf, sheetChecks, acceptChecks, Accepted, settleChecks, compareChecks, formChecks, walkChecks, rowChecks, shelfNumberChecks, shelfFieldChecks, squadsChecks}
 use Rattle.model.specs.Answer.{rowCheckOf}
 use Rattle.theory.proofs.Exec.{tells-lt}
-use Rattle.theory.proofs.Sheets.{first-append, then-clear, clear-cons, clear-nil, clear-none, small, not-small, not-less, call-checks}
+use Rattle.theory.proofs.Sheets.{first-append, then-clear, clear-cons, clear-nil, small, not-small, not-less, call-checks}
 use Rattle.theory.proofs.Checks.{cons-none, not-outside, from-outside, from-less, from-some, not-none, first-right, first-here}
 use Rattle.theory.proofs.Limits.{limits-accepted, accepted-limits}
 
@@ -33,31 +32,6 @@ row-taken n k table = (
 )
 
 module _ (s : List ℕ) where
-  -- Settle takes an accepted sheet and a table with room.
-  pub settle-clear : Accepted s → (size : ℕ) → kindCount s * kindCount s ≤ size → firstOf (settleChecks s size) ≡ clear
-  unfolding settleChecks
-  settle-clear ok size h = call-checks s ok _ ∙ clear-cons 12 0 _ [] (not-less size (kindCount s * kindCount s) h) clear-nil
-
-  -- A table that Settle takes has room.
-  pub settle-room : (size : ℕ) → firstOf (settleChecks s size) ≡ clear → kindCount s * kindCount s ≤ size
-  unfolding settleChecks
-  settle-room size e =
-      from-less size (kindCount s * kindCount s) (clear-none (List·Memᴰ·head refl)
-      (then-clear (firstOf (sheetChecks s ++ normChecks s)) (firstOf (check 12 0 (ltb size (kindCount s * kindCount s)) ∷ [])) (sym (first-append (sheetChecks s ++ normChecks s) _) ∙ e) .1))
-
-  -- Prime form takes an accepted sheet, one of its fields and a buffer with room.
-  pub form-clear : Accepted s → (i size : ℕ) → i < fieldCount s → kindCount s ≤ size → firstOf (formChecks s i size) ≡ clear
-  unfolding formChecks
-  form-clear ok i size h k =
-      call-checks s ok _ ∙ clear-cons 11 0 _ _ (not-small i (fieldCount s) h) (clear-cons 12 0 _ [] (not-less size (kindCount s) k) clear-nil)
-
-  -- A buffer that Prime form takes has room.
-  pub form-room : (i size : ℕ) → firstOf (formChecks s i size) ≡ clear → kindCount s ≤ size
-  unfolding formChecks
-  form-room i size e =
-      from-less size (kindCount s) (clear-none (List·Memᴰ·tail (List·Memᴰ·head refl))
-      (then-clear (firstOf (sheetChecks s ++ normChecks s)) (firstOf (check 11 0 (not (ltb i (fieldCount s))) ∷ check 12 0 (ltb size (kindCount s)) ∷ [])) (sym (first-append (sheetChecks s ++ normChecks s) _) ∙ e) .1))
-
   -- Walk takes a desk, a sheet that passes 1 to 8, two of its fields and a round limit.
   pub walk-taken : (i j limit d : ℕ) → (firstOf (walkChecks s i j limit d) ≡ clear)
       ↔ ((d ≤ lastDesk) × (firstOf (sheetChecks s) ≡ clear) × (i < fieldCount s) × (j < fieldCount s) × (limit ≤ mostRounds))
@@ -87,6 +61,43 @@ module _ (s : List ℕ) where
   sheet-then xs e =
       let p = then-clear (firstOf (acceptChecks s)) (firstOf xs) (sym (first-append (acceptChecks s) xs) ∙ e) in
       (accepted-limits s (p .0), p .1)
+
+  -- Settle takes a sheet within the limits and a table with room.
+  pub settle-taken : (size : ℕ) → (firstOf (settleChecks s size) ≡ clear) ↔ (Limits s × (kindCount s * kindCount s ≤ size))
+  unfolding settleChecks
+  settle-taken size = (
+    (λ e.
+        let p = sheet-then _ e in
+        let a = cons-none 12 0 _ _ (p .1) in
+        (p .0, from-less size (kindCount s * kindCount s) (a .0))),
+    (λ p. call-checks s (limits-accepted s (p .0)) _ ∙ clear-cons 12 0 _ [] (not-less size (kindCount s * kindCount s) (p .1)) clear-nil),
+  )
+
+  -- Compare takes a sheet within the limits and two of its fields.
+  pub compare-taken : (i j : ℕ) → (firstOf (compareChecks s i j) ≡ clear) ↔ (Limits s × (i < fieldCount s) × (j < fieldCount s))
+  unfolding compareChecks
+  compare-taken i j = (
+    (λ e.
+        let p = sheet-then _ e in
+        let a = cons-none 11 0 _ _ (p .1) in
+        let b = cons-none 11 1 _ _ (a .1) in
+        (p .0, small i (fieldCount s) (a .0), small j (fieldCount s) (b .0))),
+    (λ p. call-checks s (limits-accepted s (p .0)) _
+        ∙ clear-cons 11 0 _ _ (not-small i (fieldCount s) (p .1)) (clear-cons 11 1 _ [] (not-small j (fieldCount s) (p .2)) clear-nil)),
+  )
+
+  -- Prime form takes a sheet within the limits, one of its fields and a buffer with room.
+  pub form-taken : (i size : ℕ) → (firstOf (formChecks s i size) ≡ clear) ↔ (Limits s × (i < fieldCount s) × (kindCount s ≤ size))
+  unfolding formChecks
+  form-taken i size = (
+    (λ e.
+        let p = sheet-then _ e in
+        let a = cons-none 11 0 _ _ (p .1) in
+        let b = cons-none 12 0 _ _ (a .1) in
+        (p .0, small i (fieldCount s) (a .0), from-less size (kindCount s) (b .0))),
+    (λ p. call-checks s (limits-accepted s (p .0)) _
+        ∙ clear-cons 11 0 _ _ (not-small i (fieldCount s) (p .1)) (clear-cons 12 0 _ [] (not-less size (kindCount s) (p .2)) clear-nil)),
+  )
 
   -- Shelf number takes a sheet within the limits and one of its fields, of few tokens.
   pub number-taken : (i : ℕ) → (firstOf (shelfNumberChecks s i) ≡ clear) ↔ (Limits s × (i < fieldCount s) × (tokens (kindCount s) (fieldOf s i) ≤ mostTokens))

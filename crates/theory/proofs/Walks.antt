@@ -96,24 +96,28 @@ module _ (c : Card) where
       (λ g l o h. let t = g l o h in (t .line, t .on, ((t .can, t .same), t .rel)))
       (tells-challenges (c .lines) see R f a b (c .lines))
 
+  -- A pair at a round or more holds where the challenges of both sides do; what is seen of the pairs that replies leave tells R.
+  pub tells-sides : (see : Field → Field → Seen) (R : Field → Field → Type 0) → ((x y : Field) → Tells (see x y .holds) (R x y)) → (a b : Field)
+      → let s = tryChallenges see (c .lines) a b (c .lines) in
+      Tells ((elim (s .holds) as (λ _. Seen) [ true ↦ more (suc (s .count)) (tryChallenges (λ x y. see y x) (c .lines) b a (c .lines)) | false ↦ more 1 s ]) .holds) (Expands (On c) R a b)
+  tells-sides see R f a b = go (s .holds) (tells-side see R f a b) refl (tells-side (λ x y. see y x) (flip R) (λ x y. f y x) b a)
+    where
+      s : Seen
+      s = tryChallenges see (c .lines) a b (c .lines)
+
+      u : Seen
+      u = tryChallenges (λ x y. see y x) (c .lines) b a (c .lines)
+
+      go : (b′ : Bool) → Tells b′ (Simulates (On c) R a b) → s .holds ≡ b′ → Tells (u .holds) (Simulates (On c) (flip R) b a)
+          → Tells ((elim b′ as (λ _. Seen) [ true ↦ more (suc (s .count)) u | false ↦ more 1 s ]) .holds) (Expands (On c) R a b)
+      go true t e v = tells-map (λ y. (t .fact tt, y)) (λ y. y .1) v
+      go false t e v = record { fact = λ z. absurd (rw e at z); test = λ y. absurd (t .test (y .0)) }
+
   -- What is examined holds just when the pair does.
   pub tells-examine : (r : ℕ) (a b : Field) → Tells (examine (c .lines) r a b .holds) (Holds c r a b)
   unfolding examine Holds
   tells-examine zero a b = record { fact = λ _. tt; test = λ _. tt }
-  tells-examine (suc r) a b =
-      go (s .holds) (tells-side (examine (c .lines) r) (Holds c r) (tells-examine r) a b) refl
-      (tells-side (λ x y. examine (c .lines) r y x) (flip (Holds c r)) (λ x y. tells-examine r y x) b a)
-    where
-      s : Seen
-      s = tryChallenges (examine (c .lines) r) (c .lines) a b (c .lines)
-
-      u : Seen
-      u = tryChallenges (λ x y. examine (c .lines) r y x) (c .lines) b a (c .lines)
-
-      go : (b′ : Bool) → Tells b′ (Simulates (On c) (Holds c r) a b) → s .holds ≡ b′ → Tells (u .holds) (Simulates (On c) (flip (Holds c r)) b a)
-          → Tells ((elim b′ as (λ _. Seen) [ true ↦ more (suc (s .count)) u | false ↦ more 1 s ]) .holds) (Expands (On c) (Holds c r) a b)
-      go true t e v = tells-map (λ y. (t .fact tt, y)) (λ y. y .1) v
-      go false t e v = record { fact = λ z. absurd (rw e at z); test = λ y. absurd (t .test (y .0)) }
+  tells-examine (suc r) a b = tells-sides (examine (c .lines) r) (Holds c r) (tells-examine r) a b
 
   pub Holds-less : (r d : ℕ) (a b : Field) → r ≤ d → Holds c d a b → Holds c r a b
   unfolding Holds

@@ -2,9 +2,10 @@
 use mathlib.Core.List.{List}
 use mathlib.Core.Path.{_≡_}
 use Prim.Native.Nat.{ℕ, _+_}
+use Rattle.model.specs.Finite.{sum}
 use Rattle.model.specs.Field.{at}
 use Rattle.model.specs.Answer.{Session}
-use Rattle.model.specs.Days.{WalkCall, callsBy, madeBy, day, leftAfter, answersOf, drawsOf, sum}
+use Rattle.model.specs.Days.{WalkCall, callsBy, madeBy, day, leftAfter, answersOf, drawsOf}
 
 -- Of any calls, "each made on the session that the last one left", whatever sheets, fields, limits and desks they name, of the session v that the first is made on, and of desk d.
 pub record Day (calls : List WalkCall) (v : Session) (d : ℕ) : Type 0 where

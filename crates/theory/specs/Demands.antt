@@ -1,4 +1,5 @@
--- The three demands, as types over the answers.
+-- The three demands, as types over the answers. Compare and Prime form are spoken of in each sense m, document 01's and the finer one of request 7 of document 02: "Demands 2 and 3, with
+-- primes, sameness and game taken in this sense, must hold for the finer services too".
 use mathlib.Core.List.{List, []}
 use mathlib.Core.Logic.{_↔_, _⊎_}
 use mathlib.Core.Path.{_≡_}
@@ -7,21 +8,28 @@ use lib.ListN.{length, take, drop}
 use Rattle.model.specs.Field.{Field, at, tokens}
 use Rattle.model.specs.Card.{On, reachedCount}
 use Rattle.model.specs.Norm.{IsNorm}
-use Rattle.theory.specs.Expansion.{Expands, Bisimilar}
+use Rattle.model.specs.Sense.{Sense}
+use Rattle.theory.specs.Expansion.{Expands, BisimilarIn}
 use Rattle.model.specs.Base.{settledStage, settledRow}
-use Rattle.theory.specs.Game.{Holds, Always, Parting, Parted, Strategy, Answered, Challenge}
+use Rattle.theory.specs.Game.{Strategy, Challenge}
+use Rattle.theory.specs.FinerGame.{HoldsIn, AlwaysIn, PartingIn, PartedIn, AnsweredIn}
 use Rattle.model.specs.Shelf.{entry, shelfNumber, shelfField}
 use Rattle.model.specs.Walk.{spent}
 use Rattle.model.specs.Sheet.{kindCount, fieldCount, cardOf, fieldOf}
 use Rattle.model.specs.Limits.{mostKinds, mostRounds, mostTokens, lastDesk, Limits}
 use Rattle.model.specs.Refusal.{Accepted, clear, refusal, firstOf, sheetChecks, settleChecks, compareChecks, formChecks, walkChecks, shelfNumberChecks, shelfFieldChecks, squadsChecks}
-use Rattle.theory.specs.Terms.{OfKinds, IsGain, Stage, Prime}
-use Rattle.model.specs.Answer.{refused, given, Session, same, different, settleOf, compareOf, formOf, walkOf, rowOf, rowCheckOf, tableOf, primeForm, written, fullWalk, shelfNumberOf, shelfCounts, shelfFieldOf, squadCount, remainderForm, squadsOf}
+use Rattle.theory.specs.Terms.{OfKinds, IsGain, StageIn, PrimeIn}
+use Rattle.model.specs.Answer.{refused, given, Session, same, different, settleOf, compareIn, formingIn, walkOf, rowOf, rowCheckOf, tableOf, primeFormIn, written, fullWalk, shelfNumberOf, shelfCounts, shelfFieldOf, squadCount, remainderForm, squadsOf}
 
 -- Demand 1.
 pub record Demand1 (s : List ℕ) : Type 0 where
   -- "A sheet is accepted when none of 1 to 10 applies to it": just when it lies within the written limits.
   pub accepted : Accepted s ↔ Limits s
+  -- Settle is not refused just when the sheet is within the limits and the table has room for n × n counts; Compare, when it has both fields; Prime form, when it has the field and the buffer
+  -- has room for n counts.
+  pub settle-taken : (size : ℕ) → (firstOf (settleChecks s size) ≡ clear) ↔ (Limits s × (kindCount s * kindCount s ≤ size))
+  pub compare-taken : (i j : ℕ) → (firstOf (compareChecks s i j) ≡ clear) ↔ (Limits s × (i < fieldCount s) × (j < fieldCount s))
+  pub form-taken : (i size : ℕ) → (firstOf (formChecks s i size) ≡ clear) ↔ (Limits s × (i < fieldCount s) × (kindCount s ≤ size))
   -- "Every sheet within the written limits is settled, any two of its fields are called same or different, and every prime form is written."
   pub settled : Limits s → (table : List ℕ) → kindCount s * kindCount s ≤ length table
       → settleOf s table ≡ record { answer = given (settledStage (cardOf s)); lent = written (tableOf s) table }
@@ -30,23 +38,23 @@ pub record Demand1 (s : List ℕ) : Type 0 where
       → at (tableOf s) (k * kindCount s + j) ≡ settledRow (cardOf s) k j
   pub table-size : length (tableOf s) ≡ kindCount s * kindCount s
   -- "n counts"
-  pub form-size : (i : ℕ) → length (primeForm s i) ≡ kindCount s
+  pub form-size : (m : Sense) (i : ℕ) → length (primeFormIn m s i) ≡ kindCount s
   -- A lent buffer keeps its length, whatever the answer.
   pub settle-length : (table : List ℕ) → length (settleOf s table .lent) ≡ length table
-  pub form-length : (i : ℕ) (buffer : List ℕ) → length (formOf s i buffer .lent) ≡ length buffer
+  pub form-length : (m : Sense) (i : ℕ) (buffer : List ℕ) → length (formingIn m s i buffer .lent) ≡ length buffer
   -- "Bytes of a lent buffer past those named keep their values."
   pub settle-past : (table : List ℕ) (e : ℕ) → kindCount s * kindCount s ≤ e → at (settleOf s table .lent) e ≡ at table e
-  pub form-past : (i : ℕ) (buffer : List ℕ) (e : ℕ) → kindCount s ≤ e → at (formOf s i buffer .lent) e ≡ at buffer e
-  pub called : Limits s → (i j : ℕ) → i < fieldCount s → j < fieldCount s
-      → (compareOf s i j ≡ given same) ⊎ ((t : ℕ) × (r : ℕ) × (compareOf s i j ≡ given (different t r)))
-  pub formed : Limits s → (i : ℕ) (buffer : List ℕ) → i < fieldCount s → kindCount s ≤ length buffer
-      → formOf s i buffer ≡ record { answer = given tt; lent = written (primeForm s i) buffer }
+  pub form-past : (m : Sense) (i : ℕ) (buffer : List ℕ) (e : ℕ) → kindCount s ≤ e → at (formingIn m s i buffer .lent) e ≡ at buffer e
+  pub called : Limits s → (m : Sense) (i j : ℕ) → i < fieldCount s → j < fieldCount s
+      → (compareIn m s i j ≡ given same) ⊎ ((t : ℕ) × (r : ℕ) × (compareIn m s i j ≡ given (different t r)))
+  pub formed : Limits s → (m : Sense) (i : ℕ) (buffer : List ℕ) → i < fieldCount s → kindCount s ≤ length buffer
+      → formingIn m s i buffer ≡ record { answer = given tt; lent = written (primeFormIn m s i) buffer }
   -- "Every other sheet, field number, round limit or short buffer gets the first number that applies in the table, and nothing lent changes."
   pub settle-refused : (table : List ℕ) (k p : ℕ) → firstOf (settleChecks s (length table)) ≡ refusal k p
       → settleOf s table ≡ record { answer = refused k p; lent = table }
-  pub compare-refused : (i j k p : ℕ) → firstOf (compareChecks s i j) ≡ refusal k p → compareOf s i j ≡ refused k p
-  pub form-refused : (i : ℕ) (buffer : List ℕ) (k p : ℕ) → firstOf (formChecks s i (length buffer)) ≡ refusal k p
-      → formOf s i buffer ≡ record { answer = refused k p; lent = buffer }
+  pub compare-refused : (m : Sense) (i j k p : ℕ) → firstOf (compareChecks s i j) ≡ refusal k p → compareIn m s i j ≡ refused k p
+  pub form-refused : (m : Sense) (i : ℕ) (buffer : List ℕ) (k p : ℕ) → firstOf (formChecks s i (length buffer)) ≡ refusal k p
+      → formingIn m s i buffer ≡ record { answer = refused k p; lent = buffer }
   -- Walk: every sheet, field number, round limit and (request 4 of document 02) desk that is refused gets the first number that applies, and nothing changes. "16 a desk over 7, place 0, before the header is looked at": whatever the bytes, the fields and the limit are.
   pub walk-refused : (i j limit d : ℕ) (v : Session) (k p : ℕ) → firstOf (walkChecks s i j limit d) ≡ refusal k p
       → walkOf s i j limit d v ≡ record { answer = refused k p; drawn = 0; after = v }
@@ -103,39 +111,39 @@ pub record Demand1 (s : List ℕ) : Type 0 where
   pub squads-past : (i j : ℕ) (buffer : List ℕ) (e : ℕ) → kindCount s ≤ e → at (squadsOf s i j buffer .lent) e ≡ at buffer e
 
 -- Demand 2, of fields i and j of an accepted sheet, with bisimulations of every universe.
-pub record Demand2 {ℓ} (s : List ℕ) (i j : ℕ) : Type (ℓ + 1) where
+pub record Demand2 {ℓ} (m : Sense) (s : List ℕ) (i j : ℕ) : Type (ℓ + 1) where
   -- "Same means that some bisimulation of Hirshfeld, Jerrum and Moller relates them, and different that none does."
-  pub same-means : (compareOf s i j ≡ given same) ↔ Bisimilar {ℓ} (On (cardOf s)) (fieldOf s i) (fieldOf s j)
-  pub different-means : ((t : ℕ) × (r : ℕ) × (compareOf s i j ≡ given (different t r))) ↔ (¬ Bisimilar {ℓ} (On (cardOf s)) (fieldOf s i) (fieldOf s j))
+  pub same-means : (compareIn m s i j ≡ given same) ↔ BisimilarIn {ℓ} m (cardOf s) (fieldOf s i) (fieldOf s j)
+  pub different-means : ((t : ℕ) × (r : ℕ) × (compareIn m s i j ≡ given (different t r))) ↔ (¬ BisimilarIn {ℓ} m (cardOf s) (fieldOf s i) (fieldOf s j))
   -- "A prime form holds prime kinds only, is bisimilar to its field, and is equal for two fields just when they are the same."
-  pub form-primes : (k : ℕ) → 0 < at (primeForm s i) k → Prime {ℓ} (cardOf s) k
-  pub form-bisimilar : Bisimilar {ℓ} (On (cardOf s)) (fieldOf s i) (at (primeForm s i))
-  pub form-equal : (primeForm s i ≡ primeForm s j) ↔ (compareOf s i j ≡ given same)
+  pub form-primes : (k : ℕ) → 0 < at (primeFormIn m s i) k → PrimeIn {ℓ} m (cardOf s) k
+  pub form-bisimilar : BisimilarIn {ℓ} m (cardOf s) (fieldOf s i) (at (primeFormIn m s i))
+  pub form-equal : (primeFormIn m s i ≡ primeFormIn m s j) ↔ (compareIn m s i j ≡ given same)
 
 -- Demand 3, one claim about whole games, of fields i and j of an accepted sheet.
-pub record Demand3 (s : List ℕ) (i j : ℕ) : Type 0 where
+pub record Demand3 (m : Sense) (s : List ℕ) (i j : ℕ) : Type 0 where
   -- "The two are called same exactly when, whatever list of challenges is given, however long and on whichever side each falls, every
   -- challenge can be answered, by replies that need not know what is still to come." The pair left after every such list holds at every r.
-  pub same-plays : compareOf s i j ≡ given same
-      → (f : Strategy (cardOf s)) × ((hs : List (Challenge (cardOf s))) → Answered (cardOf s) f (Always (cardOf s)) [] hs (fieldOf s i) (fieldOf s j))
+  pub same-plays : compareIn m s i j ≡ given same
+      → (f : Strategy (cardOf s)) × ((hs : List (Challenge (cardOf s))) → AnsweredIn m (cardOf s) f (AlwaysIn m (cardOf s)) [] hs (fieldOf s i) (fieldOf s j))
   pub plays-same : (f : Strategy (cardOf s))
-      → ((hs : List (Challenge (cardOf s))) → Answered (cardOf s) f (λ _ _. Unit {0}) [] hs (fieldOf s i) (fieldOf s j)) → compareOf s i j ≡ given same
+      → ((hs : List (Challenge (cardOf s))) → AnsweredIn m (cardOf s) f (λ _ _. Unit {0}) [] hs (fieldOf s i) (fieldOf s j)) → compareIn m s i j ≡ given same
   -- "They are called different exactly when some choice of challenges, each made in view of the replies so far, parts them whatever the replies,
   -- and then within the number of rounds reported, which is N + 1 + (s - 1)(g + 1), or N + 1 if s is 0: N the smaller of the two norms, s the
   -- stage reported, never above the number of [reached] kinds, g the most that one read adds to a norm."
-  pub parted-different : Parting (cardOf s) (fieldOf s i) (fieldOf s j) → (t : ℕ) × (q : ℕ) × (compareOf s i j ≡ given (different t q))
-  pub different-parted : (t r : ℕ) → compareOf s i j ≡ given (different t r) → Parting (cardOf s) (fieldOf s i) (fieldOf s j) × Parted (cardOf s) r (fieldOf s i) (fieldOf s j)
-      × (¬ Holds (cardOf s) r (fieldOf s i) (fieldOf s j)) × (t ≤ reachedCount (cardOf s))
+  pub parted-different : PartingIn m (cardOf s) (fieldOf s i) (fieldOf s j) → (t : ℕ) × (q : ℕ) × (compareIn m s i j ≡ given (different t q))
+  pub different-parted : (t r : ℕ) → compareIn m s i j ≡ given (different t r) → PartingIn m (cardOf s) (fieldOf s i) (fieldOf s j) × PartedIn m (cardOf s) r (fieldOf s i) (fieldOf s j)
+      × (¬ HoldsIn m (cardOf s) r (fieldOf s i) (fieldOf s j)) × (t ≤ reachedCount (cardOf s))
       × ((x : ℕ) × (y : ℕ) × (g : ℕ) × IsNorm (cardOf s) (fieldOf s i) x × IsNorm (cardOf s) (fieldOf s j) y × IsGain (cardOf s) g
       × (t ≡ 0 → r ≡ min x y + 1) × (0 < t → r ≡ min x y + 1 + (t - 1) * (g + 1)))
   -- "The stage is the least that does not relate the pair."
-  pub different-stage : (t r : ℕ) → compareOf s i j ≡ given (different t r)
-      → (¬ Stage (cardOf s) t (fieldOf s i) (fieldOf s j)) × ((q : ℕ) → q < t → Stage (cardOf s) q (fieldOf s i) (fieldOf s j))
+  pub different-stage : (t r : ℕ) → compareIn m s i j ≡ given (different t r)
+      → (¬ StageIn m (cardOf s) t (fieldOf s i) (fieldOf s j)) × ((q : ℕ) → q < t → StageIn m (cardOf s) q (fieldOf s i) (fieldOf s j))
   -- "Each challenge to them has a reply that leaves a pair which again holds at every r, and this stays so after every list of rounds so answered."
-  pub always-again : (a b : Field) → OfKinds (cardOf s) a → OfKinds (cardOf s) b → Always (cardOf s) a b → Expands (On (cardOf s)) (Always (cardOf s)) a b
+  pub always-again : (a b : Field) → OfKinds (cardOf s) a → OfKinds (cardOf s) b → AlwaysIn m (cardOf s) a b → Expands (On (cardOf s)) (AlwaysIn m (cardOf s)) a b
 
--- The whole: of every sheet, and of every two fields of an accepted sheet.
+-- The whole: of every sheet, and of every two fields of an accepted sheet, in each sense.
 pub record Demands {ℓ} : Type (ℓ + 1) where
   pub demand1 : (s : List ℕ) → Demand1 s
-  pub demand2 : (s : List ℕ) → Accepted s → (i j : ℕ) → i < fieldCount s → j < fieldCount s → Demand2 {ℓ} s i j
-  pub demand3 : (s : List ℕ) → Accepted s → (i j : ℕ) → i < fieldCount s → j < fieldCount s → Demand3 s i j
+  pub demand2 : (m : Sense) (s : List ℕ) → Accepted s → (i j : ℕ) → i < fieldCount s → j < fieldCount s → Demand2 {ℓ} m s i j
+  pub demand3 : (m : Sense) (s : List ℕ) → Accepted s → (i j : ℕ) → i < fieldCount s → j < fieldCount s → Demand3 m s i j

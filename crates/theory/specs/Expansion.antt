@@ -1,8 +1,9 @@
--- Expansion and bisimulation (document 000, section 2), as types.
+-- Expansion and bisimulation (document 000, section 2), and alike in each sense, as types.
 use mathlib.Core.Path.{_≡_}
 use Prim.Native.Nat.{ℕ, _<_}
 use Rattle.model.specs.Field.{Field}
-use Rattle.model.specs.Card.{Line, fire}
+use Rattle.model.specs.Card.{Line, Card, On, fire}
+use Rattle.model.specs.Sense.{Sense, plain, finer, total}
 
 -- A reply to a read of code c that left x: a line of L that b may use, of the same code, with the results related.
 pub record Reply {ℓ} (L : Line → Type 0) (R : Field → Field → Type ℓ) (c : ℕ) (x b : Field) : Type ℓ where
@@ -30,6 +31,15 @@ Bisimulation L R = (a b : Field) → R a b → Expands L R a b
 
 unfoldable pub Bisimilar {ℓ} : (Line → Type 0) → Field → Field → Type (ℓ + 1)
 Bisimilar L a b = (R : Field → Field → Type ℓ) × Bisimulation L R × R a b
+
+-- Request 7 of document 02: "bisimilar by a relation whose every pair also has equal token totals".
+unfoldable pub FinerBisimilar {ℓ} : Card → Field → Field → Type (ℓ + 1)
+FinerBisimilar c a b = (R : Field → Field → Type ℓ) × Bisimulation (On c) R × ((x y : Field) → R x y → total c x ≡ total c y) × R a b
+
+-- "alike", in a sense.
+abbrev pub BisimilarIn {ℓ} : Sense → Card → Field → Field → Type (ℓ + 1)
+BisimilarIn plain c a b = Bisimilar {ℓ} (On c) a b
+BisimilarIn finer c a b = FinerBisimilar {ℓ} c a b
 
 -- A bisimulation as document 000 has it: a step is a read of some code, and a bisimulation answers every step of either side.
 pub record Step (L : Line → Type 0) (a : Field) (c : ℕ) (x : Field) : Type 0 where

@@ -27,10 +27,6 @@ module _ (c : Card) where
   Holds zero a b = Unit {0}
   Holds (suc r) a b = Expands (On c) (Holds r) a b
 
-  -- "hold at every r"
-  abbrev pub Always : Field → Field → Type 0
-  Always a b = (r : ℕ) → Holds r a b
-
   -- "A reply is a line of the same code that the other side may use."
   abbrev pub Replies : Line → Line → Field → Type 0
   Replies l m b = On c m × (0 < b (m .kind)) × (m .code ≡ l .code)

@@ -11,22 +11,25 @@ use Rattle.model.specs.Field.{Field, none, unit, weighFrom, at}
 use Rattle.model.specs.Card.{Line, Card, Reached, reached, reachedKinds, reachedCount, reachedLines, On, fire}
 use Rattle.model.specs.Norm.{Clears, IsNorm, cardNorm, kindNorm, norm}
 use Rattle.theory.specs.Expansion.{Bisimulation, StepBisimulation}
-use Rattle.theory.specs.Stages.{Lowers, Stages}
-use Rattle.model.specs.Base.{stageRow, settledStage, settledRow, settledForm, gain}
-use Rattle.theory.specs.Game.{Challenge, sideOf, Holds, Parted, Strategy, Answered}
+use Rattle.theory.specs.Stages.{Lowers, StagesIn}
+use Rattle.model.specs.Sense.{Sense}
+use Rattle.model.specs.Base.{stageRowIn, settledStageIn, settledRow, settledRowIn, settledFormIn, gain}
+use Rattle.theory.specs.Game.{Challenge, sideOf, Holds, Strategy}
+use Rattle.theory.specs.FinerGame.{HoldsIn, PartedIn, AnsweredIn}
 use Rattle.model.specs.Walk.{apart, together}
 use Rattle.model.specs.Sheet.{linesOffset, kindCount, codeCount, lineCount, fieldCount, lineOf, cardOf, fieldOf}
 use Rattle.model.specs.Limits.{mostKinds, mostLines, mostFields, normLimit, mostInput}
 use Rattle.model.specs.Refusal.{Check, check, clear, refusal, firstOf, headerChecks, sheetChecks, acceptChecks, Accepted}
-use Rattle.model.specs.Answer.{verdict, tableOf, rowOf, Session, fullWalk}
+use Rattle.model.specs.Answer.{verdictIn, tableOf, rowOf, Session, fullWalk}
 use Rattle.model.specs.Days.{WalkCall}
 use Rattle.model.specs.Plain.{headerBytes}
 use Rattle.theory.specs.Widths.{Bytes, Widths}
 use Rattle.model.specs.Page.{bytes, number, newline, itself, wordsOf, kindLine, refusedLine, pageOf, printed}
 use Rattle.theory.specs.Shelves.{Shelves, EntriesFit}
 use Rattle.theory.specs.Squads.{Squads}
+use Rattle.theory.specs.Finer.{Totals, Finer}
 use Rattle.theory.specs.Days.{Day}
-use Rattle.theory.specs.Terms.{IsGain, Stage, BaseOf, Prime, Settled, OnReached, OfKinds}
+use Rattle.theory.specs.Terms.{IsGain, StageIn, BaseOf, Prime, PrimeIn, SettledIn, OnReached, OfKinds}
 
 -- "the first that applies is given with its place"
 pub record Firsts (xs : List Check) : Type 0 where
@@ -71,15 +74,15 @@ pub record Used (c : Card) : Type 0 where
 abbrev pub part : Card → Card
 part c = record { kinds = c .kinds; lines = reachedLines c; fields = c .fields }
 
--- Of a sheet that passes 1 to 8: the answers are those of its reached part.
+-- Of a sheet that passes 1 to 8: the answers, in each sense, are those of its reached part.
 pub record Parts (c : Card) : Type 0 where
   pub reached-iff : (k : ℕ) → Reached (part c) k ↔ Reached c k
   pub norms : kindNorm (part c) ≡ kindNorm c
-  pub stage : settledStage (part c) ≡ settledStage c
-  pub stage-rows : (s : ℕ) → stageRow (part c) s ≡ stageRow c s
-  pub rows : settledRow (part c) ≡ settledRow c
-  pub forms : settledForm (part c) ≡ settledForm c
-  pub verdicts : (a b : Field) → verdict (part c) (kindNorm (part c)) a b ≡ verdict c (kindNorm c) a b
+  pub stage : (m : Sense) → settledStageIn m (part c) ≡ settledStageIn m c
+  pub stage-rows : (m : Sense) (s : ℕ) → stageRowIn m (part c) s ≡ stageRowIn m c s
+  pub rows : (m : Sense) → settledRowIn m (part c) ≡ settledRowIn m c
+  pub forms : (m : Sense) → settledFormIn m (part c) ≡ settledFormIn m c
+  pub verdicts : (m : Sense) (a b : Field) → verdictIn m (part c) (kindNorm (part c)) a b ≡ verdictIn m c (kindNorm c) a b
 
 -- Of a sheet that passes 1 to 8. "A kind has a norm if it can be cleared." A kind that is out is given none.
 pub record Norms (c : Card) : Type 0 where
@@ -89,13 +92,13 @@ pub record Norms (c : Card) : Type 0 where
   -- "the norm of its first kind's tokens plus the norm of the rest"
   pub first-rest : (a : Field) → norm c a ≡ weighFrom 0 (c .kinds) (kindNorm c) a
 
--- Of every card.
-pub record Games (c : Card) : Type 1 where
+-- Of every card, in a sense.
+pub record Games (m : Sense) (c : Card) : Type 1 where
   -- "A line that its side has no token for is neither, and in a list of challenges it is passed over."
   pub passed-over : (f : Strategy c) (K : Field → Field → Type 0) (past hs : List (Challenge c)) (h : Challenge c) (a b : Field)
-      → ¬ (0 < sideOf (h .side) a b (h .line .kind)) → Answered c f K past (h ∷ hs) a b ↔ Answered c f K (h ∷ past) hs a b
+      → ¬ (0 < sideOf (h .side) a b (h .line .kind)) → AnsweredIn m c f K past (h ∷ hs) a b ↔ AnsweredIn m c f K (h ∷ past) hs a b
   -- "A pair is parted within r rounds when it does not hold at r."
-  pub parted-iff : (r : ℕ) (a b : Field) → Parted c r a b ↔ (¬ Holds c r a b)
+  pub parted-iff : (r : ℕ) (a b : Field) → PartedIn m c r a b ↔ (¬ HoldsIn m c r a b)
 
 -- Of every sheet: what the walk answers, the allowance aside.
 pub record Walks (s : List ℕ) (i j limit : ℕ) : Type 0 where
@@ -103,26 +106,26 @@ pub record Walks (s : List ℕ) (i j limit : ℕ) : Type 0 where
       ↔ ((r ≤ limit) × (¬ Holds (cardOf s) r (fieldOf s i) (fieldOf s j)) × ((q : ℕ) → q < r → Holds (cardOf s) q (fieldOf s i) (fieldOf s j)))
   pub together-iff : (fullWalk s i j limit .found ≡ together) ↔ Holds (cardOf s) limit (fieldOf s i) (fieldOf s j)
 
-module _ (c : Card) where
-  -- Of the card of an accepted sheet.
+module _ (m : Sense) (c : Card) where
+  -- Of the card of an accepted sheet, in a sense.
   pub record Settles : Type 1 where
     -- The stages are those of the paper, and no others are.
-    pub stages : Stages c (kindNorm c) (Stage c)
-    pub stages-only : (S : ℕ → Field → Field → Type 0) → Stages c (kindNorm c) S → (s : ℕ) (a b : Field) → OfKinds c a → OfKinds c b → S s a b ↔ Stage c s a b
+    pub stages : StagesIn m c (kindNorm c) (StageIn m c)
+    pub stages-only : (S : ℕ → Field → Field → Type 0) → StagesIn m c (kindNorm c) S → (s : ℕ) (a b : Field) → OfKinds c a → OfKinds c b → S s a b ↔ StageIn m c s a b
     -- From stage 1 up the rows are the base, the only one.
-    pub base : (s : ℕ) → BaseOf c (Stage c (suc s)) (stageRow c (suc s))
-    pub only : (s : ℕ) (rows : ℕ → Field) → BaseOf c (Stage c (suc s)) rows → (k : ℕ) → Reached c k → rows k ≡ stageRow c (suc s) k
+    pub base : (s : ℕ) → BaseOf c (StageIn m c (suc s)) (stageRowIn m c (suc s))
+    pub only : (s : ℕ) (rows : ℕ → Field) → BaseOf c (StageIn m c (suc s)) rows → (k : ℕ) → Reached c k → rows k ≡ stageRowIn m c (suc s) k
     -- "Other kinds get a row of zeros."
-    pub out-row : (s k : ℕ) → ¬ Reached c k → stageRow c s k ≡ none
+    pub out-row : (s k : ℕ) → ¬ Reached c k → stageRowIn m c s k ≡ none
     -- "the final base"
-    pub final : BaseOf c (Stage c (settledStage c)) (settledRow c)
+    pub final : BaseOf c (StageIn m c (settledStageIn m c)) (settledRowIn m c)
     -- "The settled stage is the least s from 1 up in which every related pair satisfies expansion; it is at most n." "A sheet that reaches no kind
     -- settles at stage 1."
-    pub from : 1 ≤ settledStage c
-    pub most : settledStage c ≤ max 1 (reachedCount c)
-    pub nothing : ((k : ℕ) → ¬ Reached c k) → settledStage c ≡ 1
-    pub settled : Settled c (settledStage c)
-    pub least : (s : ℕ) → 1 ≤ s → s < settledStage c → ¬ Settled c s
+    pub from : 1 ≤ settledStageIn m c
+    pub most : settledStageIn m c ≤ max 1 (reachedCount c)
+    pub nothing : ((k : ℕ) → ¬ Reached c k) → settledStageIn m c ≡ 1
+    pub settled : SettledIn m c (settledStageIn m c)
+    pub least : (s : ℕ) → 1 ≤ s → s < settledStageIn m c → ¬ SettledIn m c s
     -- "reads that lower the norm": those by a line that leaves less than its kind's norm, whatever field uses it.
     pub lowers-iff : (l : Line) (a : Field) → On c l → 0 < a (l .kind) → (norm c (fire l a) < norm c a) ↔ Lowers c (kindNorm c) l
     -- g, "the most that one read adds to a norm".
@@ -131,7 +134,7 @@ module _ (c : Card) where
 
   -- Of the same card: "A prime kind's row is itself once."
   pub record Primes {ℓ} : Type (ℓ + 1) where
-    pub own-row : (k : ℕ) → Reached c k → (settledRow c k ≡ unit k) ↔ Prime {ℓ} c k
+    pub own-row : (k : ℕ) → Reached c k → (settledRowIn m c k ≡ unit k) ↔ PrimeIn {ℓ} m c k
 
 -- A number of the page stands in decimal: a digit, or the number without its last digit and then that digit.
 pub record Decimal (x : ℕ) : Type 0 where
@@ -165,10 +168,10 @@ pub record Meanings {ℓ} : Type (ℓ + 1) where
   pub parts : (s : List ℕ) → firstOf (sheetChecks s) ≡ clear → Parts (cardOf s)
   pub norms : (s : List ℕ) → firstOf (sheetChecks s) ≡ clear → Norms (cardOf s)
   pub steps : (L : Line → Type 0) (R : Field → Field → Type ℓ) → Bisimulation L R ↔ StepBisimulation L R
-  pub games : (c : Card) → Games c
+  pub games : (m : Sense) (c : Card) → Games m c
   pub walks : (s : List ℕ) (i j limit : ℕ) → Walks s i j limit
-  pub settles : (s : List ℕ) → Accepted s → Settles (cardOf s)
-  pub primes : (s : List ℕ) → Accepted s → Primes {ℓ} (cardOf s)
+  pub settles : (m : Sense) (s : List ℕ) → Accepted s → Settles m (cardOf s)
+  pub primes : (m : Sense) (s : List ℕ) → Accepted s → Primes {ℓ} m (cardOf s)
   pub decimals : (x : ℕ) → Decimal x
   pub pages : (s : List ℕ) → Pages {ℓ} s
   pub widths : (s : List ℕ) → Bytes s → Accepted s → Widths s
@@ -177,3 +180,6 @@ pub record Meanings {ℓ} : Type (ℓ + 1) where
   pub shelves : (s : List ℕ) (t : ℕ) → Shelves (cardOf s) t
   pub entries-fit : EntriesFit
   pub squads : (s : List ℕ) → Accepted s → (i j : ℕ) → Squads {ℓ} s i j
+  -- The finer sense.
+  pub totals : (c : Card) → Totals c
+  pub finer : (s : List ℕ) → Finer s

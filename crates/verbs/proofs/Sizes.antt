@@ -5,9 +5,10 @@ use Prim.Native.Nat.{ℕ, _*_, _≤_}
 use native.Mathlib.Omega.{arith}
 use lib.ListN.{length, drop, length-take}
 use Rattle.model.specs.Limits.{mostKinds}
+use Rattle.model.specs.Sense.{Sense}
 use Rattle.model.specs.Sheet.{kindCount}
 use Rattle.model.specs.Refusal.{Finding, clear, refusal, settleChecks, formChecks}
-use Rattle.model.specs.Answer.{given, settleOf, formOf, rowOf, rowCheckOf}
+use Rattle.model.specs.Answer.{given, settleOf, formingIn, rowOf, rowCheckOf}
 use Rattle.theory.proofs.Answers.{demand1}
 use Rattle.replies.proofs.Texts.{answered-few}
 
@@ -25,6 +26,6 @@ pub settled-few : (s table : List ℕ) (stage : ℕ) → given stage ≡ settleO
 unfolding settleChecks
 settled-few s table stage e = answered-few s _ (λ k p d. ap (λ x. x .answer) (demand1 s .settle-refused table k p d)) e
 
-pub formed-few : (s : List ℕ) (i : ℕ) (buffer : List ℕ) → given tt ≡ formOf s i buffer .answer → kindCount s ≤ mostKinds
+pub formed-few : (m : Sense) (s : List ℕ) (i : ℕ) (buffer : List ℕ) → given tt ≡ formingIn m s i buffer .answer → kindCount s ≤ mostKinds
 unfolding formChecks
-formed-few s i buffer e = answered-few s _ (λ k p d. ap (λ x. x .answer) (demand1 s .form-refused i buffer k p d)) e
+formed-few m s i buffer e = answered-few s _ (λ k p d. ap (λ x. x .answer) (demand1 s .form-refused m i buffer k p d)) e

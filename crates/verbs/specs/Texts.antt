@@ -4,9 +4,10 @@ use Prim.Native.Nat.{ℕ, _+_}
 use lib.ListN.{replicate}
 use Rattle.model.specs.Finite.{concat, listFrom}
 use Rattle.model.specs.Limits.{mostKinds}
+use Rattle.model.specs.Sense.{Sense}
 use Rattle.model.specs.Sheet.{kindCount}
 use Rattle.model.specs.Refusal.{Finding, clear, refusal}
-use Rattle.model.specs.Answer.{Answer, refused, given, Verdict, settleOf, rowOf, rowCheckOf, compareOf, formOf}
+use Rattle.model.specs.Answer.{Answer, refused, given, Verdict, settleOf, rowOf, rowCheckOf, compareIn, formingIn}
 use Rattle.model.specs.Page.{bytes, number, newline, wordOf}
 use Rattle.text.specs.Count.{countsLine}
 use Rattle.text.specs.Lengths.{letters, mostDigits, mostCounts}
@@ -50,13 +51,13 @@ rowAfter s k (refused number place) = refused number place
 unfoldable pub rowText : List ℕ → ℕ → Answer (List ℕ)
 rowText s k = rowAfter s k (settleOf s tableRoom .answer)
 
--- compare I J: `same` or `different S R`.
+-- compare I J and finer I J, by their sense: `same` or `different S R`.
 unfoldable pub verdictText : Answer Verdict → Answer (List ℕ)
 verdictText answer = worded (λ verdict. wordOf (given verdict)) answer
 
-unfoldable pub compareText : List ℕ → ℕ → ℕ → Answer (List ℕ)
-compareText s i j = verdictText (compareOf s i j)
+unfoldable pub compareTextIn : Sense → List ℕ → ℕ → ℕ → Answer (List ℕ)
+compareTextIn m s i j = verdictText (compareIn m s i j)
 
--- form I: the counts of the prime form.
-unfoldable pub formText : List ℕ → ℕ → Answer (List ℕ)
-formText s i = countsText (kindCount s) (formOf s i formRoom)
+-- form I and finer-form I, by their sense: the counts of the prime form.
+unfoldable pub formTextIn : Sense → List ℕ → ℕ → Answer (List ℕ)
+formTextIn m s i = countsText (kindCount s) (formingIn m s i formRoom)

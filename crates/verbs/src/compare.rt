@@ -1,19 +1,24 @@
-// compare I J.
+// compare I J and finer I J.
 use filer::Verdict;
 use filer::compare::compare;
+use filer::compare::finer_compare;
 use replies::reply::Outcome;
 use replies::reply::Reply;
 use replies::reply::no_call;
 use replies::reply::refuse;
+use tables::sense::Sense;
 use verdicts::put_different;
 use verdicts::put_same;
+ghost use mathlib.Core.Path.{_≡_};
 ghost use Prim.Native.Nat.{_≤_};
 ghost use lib.ListN.{length};
+ghost use Rattle.model.specs.Answer.{compareIn};
+ghost use Rattle.tables.specs.Senses.{senseOf};
 ghost use Rattle.filer.specs.Answers.{verdictOf};
 ghost use Rattle.replies.specs.Told.{told, Tells};
 ghost use Rattle.verbs.specs.Texts.{verdictText};
 ghost use Rattle.replies.specs.Texts.{mostText};
-ghost use Rattle.verbs.specs.Calls.{compareTold};
+ghost use Rattle.verbs.specs.Calls.{compareToldIn, compareTold, finerTold};
 
 // `same` or `different S R`.
 fn put_verdict(out: &mut [u8], verdict: Verdict) -> Reply
@@ -39,14 +44,40 @@ fn put_verdict(out: &mut [u8], verdict: Verdict) -> Reply
     }
 }
 
-// The verdict on two fields.
-pub fn compare_fields(sheet: &[u8], numbers: &[u64], out: &mut [u8]) -> Reply
+// Compare or finer Compare, by the sense.
+fn verdict_of(sense: Sense, sheet: &[u8], first: usize, second: usize) -> Verdict
+    ensures { λ r. ⌜ verdictOf r ≡ compareIn (senseOf sense) (now (sheet .entry)) first second ⌝ }
+{
+    match sense {
+        Sense::Plain => compare(sheet, first, second),
+        Sense::Finer => finer_compare(sheet, first, second),
+    }
+}
+
+// The verdict of a sense on two fields.
+fn tell_verdict(sense: Sense, sheet: &[u8], numbers: &[u64], out: &mut [u8]) -> Reply
     requires { ⌜ mostText ≤ length (now out) ⌝ }
-    ensures { λ r. ⌜ Tells (compareTold (now (sheet .entry)) (now (numbers .entry))) (now (out .entry)) (now (out .exit)) r ⌝ }
+    ensures { λ r. ⌜ Tells (compareToldIn (senseOf sense) (now (sheet .entry)) (now (numbers .entry))) (now (out .entry)) (now (out .exit)) r ⌝ }
 {
     if numbers.len() != 2 {
         return no_call();
     }
-    let verdict = compare(sheet, numbers[0] as usize, numbers[1] as usize);
+    let verdict = verdict_of(sense, sheet, numbers[0] as usize, numbers[1] as usize);
     put_verdict(out, verdict)
+}
+
+// compare I J.
+pub fn compare_fields(sheet: &[u8], numbers: &[u64], out: &mut [u8]) -> Reply
+    requires { ⌜ mostText ≤ length (now out) ⌝ }
+    ensures { λ r. ⌜ Tells (compareTold (now (sheet .entry)) (now (numbers .entry))) (now (out .entry)) (now (out .exit)) r ⌝ }
+{
+    tell_verdict(Sense::Plain, sheet, numbers, out)
+}
+
+// finer I J.
+pub fn finer_compare_fields(sheet: &[u8], numbers: &[u64], out: &mut [u8]) -> Reply
+    requires { ⌜ mostText ≤ length (now out) ⌝ }
+    ensures { λ r. ⌜ Tells (finerTold (now (sheet .entry)) (now (numbers .entry))) (now (out .entry)) (now (out .exit)) r ⌝ }
+{
+    tell_verdict(Sense::Finer, sheet, numbers, out)
 }

@@ -5,12 +5,12 @@ use mathlib.Core.Path.{_≡_, refl, sym, ap, _∙_}
 use Prim.Native.Nat.{ℕ}
 use native.Mathlib.Omega.{arith}
 use lib.Dec.{eqb}
-use Rattle.model.specs.Finite.{keep}
+use Rattle.model.specs.Finite.{keep, sum}
 use Rattle.model.specs.Field.{at}
 use Rattle.model.specs.Walk.{WalkAnswer}
 use Rattle.model.specs.Answer as model
 use Rattle.model.specs.Days as calls
-use Rattle.model.specs.Days.{WalkCall, Made, madeBy, day, sum}
+use Rattle.model.specs.Days.{WalkCall, Made, madeBy, day}
 use Rattle.theory.specs.Days as claims
 use Rattle.theory.proofs.Days.{days}
 use Rattle.walker.specs.Answers.{answerOf, sessionOf, walkedOf}

@@ -4,12 +4,13 @@ use mathlib.Core.Logic.{_↔_}
 use mathlib.Core.Path.{_≡_}
 use Prim.Native.Nat.{ℕ, _+_, _≤_, _<_, min}
 use Rattle.theory.specs.Game.{Holds}
+use Rattle.model.specs.Finite.{sum}
 use Rattle.model.specs.Field.{at}
 use Rattle.model.specs.Sheet.{fieldCount, cardOf, fieldOf}
 use Rattle.model.specs.Limits.{mostRounds, lastDesk}
 use Rattle.model.specs.Refusal.{clear, refusal, firstOf, sheetChecks, walkChecks}
 use Rattle.model.specs.Answer.{fullWalk, walkOf}
-use Rattle.model.specs.Days.{WalkCall, walkBy, Made, callsBy, madeBy, sum}
+use Rattle.model.specs.Days.{WalkCall, walkBy, Made, callsBy, madeBy}
 use Rattle.walker.specs.Answers.{sessionOf, walkedOf}
 use Rattle.walker.specs.declared.entry.Answer.{Answer}
 use Rattle.walker.specs.declared.entry.Answer.the-variants.{Apart, Together, Spent, Refused}

@@ -7,6 +7,7 @@
 //! exactly when the two sides may use lines of the same codes and effects.
 
 use crate::norm::NormedCard;
+use crate::sense::Sense;
 use crate::sheet::{MOST_KINDS, MOST_LINES};
 
 /// A count of each kind, which may be below zero where it is an effect.
@@ -129,9 +130,10 @@ struct Reduction {
     effect: Counts,
 }
 
-/// The base of a card at a stage, from stage 1 up.
+/// The base of a card at a stage, from stage 1 up, in a sense.
 pub struct Refinement<'a, 'b> {
     normed: &'a NormedCard<'b>,
+    sense: Sense,
     base: Base,
     classes: Classes,
     stage: u32,
@@ -139,16 +141,16 @@ pub struct Refinement<'a, 'b> {
 
 impl<'a, 'b> Refinement<'a, 'b> {
     /// Stage 1: "a pair in stage 0 that satisfies norm-reducing expansion in stage 1".
-    pub fn first(normed: &'a NormedCard<'b>) -> Refinement<'a, 'b> {
-        let base = Extension::new(normed, None).finish();
+    pub fn first(normed: &'a NormedCard<'b>, sense: Sense) -> Refinement<'a, 'b> {
+        let base = Extension::new(normed, sense, None).finish();
         let classes = Classes::new(normed, &base);
-        Refinement { normed, base, classes, stage: 1 }
+        Refinement { normed, sense, base, classes, stage: 1 }
     }
 
     /// The next stage: "a pair in stage s that satisfies expansion in stage s and norm-reducing
     /// expansion in stage s + 1".
     pub fn refine(&mut self) {
-        self.base = Extension::new(self.normed, Some((&self.base, &self.classes))).finish();
+        self.base = Extension::new(self.normed, self.sense, Some((&self.base, &self.classes))).finish();
         self.classes = Classes::new(self.normed, &self.base);
         self.stage += 1;
     }
@@ -183,6 +185,7 @@ impl<'a, 'b> Refinement<'a, 'b> {
 /// A base under way, kind by kind in their order (the proof of document 000's Lemma 5).
 struct Extension<'a, 'b> {
     normed: &'a NormedCard<'b>,
+    sense: Sense,
     /// The base and the classes of the stage before, from stage 2 on.
     before: Option<(&'a Base, &'a Classes)>,
     base: Base,
@@ -192,7 +195,7 @@ struct Extension<'a, 'b> {
 }
 
 impl<'a, 'b> Extension<'a, 'b> {
-    fn new(normed: &'a NormedCard<'b>, before: Option<(&'a Base, &'a Classes)>) -> Extension<'a, 'b> {
+    fn new(normed: &'a NormedCard<'b>, sense: Sense, before: Option<(&'a Base, &'a Classes)>) -> Extension<'a, 'b> {
         let mut reducing_lines = vec![Vec::new(); normed.card.kinds];
         for (line, leaves) in normed.card.lines.iter().enumerate() {
             if normed.lowers(line) {
@@ -200,7 +203,7 @@ impl<'a, 'b> Extension<'a, 'b> {
             }
         }
         let base = Base { rows: vec![[0; MOST_KINDS]; normed.card.kinds] };
-        Extension { normed, before, base, reductions: Vec::new(), reducing_lines }
+        Extension { normed, sense, before, base, reductions: Vec::new(), reducing_lines }
     }
 
     /// Gives each kind that is reached its row.
@@ -244,7 +247,9 @@ impl<'a, 'b> Extension<'a, 'b> {
     /// The product of atoms that the stage relates to a kind, if there is one; there is at most one.
     ///
     /// "There are only as many possibilities .. as there are productions": some reduction of the
-    /// product must reply to a reduction of the kind, and kind and effect of the reply give the product.
+    /// product must reply to a reduction of the kind, and kind and effect of the reply give the product. In the finer
+    /// sense it has the total of the kind, one token, and so has every row: what is left has equal totals then where it
+    /// has equal decompositions.
     fn decomposition(&self, kind: usize, lefts: &[(usize, Counts)]) -> Option<Counts> {
         // An atom stays an atom: a later stage relates no more than an earlier one.
         if self.before.is_some_and(|(base, _)| base.is_atom(kind)) {
@@ -257,6 +262,7 @@ impl<'a, 'b> Extension<'a, 'b> {
             .filter(|reply| self.related_before(*challenge, reply.line))
             .map(|reply| difference(left, &reply.effect))
             .filter(|product| product.iter().all(|&count| count >= 0))
+            .filter(|product| self.sense.allows(product.iter().sum(), 1))
             .find(|product| self.expands_before(kind, product) && self.expands_by_reductions(product, lefts))
     }
 

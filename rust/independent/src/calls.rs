@@ -14,6 +14,7 @@ use crate::generator::sample;
 use crate::page::{page, write_page};
 use crate::random::Random;
 use crate::reached::reached_kinds;
+use crate::sense::Sense;
 use crate::sheet::{MOST_KINDS, Numbers, Refusal, numbers, read};
 use crate::shelf::{Entries, MOST_TOKENS, ShelfNumber, shelf_field, shelf_number};
 use crate::squads::squads;
@@ -28,8 +29,8 @@ pub enum Call {
     Settle { entries: usize },
     RowCheck { kinds: usize, kind: usize, entries: usize },
     Row { kinds: usize, kind: usize, entries: usize },
-    Compare { first: usize, second: usize },
-    PrimeForm { field: usize, entries: usize },
+    Compare { sense: Sense, first: usize, second: usize },
+    PrimeForm { sense: Sense, field: usize, entries: usize },
     Day(Day),
     Page { bytes: usize },
     Numbers,
@@ -94,9 +95,9 @@ pub enum Answer {
         start: usize,
         entries: usize,
     },
-    /// Compare.
+    /// Compare, in either sense.
     Verdict(Verdict),
-    /// Prime form.
+    /// Prime form, in either sense.
     FormWritten,
     /// A day, with its walks in their order.
     Day(Vec<Made>),
@@ -150,7 +151,7 @@ pub struct Lent {
     pub sheets: Vec<Margined<u8>>,
     /// The table of Settle and Row.
     pub table: Margined<u32>,
-    /// The buffer of Prime form, and that of the remainder of Squads.
+    /// The buffer of Prime form in either sense, and that of the remainder of Squads.
     pub counts: Margined<u64>,
     /// The buffer of the page.
     pub page: Margined<u8>,
@@ -202,8 +203,10 @@ pub fn independent(call: &Call, lent: &mut Lent) -> Answer {
         Call::Settle { .. } => settle(sheet, lent.table.lent_mut()).map(|stage| Answer::Settled { stage }),
         Call::RowCheck { kinds, kind, .. } => row_check(lent.table.lent(), kinds, kind).map(|()| Answer::RowThere),
         Call::Row { kinds, kind, .. } => Ok(row_place(lent.table.lent(), row(lent.table.lent(), kinds, kind))),
-        Call::Compare { first, second } => compare(sheet, first, second).map(Answer::Verdict),
-        Call::PrimeForm { field, .. } => prime_form(sheet, field, lent.counts.lent_mut()).map(|()| Answer::FormWritten),
+        Call::Compare { sense, first, second } => compare(sense, sheet, first, second).map(Answer::Verdict),
+        Call::PrimeForm { sense, field, .. } => {
+            prime_form(sense, sheet, field, lent.counts.lent_mut()).map(|()| Answer::FormWritten)
+        }
         Call::Day(ref day) => Ok(day.make(lent, independent_walk)),
         Call::Page { .. } => write_page(sheet, lent.page.lent_mut()).map(|bytes| Answer::PageWritten { bytes }),
         Call::Numbers => numbers(sheet).map(Answer::Numbers),
@@ -216,6 +219,28 @@ pub fn independent(call: &Call, lent: &mut Lent) -> Answer {
         }
     };
     answer.unwrap_or_else(Answer::Refused)
+}
+
+/// Makes a call on a sheet, with buffers of its own: the answer, and all that was lent.
+pub fn make(implementation: Implementation, call: &Call, sheet: &[u8]) -> (Answer, Lent) {
+    let mut lent = Lent::new(call, &[sheet.to_vec()]);
+    (implementation(call, &mut lent), lent)
+}
+
+/// The verdict on two fields of a sheet, in a sense.
+pub fn verdict_of(implementation: Implementation, sense: Sense, sheet: &[u8], first: usize, second: usize) -> Verdict {
+    match make(implementation, &Call::Compare { sense, first, second }, sheet).0 {
+        Answer::Verdict(verdict) => verdict,
+        other => panic!("{other:?} is no verdict"),
+    }
+}
+
+/// The prime form of a field of a sheet of so many kinds, in a sense.
+pub fn form_of(implementation: Implementation, sense: Sense, sheet: &[u8], field: usize, kinds: usize) -> Vec<u64> {
+    match make(implementation, &Call::PrimeForm { sense, field, entries: kinds }, sheet) {
+        (Answer::FormWritten, lent) => lent.counts.lent().to_vec(),
+        (other, _) => panic!("{other:?} is no prime form"),
+    }
 }
 
 /// Makes a walk of a day on the independent implementation.
@@ -257,9 +282,9 @@ pub fn calls(sheets: &[Vec<u8>], random: &mut Random) -> Vec<Call> {
     }
     for _ in 0..2 {
         let (first, second) = pair_near(fields, random);
-        calls.push(Call::Compare { first, second });
+        calls.push(Call::Compare { sense: Sense::Plain, first, second });
     }
-    calls.push(Call::PrimeForm { field: number_near(fields, random), entries: around(kinds, random) });
+    calls.push(prime_form_near(Sense::Plain, kinds, fields, random));
     calls.push(Call::Day(day(sheets, random)));
     calls.push(Call::Page { bytes: around(page(sheet).len(), random) });
     calls.push(Call::Numbers);
@@ -274,7 +299,17 @@ pub fn calls(sheets: &[Vec<u8>], random: &mut Random) -> Vec<Call> {
         let (whole, squad) = squads_near(fields, random);
         calls.push(Call::Squads { whole, squad, entries: around(kinds, random) });
     }
+    for _ in 0..2 {
+        let (first, second) = pair_near(fields, random);
+        calls.push(Call::Compare { sense: Sense::Finer, first, second });
+    }
+    calls.push(prime_form_near(Sense::Finer, kinds, fields, random));
     calls
+}
+
+/// A call of Prime form on a sheet of so many kinds and fields.
+fn prime_form_near(sense: Sense, kinds: usize, fields: usize, random: &mut Random) -> Call {
+    Call::PrimeForm { sense, field: number_near(fields, random), entries: around(kinds, random) }
 }
 
 /// A day on some sheets: walks by up to four of the desks and, at times, by one that there is not. Often a
@@ -431,8 +466,10 @@ fn names(call: &Call, answer: &Answer) -> Vec<String> {
         Call::Settle { .. } => "settle",
         Call::RowCheck { .. } => "row check",
         Call::Row { .. } => "row",
-        Call::Compare { .. } => "compare",
-        Call::PrimeForm { .. } => "prime form",
+        Call::Compare { sense: Sense::Plain, .. } => "compare",
+        Call::Compare { sense: Sense::Finer, .. } => "finer compare",
+        Call::PrimeForm { sense: Sense::Plain, .. } => "prime form",
+        Call::PrimeForm { sense: Sense::Finer, .. } => "finer prime form",
         Call::Day(_) => "walk",
         Call::Page { .. } => "page",
         Call::Numbers => "numbers",

@@ -1,11 +1,13 @@
-//! The reached kinds, norms, stages, rows, primes, the settled stage, squads, the round game, the walk and the list of
-//! the fields of a size straight from their definitions, by search. Only for small cards: nothing here is meant to be
-//! fast, and nothing here uses `reached`, `base`, `filer`, `walker`, `shelf` or `squads`.
+//! The reached kinds, norms, stages, rows, primes, the settled stage, squads, the round game, bisimilar fields, the walk
+//! and the list of the fields of a size straight from their definitions, by search, in the plain and the finer sense where
+//! there are two. Only for small cards: nothing here is meant to be fast, and nothing here uses `reached`, `base`, `filer`,
+//! `walker`, `shelf` or `squads`.
 
 use std::cmp::Ordering;
-use std::collections::HashMap;
+use std::collections::{BTreeSet, HashMap};
 
 use crate::filer::Verdict;
+use crate::sense::Sense;
 use crate::sheet::Card;
 use crate::walker::{Answer, Walked};
 
@@ -24,9 +26,10 @@ enum Reads {
     NormReducing,
 }
 
-/// A card with what has been found about it so far.
+/// A card with what has been found about it so far, in a sense.
 pub struct Definitions<'a> {
     card: &'a Card<'a>,
+    sense: Sense,
     /// The kinds that are reached, in number order.
     reached: Vec<usize>,
     norms: Vec<u64>,
@@ -84,7 +87,7 @@ pub fn is_reached(card: &Card, kind: usize) -> bool {
 
 impl<'a> Definitions<'a> {
     /// A card whose reached kinds all have norms of at most `most`; none for another.
-    pub fn new(card: &'a Card<'a>, most: u64, work: u64) -> Option<Definitions<'a>> {
+    pub fn new(card: &'a Card<'a>, sense: Sense, most: u64, work: u64) -> Option<Definitions<'a>> {
         let reached: Vec<usize> = (0..card.kinds).filter(|&kind| is_reached(card, kind)).collect();
         let mut norms = vec![0; card.kinds];
         for &kind in &reached {
@@ -93,7 +96,7 @@ impl<'a> Definitions<'a> {
         let mut order = reached.clone();
         order.sort_by_key(|&kind| (norms[kind], kind));
         let (stages, rounds) = (HashMap::new(), HashMap::new());
-        Some(Definitions { card, reached, norms, order, stages, rounds, work_left: work })
+        Some(Definitions { card, sense, reached, norms, order, stages, rounds, work_left: work })
     }
 
     /// The kinds that are reached, in number order.
@@ -130,7 +133,7 @@ impl<'a> Definitions<'a> {
     /// Whether a stage relates two fields.
     pub fn stage(&mut self, stage: u32, first: &Field, second: &Field) -> Result<bool, TooLarge> {
         if stage == 0 {
-            return Ok(self.norm(first) == self.norm(second));
+            return Ok(self.norm(first) == self.norm(second) && may_be_related(self.sense, first, second));
         }
         let key = (stage, first.clone(), second.clone());
         if let Some(&known) = self.stages.get(&key) {
@@ -285,8 +288,12 @@ impl<'a> Definitions<'a> {
     }
 
     /// "A pair holds at 0 rounds. It holds at r + 1 rounds just when every challenge has a reply that
-    /// leaves a pair which holds at r."
+    /// leaves a pair which holds at r." In the finer sense "a challenger also wins as soon as the totals differ, at the
+    /// start included".
     pub fn holds(&mut self, rounds: u64, first: &Field, second: &Field) -> Result<bool, TooLarge> {
+        if !may_be_related(self.sense, first, second) {
+            return Ok(false);
+        }
         if rounds == 0 {
             return Ok(true);
         }
@@ -314,6 +321,60 @@ impl<'a> Definitions<'a> {
             }
         }
         Ok(true)
+    }
+}
+
+/// Whether the totals of two fields are such that a sense may relate them: any, or "equal token totals".
+fn may_be_related(sense: Sense, first: &Field, second: &Field) -> bool {
+    match sense {
+        Sense::Plain => true,
+        Sense::Finer => first.iter().sum::<u64>() == second.iter().sum::<u64>(),
+    }
+}
+
+/// The fields that reads lead to from some, these first, where there are at most `most`.
+fn led_to(card: &Card, fields: &[Field], most: usize) -> Result<Vec<Field>, TooLarge> {
+    let mut found = fields.to_vec();
+    let mut place = 0;
+    while place < found.len() {
+        if found.len() > most {
+            return Err(TooLarge);
+        }
+        for line in 0..card.lines.len() {
+            found.extend(use_line(card, &found[place], line).filter(|left| !found.contains(left)));
+        }
+        place += 1;
+    }
+    Ok(found)
+}
+
+/// For each of some fields the number of its class: equal for two of them just when they are bisimilar, in the finer sense
+/// "by a relation whose every pair also has equal token totals". Of all fields that reads lead to, at most `most`, those
+/// that a sense may relate start in one class, and a class is divided as long as two fields of it can not do the same
+/// reads to the same classes.
+pub fn classes(card: &Card, sense: Sense, fields: &[Field], most: usize) -> Result<Vec<usize>, TooLarge> {
+    let all = led_to(card, fields, most)?;
+    let place = |wanted: &Field| all.iter().position(|field| field == wanted).expect("a field that reads lead to");
+    let reads: Vec<Vec<(usize, usize)>> = all
+        .iter()
+        .map(|field| {
+            let used = (0..card.lines.len()).filter_map(|line| Some((line, use_line(card, field, line)?)));
+            used.map(|(line, left)| (card.lines[line].code, place(&left))).collect()
+        })
+        .collect();
+    let first_related = |field| all.iter().position(|other| may_be_related(sense, other, field)).expect("itself");
+    let mut classes: Vec<usize> = all.iter().map(first_related).collect();
+    loop {
+        let seen: Vec<(usize, BTreeSet<(usize, usize)>)> = (0..all.len())
+            .map(|field| (classes[field], reads[field].iter().map(|&(code, left)| (code, classes[left])).collect()))
+            .collect();
+        let divided: Vec<usize> =
+            seen.iter().map(|own| seen.iter().position(|other| other == own).expect("itself")).collect();
+        if divided == classes {
+            classes.truncate(fields.len());
+            return Ok(classes);
+        }
+        classes = divided;
     }
 }
 

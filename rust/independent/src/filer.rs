@@ -1,8 +1,10 @@
-//! "What the filer offers": Settle, Row, Compare, Prime form.
+//! "What the filer offers": Settle, Row, Compare, Prime form, and the last two in the finer sense as well.
 
 use crate::base::{Base, Refinement};
 use crate::norm::{NormedCard, accept};
+use crate::sense::Sense;
 use crate::sheet::{MOST_KINDS, Refusal, refused};
+use crate::shelf::tokens_of;
 
 /// "A verdict is same, or different with its stage and its rounds."
 #[derive(Clone, Copy, Debug, PartialEq, Eq)]
@@ -19,7 +21,7 @@ pub fn settle(sheet: &[u8], table: &mut [u32]) -> Result<u32, Refusal> {
     if table.len() < kinds * kinds {
         return refused(12, 0);
     }
-    let settled = Refinement::first(&normed).settle();
+    let settled = Refinement::first(&normed, Sense::Plain).settle();
     for kind in 0..kinds {
         for (entry, &count) in table[kind * kinds..].iter_mut().zip(settled.base().row(kind)) {
             *entry = count as u32;
@@ -50,15 +52,15 @@ pub fn row(table: &[u32], kinds: usize, kind: usize) -> &[u32] {
     }
 }
 
-/// Compare: the verdict on two fields.
-pub fn compare(sheet: &[u8], first: usize, second: usize) -> Result<Verdict, Refusal> {
+/// Compare: the verdict on two fields, in a sense.
+pub fn compare(sense: Sense, sheet: &[u8], first: usize, second: usize) -> Result<Verdict, Refusal> {
     let normed = accept(sheet)?;
     normed.card.check_fields(&[first, second])?;
     let pair = [normed.card.field(first), normed.card.field(second)];
-    if normed.norm(&pair[0]) != normed.norm(&pair[1]) {
+    if !related_at_start(&normed, sense, &pair) {
         return Ok(different(&normed, &pair, 0));
     }
-    let mut refinement = Refinement::first(&normed);
+    let mut refinement = Refinement::first(&normed, sense);
     loop {
         if !related(refinement.base(), &pair) {
             return Ok(different(&normed, &pair, refinement.stage()));
@@ -68,6 +70,11 @@ pub fn compare(sheet: &[u8], first: usize, second: usize) -> Result<Verdict, Ref
         }
         refinement.refine();
     }
+}
+
+/// Whether stage 0 relates two fields.
+pub fn related_at_start(normed: &NormedCard, sense: Sense, pair: &[Vec<u64>; 2]) -> bool {
+    normed.norm(&pair[0]) == normed.norm(&pair[1]) && sense.allows(tokens_of(&pair[0]), tokens_of(&pair[1]))
 }
 
 /// Whether the stage of a base relates two fields.
@@ -83,14 +90,14 @@ pub fn different(normed: &NormedCard, pair: &[Vec<u64>; 2], stage: u32) -> Verdi
     Verdict::Different { stage, rounds: norm + 1 + later_stages * (normed.gain() + 1) }
 }
 
-/// Prime form: "n counts of 64 bits to a lent buffer".
-pub fn prime_form(sheet: &[u8], field: usize, counts: &mut [u64]) -> Result<(), Refusal> {
+/// Prime form: "n counts of 64 bits to a lent buffer", in a sense.
+pub fn prime_form(sense: Sense, sheet: &[u8], field: usize, counts: &mut [u64]) -> Result<(), Refusal> {
     let normed = accept(sheet)?;
     normed.card.check_fields(&[field])?;
     if counts.len() < normed.card.kinds {
         return refused(12, 0);
     }
-    let settled = Refinement::first(&normed).settle();
+    let settled = Refinement::first(&normed, sense).settle();
     let form = settled.base().form(normed.card.field(field).into_iter());
     for (written, count) in counts.iter_mut().zip(&form[..normed.card.kinds]) {
         *written = *count as u64;

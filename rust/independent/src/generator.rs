@@ -87,6 +87,8 @@ pub enum Family {
     DenseCounts,
     /// A chain, and kinds whose rows hold every kind of it.
     DenseRows,
+    /// Fields of equal norm are the same, and some of them differ in how many tokens they hold or come to hold.
+    Totals,
 }
 
 /// The families that make settling costly.
@@ -94,7 +96,7 @@ pub const COSTLY: [Family; 6] =
     [Family::Chain, Family::OneCode, Family::EqualLines, Family::NearPassing, Family::DenseCounts, Family::DenseRows];
 
 /// All families.
-pub const FAMILIES: [Family; 11] = [
+pub const FAMILIES: [Family; 12] = [
     Family::Normed,
     Family::Free,
     Family::Products,
@@ -106,6 +108,7 @@ pub const FAMILIES: [Family; 11] = [
     Family::NearPassing,
     Family::DenseCounts,
     Family::DenseRows,
+    Family::Totals,
 ];
 
 /// What was done to a sheet's bytes.
@@ -143,7 +146,8 @@ pub struct Sample {
 }
 
 /// Sheet number `number` of a seed. Most are small; one in 25 is at the limits; two in five are damaged.
-/// One in four has some fields of few tokens in the place of others, and one in two some multiples of others.
+/// One in four has some fields of few tokens in the place of others, one in two some multiples of others, and one in four,
+/// or all of the family that is about totals, some fields of as many tokens as others.
 /// One in three is made to use a part of its card, and one in two to use all of it.
 pub fn sample(seed: u64, number: u64) -> Sample {
     let state = seed ^ number.wrapping_mul(0xd134_2543_de82_ef95);
@@ -164,6 +168,10 @@ pub fn sample(seed: u64, number: u64) -> Sample {
     let mut of_multiples = Random::new(state.rotate_left(32));
     if of_multiples.once_in(2) {
         put_multiples(&mut draft, &mut of_multiples);
+    }
+    let mut of_totals = Random::new(state.rotate_left(48));
+    if family == Family::Totals || of_totals.once_in(4) {
+        put_equal_totals(&mut draft, &mut of_totals);
     }
     use_some(&mut draft, &mut Random::new(state.rotate_left(16)));
     let mut bytes = draft.bytes();
@@ -244,6 +252,7 @@ fn card(family: Family, kinds: usize, lines: usize, size: Size, random: &mut Ran
         Family::NearPassing => near_passing(kinds, lines, random),
         Family::DenseCounts => dense_counts(kinds, lines, random),
         Family::DenseRows => dense_rows(kinds, lines, random),
+        Family::Totals => totals(kinds, lines, random),
     };
     draft.lines.truncate(MOST_LINES);
     draft
@@ -612,6 +621,53 @@ fn dense_rows(kinds: usize, lines: usize, random: &mut Random) -> Draft {
     draft
 }
 
+/// Some tokens that have a norm together, each of any kind that there is room for. The first kind has norm 1.
+fn tokens_of_norm(norms: &[usize], norm: usize, random: &mut Random) -> Vec<u8> {
+    let mut counts = vec![0; norms.len()];
+    let mut left = norm;
+    while left > 0 {
+        let room: Vec<usize> = (0..norms.len()).filter(|&kind| norms[kind] <= left).collect();
+        let kind = random.choose(&room);
+        counts[kind] += 1;
+        left -= norms[kind];
+    }
+    counts
+}
+
+/// Every line of a code changes the norm by as much, that of code 0 by one down, and every kind has a line of each code, so
+/// that fields of equal norm are the same. What a line leaves are any tokens of the norm; some kinds have the lines of
+/// another, and one in four of the drafts has one line altered.
+fn totals(kinds: usize, lines: usize, random: &mut Random) -> Draft {
+    let codes = random.between(1, (lines / kinds).clamp(1, 4));
+    // By how much a line of each code leaves more than the norm of its kind less one.
+    let raised: Vec<usize> = (0..codes).map(|code| if code == 0 { 0 } else { random.between(1, 3) }).collect();
+    let norms: Vec<usize> = (0..kinds).map(|kind| if kind == 0 { 1 } else { random.between(1, 4) }).collect();
+    let mut draft = Draft::new(kinds, codes);
+    for kind in 0..kinds {
+        let alike: Vec<usize> = (0..kind).filter(|&other| norms[other] == norms[kind]).collect();
+        if !alike.is_empty() && random.once_in(2) {
+            let other = random.choose(&alike);
+            let copies: Vec<DraftLine> = draft.lines.iter().filter(|line| line.kind == other).cloned().collect();
+            draft.lines.extend(copies.into_iter().map(|line| DraftLine { kind, ..line }));
+        } else {
+            for (code, more) in raised.iter().enumerate() {
+                let left = tokens_of_norm(&norms, norms[kind] - 1 + more, random);
+                draft.lines.push(DraftLine { kind, code, left });
+            }
+        }
+        let product = tokens_of_norm(&norms[..kind.max(1)], norms[kind], random);
+        draft.products[kind] = (kind > 0).then(|| {
+            let counts = product.into_iter().chain(std::iter::repeat(0)).take(kinds);
+            counts.map(u16::from).collect()
+        });
+    }
+    if random.once_in(4) {
+        alter_line(&mut draft, 0, random);
+    }
+    renumber(&mut draft, random);
+    draft
+}
+
 /// Fields: random ones, and ones made from those before by putting a product in the place of a kind
 /// that acts as it, or one kind in the place of another.
 fn add_fields(draft: &mut Draft, fields: usize, size: Size, random: &mut Random) {
@@ -748,6 +804,24 @@ fn exchange(draft: &Draft, field: &mut [u16], random: &mut Random) {
         field[random.choose(&held)] -= 1;
         let other = random.below(draft.kinds);
         field[other] = field[other].saturating_add(1);
+    }
+}
+
+/// Puts, in the place of fields but the first, one before it whose tokens have been exchanged until it has as many as at the
+/// start and other counts. Where kinds act as products, the two are often the same, and it is the totals that reads leave
+/// that part them in the finer sense, if anything does.
+pub fn put_equal_totals(draft: &mut Draft, random: &mut Random) {
+    let total = |field: &[u16]| field.iter().map(|&count| u32::from(count)).sum::<u32>();
+    for number in 1..draft.fields.len() {
+        let before = &draft.fields[random.below(number)];
+        let mut field = before.clone();
+        for _ in 0..8 {
+            exchange(draft, &mut field, random);
+            if total(&field) == total(before) && field != *before {
+                draft.fields[number] = field;
+                break;
+            }
+        }
     }
 }
 

@@ -5,12 +5,12 @@
 use std::collections::BTreeMap;
 use std::ops::Range;
 
-use crate::calls::{Answer, Call, Implementation, Lent, squads_near};
+use crate::calls::{Answer, Call, Implementation, form_of, make, squads_near, verdict_of};
 use crate::filer::Verdict;
 use crate::generator::sample;
 use crate::norm::{NormedCard, accept};
 use crate::random::Random;
-use crate::sheet::MOST_FIELDS;
+use crate::sense::Sense;
 
 /// A promise.
 #[derive(Clone, Copy, Debug, PartialEq, Eq, PartialOrd, Ord)]
@@ -72,21 +72,16 @@ struct Asked<'a> {
 }
 
 impl Asked<'_> {
-    /// Makes a call on a sheet: the answer, and the counts that were written.
-    fn call(&self, bytes: &[u8], call: Call) -> (Answer, Vec<u64>) {
-        let mut lent = Lent::new(&call, &[bytes.to_vec()]);
-        ((self.implementation)(&call, &mut lent), lent.counts.lent().to_vec())
-    }
-
     /// The prime form of a field of a sheet.
     fn form(&self, bytes: &[u8], field: usize) -> Vec<u64> {
-        self.call(bytes, Call::PrimeForm { field, entries: self.normed.card.kinds }).1
+        form_of(self.implementation, Sense::Plain, bytes, field, self.normed.card.kinds)
     }
 
     /// Asks how often a squad goes into a whole, and looks at the answer where there is one.
     fn try_pair(&self, whole: usize, squad: usize, random: &mut Random, tried: &mut Tried) {
         let call = Call::Squads { whole, squad, entries: self.normed.card.kinds };
-        let (Answer::Squads { count }, remainder) = self.call(self.bytes, call) else { return };
+        let (Answer::Squads { count }, lent) = make(self.implementation, &call, self.bytes) else { return };
+        let remainder = lent.counts.lent();
         tried.answered += 1;
         let mut hold = |promise, kept: bool| {
             if !kept {
@@ -96,7 +91,7 @@ impl Asked<'_> {
         let [counts, one] = [whole, squad].map(|field| self.normed.card.field(field));
         let [whole_form, squad_form] = [whole, squad].map(|field| self.form(self.bytes, field));
 
-        let joined = join(&one, count, &remainder);
+        let joined = join(&one, count, remainder);
         if let Some(verdict) = self.verdict(whole, &joined) {
             hold(Promise::Joined, verdict == Verdict::Same);
             tried.joined += 1;
@@ -122,9 +117,9 @@ impl Asked<'_> {
             }
         }
 
-        let sum = join(&squad_form, count, &remainder);
+        let sum = join(&squad_form, count, remainder);
         hold(Promise::Exact, sum.iter().copied().eq(whole_form.iter().map(|&tokens| tokens.into())));
-        if let Some(bytes) = self.with_field(&join(&one, 0, &remainder)) {
+        if let Some(bytes) = self.normed.card.with_field(self.bytes, remainder) {
             hold(Promise::Exact, self.form(&bytes, self.normed.card.fields) == remainder);
             tried.forms += 1;
         }
@@ -132,26 +127,8 @@ impl Asked<'_> {
 
     /// What Compare says of a field of the sheet and one that is put on it.
     fn verdict(&self, field: usize, put: &[u128]) -> Option<Verdict> {
-        let call = Call::Compare { first: field, second: self.normed.card.fields };
-        match self.call(&self.with_field(put)?, call).0 {
-            Answer::Verdict(verdict) => Some(verdict),
-            other => panic!("{other:?} is no verdict"),
-        }
-    }
-
-    /// The sheet with one field more, where there is room for it and its counts are those of a field.
-    fn with_field(&self, put: &[u128]) -> Option<Vec<u8>> {
-        let fields = self.normed.card.fields + 1;
-        let counts: Vec<u16> = put.iter().map(|&count| count.try_into().ok()).collect::<Option<_>>()?;
-        if fields > MOST_FIELDS {
-            return None;
-        }
-        let mut bytes = self.bytes.to_vec();
-        bytes.extend(counts.iter().flat_map(|count| count.to_le_bytes()));
-        let total = bytes.len() as u32;
-        bytes[6..8].copy_from_slice(&(fields as u16).to_le_bytes());
-        bytes[16..20].copy_from_slice(&total.to_le_bytes());
-        Some(bytes)
+        let bytes = self.normed.card.with_field(self.bytes, put)?;
+        Some(verdict_of(self.implementation, Sense::Plain, &bytes, field, self.normed.card.fields))
     }
 
     /// Some field of a norm, of kinds that are reached: of some any number, then of each, from the last in order to the

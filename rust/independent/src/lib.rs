@@ -1,5 +1,5 @@
 //! Document 01 ("Race cards, fields and their prime forms", the paper that asks for Limbatue), as
-//! requests 1, 2 and 4 to 6 of document 02 change it, implemented a second time, from that document's definitions
+//! requests 1, 2 and 4 to 7 of document 02 change it, implemented a second time, from that document's definitions
 //! and document 000 (Hirshfeld, Jerrum, Moller, 1996, the algorithm). It shares no code with the verified library. The tests hold the two against each other, and the measurements compare
 //! their times. Sentences in quotes are these documents' own.
 
@@ -13,6 +13,8 @@ pub mod days;
 pub mod definitions;
 /// Settle, Row, Compare and Prime form.
 pub mod filer;
+/// What is promised of the finer Compare and Prime form, held against the plain ones and the totals.
+pub mod finer;
 /// Sheets from a seed: valid and damaged, small and at the limits.
 pub mod generator;
 /// What is promised of squads, held against Compare and Prime form.
@@ -27,6 +29,8 @@ pub mod parts;
 pub mod random;
 /// Which kinds are reached, and which are out.
 pub mod reached;
+/// The plain and the finer sense of same.
+pub mod sense;
 /// The bytes of a sheet, and refusals 1 to 8.
 pub mod sheet;
 /// Shelf number and Shelf field.

@@ -6,7 +6,7 @@
 use std::collections::BTreeMap;
 use std::ops::Range;
 
-use crate::calls::{Answer, Call, Implementation, Lent, calls};
+use crate::calls::{Answer, Call, Implementation, calls, make};
 use crate::filer::Verdict;
 use crate::generator::{Draft, DraftLine, sample};
 use crate::random::Random;
@@ -79,7 +79,7 @@ pub fn bytes_of(card: &Card, kinds: &[usize], of_lines: &[usize]) -> Vec<u8> {
 fn with_room(call: &Call, kinds: usize) -> Option<Call> {
     match *call {
         Call::Settle { .. } => Some(Call::Settle { entries: kinds * kinds }),
-        Call::PrimeForm { field, .. } => Some(Call::PrimeForm { field, entries: kinds }),
+        Call::PrimeForm { sense, field, .. } => Some(Call::PrimeForm { sense, field, entries: kinds }),
         Call::ShelfField { size, number, .. } => Some(Call::ShelfField { size, number, entries: kinds }),
         Call::Squads { whole, squad, .. } => Some(Call::Squads { whole, squad, entries: kinds }),
         Call::Compare { .. } | Call::ShelfNumber { .. } => Some(call.clone()),
@@ -131,17 +131,15 @@ impl Asked<'_> {
     /// The page of a sheet.
     fn page(&self, bytes: &[u8]) -> Vec<u8> {
         let call = Call::Page { bytes: 1 << 17 };
-        let mut lent = Lent::new(&call, &[bytes.to_vec()]);
-        match (self.implementation)(&call, &mut lent) {
-            Answer::PageWritten { bytes } => lent.page.lent()[..bytes].to_vec(),
-            other => panic!("{other:?} is no page"),
+        match make(self.implementation, &call, bytes) {
+            (Answer::PageWritten { bytes }, lent) => lent.page.lent()[..bytes].to_vec(),
+            (other, _) => panic!("{other:?} is no page"),
         }
     }
 
     /// Makes a call on a sheet of so many kinds.
     fn found(&self, bytes: &[u8], call: &Call, kinds: usize) -> Found {
-        let mut lent = Lent::new(call, &[bytes.to_vec()]);
-        let answer = (self.implementation)(call, &mut lent);
+        let (answer, lent) = make(self.implementation, call, bytes);
         let written: Vec<u64> = match answer {
             Answer::Settled { .. } => lent.table.lent().iter().map(|&count| count.into()).collect(),
             Answer::FormWritten | Answer::Squads { .. } => lent.counts.lent().to_vec(),

@@ -55,6 +55,22 @@ impl<'a> Card<'a> {
             .collect()
     }
 
+    /// The bytes of this card's sheet, which are given, with one field more, where there is room for it and its counts are
+    /// those of a field.
+    pub fn with_field<C: Copy + TryInto<u16>>(&self, bytes: &[u8], counts: &[C]) -> Option<Vec<u8>> {
+        let counts: Vec<u16> = counts.iter().map(|&count| count.try_into().ok()).collect::<Option<_>>()?;
+        let fields = self.fields + 1;
+        if fields > MOST_FIELDS {
+            return None;
+        }
+        let mut more = bytes.to_vec();
+        more.extend(counts.iter().flat_map(|count| count.to_le_bytes()));
+        let total = more.len() as u32;
+        more[6..8].copy_from_slice(&(fields as u16).to_le_bytes());
+        more[16..20].copy_from_slice(&total.to_le_bytes());
+        Some(more)
+    }
+
     /// Refusal 11: "field or kind number too large", a place for each number in turn.
     pub fn check_fields(&self, numbers: &[usize]) -> Result<(), Refusal> {
         match numbers.iter().position(|&number| number >= self.fields) {

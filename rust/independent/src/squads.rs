@@ -5,6 +5,7 @@
 
 use crate::base::{Base, Refinement};
 use crate::norm::accept;
+use crate::sense::Sense;
 use crate::sheet::{Card, Refusal, refused};
 
 /// The prime form of a field, a count for each kind.
@@ -52,7 +53,7 @@ pub fn squads(sheet: &[u8], whole: usize, squad: usize, remainder: &mut [u64]) -
     if remainder.len() < card.kinds {
         return refused(12, 0);
     }
-    let settled = Refinement::first(&normed).settle();
+    let settled = Refinement::first(&normed, Sense::Plain).settle();
     let [whole, squad] = [whole, squad].map(|field| form(settled.base(), card, field));
     let found = how_often(&whole, &squad);
     for (written, (held, taken)) in remainder.iter_mut().zip(whole.iter().zip(times(&squad, found))) {

@@ -23,7 +23,7 @@ passed : (c : tie.After-known-told2) → start c .args .settlement .checked ≡ 
 passed c = c .before .checked2 .given .1
 
 read : (c : tie.After-known-told2) → Reads (start c .args .sheet .now) (card c)
-read c = was-accepted (start c .pre) (card c) (passed c) .reads
+read c = was-accepted (start c .pre .1) (card c) (passed c) .reads
 
 -- The form has a count for each kind of the card.
 long : (c : tie.After-prime-counts) → let after-known-told2 = c .before .before .before .before .before in card after-known-told2 .kinds ≤ length (c .prime-counts .result)
@@ -39,16 +39,16 @@ enum-known-checked-2 : tie.Need-enum-known-checked-2
 enum-known-checked-2 c = search needs
 
 returns : tie.Need-returns
-returns c = form-no-field (start (c .before) .pre) _ (passed (c .before)) _ _ (c .if1 .taken)
+returns c = λ sense X. form-no-field X _ (passed (c .before)) _ _ (c .if1 .taken)
 
 returns-2 : tie.Need-returns-2
-returns-2 c = form-short (start (c .before .before) .pre) _ (passed (c .before .before)) _ _ (c .before .if1 .left) (c .if2 .taken)
+returns-2 c = λ sense X. form-short X _ (passed (c .before .before)) _ _ (c .before .if1 .left) (c .if2 .taken)
 
 prime-counts-requires : tie.Need-prime-counts-requires
 prime-counts-requires c κs =
     let after-known-told2 = c .before .before .before .before in
     let settlement = start after-known-told2 .pre in
-    ((read after-known-told2, was-accepted settlement _ (passed after-known-told2) .accepted), (was-settled settlement _ (passed after-known-told2) .base-is, c .before .before .before .if1 .left))
+    ((read after-known-told2, was-accepted (settlement .1) _ (passed after-known-told2) .accepted), ((settlement .0, was-settled (settlement .1) _ (passed after-known-told2) .base-is), c .before .before .before .if1 .left))
 
 array-share-prefix-form : tie.Need-array-share-prefix-form
 array-share-prefix-form c = long c
@@ -63,9 +63,7 @@ write-u64-requires c κs =
     omega (arith, length-take-le (card after-known-told2 .kinds) (c .before .before .prime-counts .result) (long (c .before .before)), if2 .left)
 
 returns-3 : tie.Need-returns-3
-returns-3 c =
-    let at-start = c .before .before .before .before .before in
-    form-refuses (at-start .pre) _ _ (c .before .checked .given .1) _ _
+returns-3 c = λ sense X. form-refuses X _ _ (c .before .checked .given .1) _ _
 
 same-length : tie.Need-same-length
 same-length c = search needs
@@ -76,7 +74,7 @@ returns-4 c =
     let if1 = c .before .before .before .before .before .before .before .before .before .if1 in
     let if2 = c .before .before .before .before .before .before .before .before .if2 in
     let after-prime-counts = c .before .before .before .before .before in
-    form-writes (start after-known-told2 .pre) _ (passed after-known-told2) _ _ (if1 .left) _ _ (if2 .left) (after-prime-counts .prime-counts .ensures) (c .before .before .write-u64 .ensures)
+    λ sense X. form-writes X _ (passed after-known-told2) _ _ (if1 .left) _ _ (if2 .left) (after-prime-counts .prime-counts .ensures sense (was-settled X _ (passed after-known-told2) .base-is)) (c .before .before .write-u64 .ensures)
 
 pub form-settled-spec : {M : Type 1} → statement M
 form-settled-spec =

@@ -17,15 +17,16 @@ field-form-requires c κs =
     let start = c .before .before .before in
     let read = start .pre .0 .0 in
     let ok = start .pre .0 .1 in
-    (read, (start .pre .1 .1, (search needs, settled-fit (start .args .sheet .now) ok _ (start .pre .1 .0) (λ k. omega (arith, c .before .before .shared-slice-known .given k)))))
+    (read, (start .pre .1 .1, (search needs, settled-fit (start .pre .1 .0 .0) (start .args .sheet .now) ok _ (start .pre .1 .0 .1) (λ k. omega (arith, c .before .before .shared-slice-known .given k)))))
 
 returns : tie.Need-returns
 returns c =
     let start = c .before .before .before .before in
     let read = start .pre .0 .0 in
     let long : length (c .field-form .result) ≡ 32 = search needs in
+    λ sense base.
     first-counts (c .field-form .result) _ (omega (arith, kinds-are read, kinds-most read))
-    ∙ prime-form (start .args .sheet .now) (start .pre .0 .1) _ (start .pre .1 .0) (start .args .field) (c .field-form .result) (c .field-form .ensures)
+    ∙ prime-form sense (start .args .sheet .now) (start .pre .0 .1) _ base (start .args .field) (c .field-form .result) (c .field-form .ensures)
 
 pub prime-counts-spec : {M : Type 1} → statement M
 prime-counts-spec = tie.close (tie.spec slice-aggregate-field-form field-form-requires returns)

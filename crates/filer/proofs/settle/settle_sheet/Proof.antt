@@ -3,6 +3,7 @@ use borrow.Author.Needs.{needs}
 use native.Mathlib.Omega.{arith}
 use lib.ListN.{length}
 use mathlib.Core.Path.{_≡_}
+use Rattle.model.specs.Sense.{plain}
 use Rattle.sheet.specs.Reader.{Reads}
 use Rattle.sheet.specs.declared.reader.Card.{Card}
 use Rattle.validation.specs.declared.checks.Checked.the-variants.{Passed}
@@ -19,7 +20,7 @@ start c = c .before .before .before .before .before .before
 abbrev card : tie.After-known-told2 → Card
 card c = c .before .checked2 .given .0 .0
 
-settled : (c : tie.After-known-told2) → IsSettlement (start c .args .sheet .now) (c .before .before .before .settle-once .result)
+settled : (c : tie.After-known-told2) → IsSettlement plain (start c .args .sheet .now) (c .before .before .before .settle-once .result)
 settled c = c .before .before .before .settle-once .ensures
 
 passed : (c : tie.After-known-told2) → c .before .before .before .settle-once .result .checked ≡ Passed (card c)
@@ -44,7 +45,7 @@ mul-if1 : tie.Need-mul-if1
 mul-if1 c = omega (arith, square-most (card c .kinds) (kinds-most (read c)))
 
 returns : tie.Need-returns
-returns c = settle-short (settled (c .before)) _ (passed (c .before)) _ (c .if1 .taken)
+returns c = settle-short (settled (c .before)) _ _ (passed (c .before)) (c .if1 .taken)
 
 slice-aggregate-write-table : tie.Need-slice-aggregate-write-table
 slice-aggregate-write-table c = search needs
@@ -56,7 +57,7 @@ write-table-requires c κs =
     ((rows-all known, kinds-most (read known)), room)
 
 returns-2 : tie.Need-returns-2
-returns-2 c = settle-refuses (c .before .before .before .settle-once .ensures) _ _ (c .before .checked .given .1) _
+returns-2 c = settle-refuses (c .before .before .before .settle-once .ensures) _ _ _ (c .before .checked .given .1)
 
 same-length : tie.Need-same-length
 same-length c = search needs
@@ -65,7 +66,7 @@ returns-3 : tie.Need-returns-3
 returns-3 c =
     let known = c .before .before .before .before .before .before .before .before .before in
     let room = c .before .before .before .before .before .before .before .before .if1 .left in
-    settle-writes (settled known) _ (passed known) _ _ room (c .before .before .write-table .ensures)
+    settle-writes (settled known) _ _ (passed known) _ room (c .before .before .write-table .ensures)
 
 pub settle-sheet-spec : {M : Type 1} → statement M
 settle-sheet-spec =

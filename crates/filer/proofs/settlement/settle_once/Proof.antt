@@ -25,12 +25,12 @@ settle-reached-requires c κs =
 returns : tie.Need-returns
 returns c =
     let accept = c .before .before .before .before .before .accept in
-    settlement-refused _ _ (accept .ensures) _ _ _ (c .before .before .checked .given .1)
+    settlement-refused _ _ _ (accept .ensures) _ _ _ (c .before .before .checked .given .1)
 
 returns-2 : tie.Need-returns-2
 returns-2 c =
     let accept = c .before .before .before .before .before .accept in
-    settlement-passed _ _ (accept .ensures) _ _ (c .before .before .checked2 .given .1) (c .settle-reached .ensures)
+    settlement-passed _ _ _ (accept .ensures) _ _ (c .before .before .checked2 .given .1) (c .settle-reached .ensures)
 
 pub settle-once-spec : {M : Type 1} → statement M
 settle-once-spec =

@@ -3,6 +3,7 @@ use mathlib.Core.Path.{sym, ap}
 use native.Mathlib.Omega.{arith}
 use lib.ListN.{replicate}
 use lib.Seq.{length-take-le}
+use Rattle.model.specs.Sense.{plain}
 use Rattle.sheet.proofs.Laws.{kinds-most}
 use Rattle.listing.specs.Line.{fieldText, fieldAt}
 use Rattle.page.specs.Lengths.{mostField}
@@ -45,7 +46,7 @@ returns c =
     let form = form-settled .last .1 .1 .1 .0 in
     let few = kinds-most (start .pre .1 .0 .reads) in
     let l = length-take-le (start .args .card .kinds) form (omega arith) in
-    let part = form-part (start .pre .1 .0) (start .args .field) (replicate 32 0) form (start .pre .1 .1 .0) (omega arith) (form-settled .ensures .1) in
+    let part = form-part (start .pre .1 .0) (start .args .field) (replicate 32 0) form (start .pre .1 .1 .0) (omega arith) (form-settled .ensures plain (start .pre .0) .1) in
     reads-as mostField (fieldAt (start .args .sheet .now) (start .args .field)) (c .before .before .put-field .ensures) (omega arith)
     (ap (fieldText (start .args .field)) part)
 

@@ -5,10 +5,10 @@ use Rattle.page_tests.proofs.played.with_pairs.Statement.{statement}
 use Rattle.page_tests.proofs.played.with_pairs.Tie as tie
 
 abbrev Inv-loop : tie.InvT-loop
-Inv-loop s played settlement fields next₀ later₀ next later = Unit {0}
+Inv-loop sense sheet played settlement fields next₀ later₀ next later = Unit {0}
 
 abbrev μ-loop : tie.MeasureT-loop
-μ-loop s played settlement fields next₀ later₀ next later = fields - later
+μ-loop sense sheet played settlement fields next₀ later₀ next later = fields - later
 
 loop-holds : tie.Need-loop-holds Inv-loop μ-loop
 loop-holds c = tt

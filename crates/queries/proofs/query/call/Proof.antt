@@ -57,6 +57,18 @@ count-squads-requires c κs = search needs
 enum-told-9 : tie.Need-enum-told-9
 enum-told-9 c = search needs
 
+finer-compare-fields-requires : tie.Need-finer-compare-fields-requires
+finer-compare-fields-requires c κs = search needs
+
+enum-told-10 : tie.Need-enum-told-10
+enum-told-10 c = search needs
+
+finer-field-form-requires : tie.Need-finer-field-form-requires
+finer-field-form-requires c κs = search needs
+
+enum-told-11 : tie.Need-enum-told-11
+enum-told-11 c = search needs
+
 no-call-requires : tie.Need-no-call-requires
 no-call-requires c κs = search needs
 
@@ -140,11 +152,31 @@ returns-8 c =
     let enum-told8 = c .before .before .before .before .enum-told8 in
     told-as _ (c .before .before .count-squads .ensures) (ap (λ v. verbTold (start .args .sheet .now) v (start .args .numbers .now)) (sym (enum-told8 .given .1)))
 
+same-length-9 : tie.Need-same-length-9
+same-length-9 c = search needs
+
 returns-9 : tie.Need-returns-9
 unfolding verbTold
 returns-9 c =
+    let start = c .before .before .before .before .before .before .before .before .before in
+    let enum-told9 = c .before .before .before .before .enum-told9 in
+    told-as _ (c .before .before .finer-compare-fields .ensures) (ap (λ v. verbTold (start .args .sheet .now) v (start .args .numbers .now)) (sym (enum-told9 .given .1)))
+
+same-length-10 : tie.Need-same-length-10
+same-length-10 c = search needs
+
+returns-10 : tie.Need-returns-10
+unfolding verbTold
+returns-10 c =
+    let start = c .before .before .before .before .before .before .before .before .before in
+    let enum-told10 = c .before .before .before .before .enum-told10 in
+    told-as _ (c .before .before .finer-field-form .ensures) (ap (λ v. verbTold (start .args .sheet .now) v (start .args .numbers .now)) (sym (enum-told10 .given .1)))
+
+returns-11 : tie.Need-returns-11
+unfolding verbTold
+returns-11 c =
     let start = c .before .before .before .before .before .before in
-    told-as _ (tells-nothing (start .args .out .now) (c .no-call .result) (c .no-call .ensures)) (ap (λ v. verbTold (start .args .sheet .now) v (start .args .numbers .now)) (sym (c .before .enum-told9 .given .1)))
+    told-as _ (tells-nothing (start .args .out .now) (c .no-call .result) (c .no-call .ensures)) (ap (λ v. verbTold (start .args .sheet .now) v (start .args .numbers .now)) (sym (c .before .enum-told11 .given .1)))
 
 pub call-spec : {M : Type 1} → statement M
 call-spec =
@@ -167,6 +199,10 @@ call-spec =
     enum-told-8
     count-squads-requires
     enum-told-9
+    finer-compare-fields-requires
+    enum-told-10
+    finer-field-form-requires
+    enum-told-11
     no-call-requires
     same-length
     returns
@@ -184,4 +220,8 @@ call-spec =
     returns-7
     same-length-8
     returns-8
-    returns-9)
+    same-length-9
+    returns-9
+    same-length-10
+    returns-10
+    returns-11)

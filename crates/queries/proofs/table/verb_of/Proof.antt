@@ -57,6 +57,18 @@ not-squads c =
     let start = c .before .before .before .before .before .before .before .before .before .before .before .before .before .before .before .before .before .before .before .before .before .before .before .before .before in
     verb-later _ _ (start .args .word .now) (sym (c .before .same-word8 .ensures) ∙ c .if8 .left) ∙ not-field (c .before .before .before)
 
+not-finer : (c : tie.Else9) → let start = c .before .before .before .before .before .before .before .before .before .before .before .before .before .before .before .before .before .before .before .before .before .before .before .before .before .before .before .before in verbIn (drop 9 verbs) (start .args .word .now) ≡ verbOf (start .args .word .now)
+unfolding verbs verbOf bytes
+not-finer c =
+    let start = c .before .before .before .before .before .before .before .before .before .before .before .before .before .before .before .before .before .before .before .before .before .before .before .before .before .before .before .before in
+    verb-later _ _ (start .args .word .now) (sym (c .before .same-word9 .ensures) ∙ c .if9 .left) ∙ not-squads (c .before .before .before)
+
+not-finer-form : (c : tie.Else10) → let start = c .before .before .before .before .before .before .before .before .before .before .before .before .before .before .before .before .before .before .before .before .before .before .before .before .before .before .before .before .before .before .before in verbIn (drop 10 verbs) (start .args .word .now) ≡ verbOf (start .args .word .now)
+unfolding verbs verbOf bytes
+not-finer-form c =
+    let start = c .before .before .before .before .before .before .before .before .before .before .before .before .before .before .before .before .before .before .before .before .before .before .before .before .before .before .before .before .before .before .before in
+    verb-later _ _ (start .args .word .now) (sym (c .before .same-word10 .ensures) ∙ c .if10 .left) ∙ not-finer (c .before .before .before)
+
 slice-aggregate-same-word : tie.Need-slice-aggregate-same-word
 slice-aggregate-same-word c = search needs
 
@@ -153,11 +165,35 @@ returns-8 c =
     let start = c .before .before .before .before .before .before .before .before .before .before .before .before .before .before .before .before .before .before .before .before .before .before .before .before .before in
     verb-first _ _ (start .args .word .now) (sym (c .before .same-word8 .ensures) ∙ c .if8 .taken) ∙ not-field (c .before .before .before)
 
+slice-aggregate-same-word-9 : tie.Need-slice-aggregate-same-word-9
+slice-aggregate-same-word-9 c = search needs
+
+same-word-requires-9 : tie.Need-same-word-requires-9
+same-word-requires-9 c κs = search needs
+
 returns-9 : tie.Need-returns-9
-unfolding verbs verbOf
+unfolding verbs verbOf bytes
 returns-9 c =
-    let start = c .before .before .before .before .before .before .before .before .before .before .before .before .before .before .before .before .before .before .before .before .before .before .before .before .before in
-    verb-none (start .args .word .now) ∙ not-squads c
+    let start = c .before .before .before .before .before .before .before .before .before .before .before .before .before .before .before .before .before .before .before .before .before .before .before .before .before .before .before .before in
+    verb-first _ _ (start .args .word .now) (sym (c .before .same-word9 .ensures) ∙ c .if9 .taken) ∙ not-squads (c .before .before .before)
+
+slice-aggregate-same-word-10 : tie.Need-slice-aggregate-same-word-10
+slice-aggregate-same-word-10 c = search needs
+
+same-word-requires-10 : tie.Need-same-word-requires-10
+same-word-requires-10 c κs = search needs
+
+returns-10 : tie.Need-returns-10
+unfolding verbs verbOf bytes
+returns-10 c =
+    let start = c .before .before .before .before .before .before .before .before .before .before .before .before .before .before .before .before .before .before .before .before .before .before .before .before .before .before .before .before .before .before .before in
+    verb-first _ _ (start .args .word .now) (sym (c .before .same-word10 .ensures) ∙ c .if10 .taken) ∙ not-finer (c .before .before .before)
+
+returns-11 : tie.Need-returns-11
+unfolding verbs verbOf
+returns-11 c =
+    let start = c .before .before .before .before .before .before .before .before .before .before .before .before .before .before .before .before .before .before .before .before .before .before .before .before .before .before .before .before .before .before .before in
+    verb-none (start .args .word .now) ∙ not-finer-form c
 
 pub verb-of-spec : {M : Type 1} → statement M
 verb-of-spec =
@@ -187,4 +223,10 @@ verb-of-spec =
     slice-aggregate-same-word-8
     same-word-requires-8
     returns-8
-    returns-9)
+    slice-aggregate-same-word-9
+    same-word-requires-9
+    returns-9
+    slice-aggregate-same-word-10
+    same-word-requires-10
+    returns-10
+    returns-11)

@@ -7,6 +7,7 @@ use native.Mathlib.Omega.{arith}
 use lib.ListN.{length}
 use Rattle.model.specs.Field.{at}
 use Rattle.tables.specs.Lines.{linesIn}
+use Rattle.tables.specs.Senses.{senseOf}
 use Rattle.rows.specs.Row.{LowersKind}
 use Rattle.tables.proofs.Tables.{told-not}
 use Rattle.rows.proofs.RowSearch.{own-first, Searched, searched-none, searched-skip, searched-unfound, searched-failed, searched-passed, searched-row, searched-all, searched-atom}
@@ -14,10 +15,10 @@ use Rattle.rows.proofs.row.told_row.Statement.{statement}
 use Rattle.rows.proofs.row.told_row.Tie as tie
 
 abbrev Inv-loop : tie.InvT-loop
-Inv-loop lines classes marks rows₀ forms own kind count line other₀ rows other = Searched lines classes forms kind line rows₀ rows other
+Inv-loop sense lines classes marks rows₀ forms own kind count line other₀ rows other = Searched (senseOf sense) lines classes forms kind line rows₀ rows other
 
 abbrev μ-loop : tie.MeasureT-loop
-μ-loop lines classes marks rows₀ forms own kind count line other₀ rows other = linesIn lines - other
+μ-loop sense lines classes marks rows₀ forms own kind count line other₀ rows other = linesIn lines - other
 
 -- The candidate's counts are 32.
 counts-long : (c : tie.After-told Inv-loop μ-loop) → length (c .told .result .counts) ≡ 32

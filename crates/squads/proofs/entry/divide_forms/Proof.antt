@@ -5,6 +5,7 @@ use Prim.Native.Nat.{ℕ, _≤_}
 use native.Mathlib.Omega.{arith}
 use lib.ListN.{length, take}
 use lib.Seq.{length-take-le}
+use Rattle.model.specs.Sense.{plain}
 use Rattle.model.specs.Answer.{primeForm}
 use Rattle.sheet.proofs.Laws.{kinds-are, kinds-most}
 use Rattle.squads.proofs.Calls.{can-divide, divides}
@@ -23,10 +24,10 @@ squad-long c = let e : length (c .prime-counts2 .result) ≡ 32 = search needs i
 
 -- They begin with the prime forms.
 whole-form : (c : tie.After-prime-counts2) → take (start c .args .card .kinds) (c .before .prime-counts .result) ≡ primeForm (start c .args .sheet .now) (start c .args .whole)
-whole-form c = ap (λ (n : ℕ). take n (c .before .prime-counts .result)) (kinds-are (start c .pre .0 .0)) ∙ c .before .prime-counts .ensures
+whole-form c = ap (λ (n : ℕ). take n (c .before .prime-counts .result)) (kinds-are (start c .pre .0 .0)) ∙ c .before .prime-counts .ensures plain (start c .pre .1 .0)
 
 squad-form : (c : tie.After-prime-counts2) → take (start c .args .card .kinds) (c .prime-counts2 .result) ≡ primeForm (start c .args .sheet .now) (start c .args .squad)
-squad-form c = ap (λ (n : ℕ). take n (c .prime-counts2 .result)) (kinds-are (start c .pre .0 .0)) ∙ c .prime-counts2 .ensures
+squad-form c = ap (λ (n : ℕ). take n (c .prime-counts2 .result)) (kinds-are (start c .pre .0 .0)) ∙ c .prime-counts2 .ensures plain (start c .pre .1 .0)
 
 prime-counts-requires : tie.Need-prime-counts-requires
 prime-counts-requires c κs = search needs

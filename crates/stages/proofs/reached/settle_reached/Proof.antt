@@ -4,6 +4,7 @@ use mathlib.Core.Path.{sym}
 use native.Mathlib.Omega.{arith}
 use lib.Seq.{length-take-le}
 use Rattle.sheet.proofs.Laws.{kinds-most, lines-most, fields-most}
+use Rattle.tables.specs.Senses.{senseOf}
 use Rattle.part_sheet.proofs.Sheets.{sheet-longest}
 use Rattle.part_sheet.proofs.Laws.{part-accepts}
 use Rattle.stages.proofs.Parts.{part-settled}
@@ -41,7 +42,7 @@ returns : tie.Need-returns
 returns c =
     let start = c .before .before .before .before .before .before .before .before in
     let P = c .before .before .before .before .write-part .ensures in
-    part-settled (start .pre .reads .passed) P (c .before .before .field-start .ensures .0) (c .settle .ensures)
+    part-settled (senseOf (start .args .sense)) (start .pre .reads .passed) P (c .before .before .field-start .ensures .0) (c .settle .ensures)
 
 pub settle-reached-spec : {M : Type 1} → statement M
 settle-reached-spec =

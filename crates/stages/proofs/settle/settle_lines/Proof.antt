@@ -6,7 +6,9 @@ use Prim.Native.Nat.{ℕ, suc, _-_}
 use lib.ListN.{length}
 use native.Mathlib.Numerals.{add-one}
 use native.Mathlib.Omega.{arith}
+use Rattle.model.specs.Sense.{Sense}
 use Rattle.sheet.proofs.Laws.{kinds-are, kinds-most}
+use Rattle.tables.specs.Senses.{senseOf}
 use Rattle.tables.proofs.Tables.{told-not}
 use Rattle.rows.proofs.StageRows.{lines-whole}
 use Rattle.rows.specs.Stage.{BaseAt, Classes, BoundsAt}
@@ -17,19 +19,19 @@ use Rattle.stages.proofs.settle.settle_lines.Statement.{statement}
 use Rattle.stages.proofs.settle.settle_lines.Tie as tie
 
 abbrev Inv-loop : tie.InvT-loop
-Inv-loop sheet card lines forms₀ norms rows₀ classes₀ since₀ rows-before₀ stage₀ forms rows classes since rows-before stage = Progress sheet stage forms rows classes since rows-before
+Inv-loop sense sheet card lines forms₀ norms rows₀ classes₀ since₀ rows-before₀ stage₀ forms rows classes since rows-before stage = Progress (senseOf sense) sheet stage forms rows classes since rows-before
 
 abbrev μ-loop : tie.MeasureT-loop
-μ-loop sheet card lines forms₀ norms rows₀ classes₀ since₀ rows-before₀ stage₀ forms rows classes since rows-before stage = card .kinds - stage
+μ-loop sense sheet card lines forms₀ norms rows₀ classes₀ since₀ rows-before₀ stage₀ forms rows classes since rows-before stage = card .kinds - stage
 
 loop-holds : tie.Need-loop-holds Inv-loop μ-loop
 loop-holds c =
     let start = c .before .before .before in
     record {
-      held = held-start (start .args .sheet .now);
-      unsettled = unsettled-start (start .args .sheet .now);
+      held = held-start (senseOf (start .args .sense)) (start .args .sheet .now);
+      unsettled = unsettled-start (senseOf (start .args .sense)) (start .args .sheet .now);
       table = start .pre .1 .1;
-      kept = kept-start (start .args .sheet .now) (start .pre .0 .accepted) _;
+      kept = kept-start (senseOf (start .args .sense)) (start .args .sheet .now) (start .pre .0 .accepted) _;
       rows-long = refl;
       classes-long = refl;
       since-long = refl;
@@ -64,13 +66,13 @@ line-classes-requires c κs =
     let reached = loop .inv in
     let whole = lines-whole (start .pre .1 .0) (start .pre .0 .reads) in
     let given = held-given (start .pre .0 .reads) (start .pre .0 .accepted) (start .pre .1 .0) (reached .held) in
-    ((start .pre .0 .reads, start .pre .0 .accepted), (start .pre .1 .0, ((search needs, omega (arith, whole .few, reached .classes-long)), (loop .stage, rows .ensures (loop .stage) given (reached .held .rows-are), reached .held .bounds))))
+    ((start .pre .0 .reads, start .pre .0 .accepted), (start .pre .1 .0, ((search needs, omega (arith, whole .few, reached .classes-long)), (senseOf (start .args .sense), loop .stage, rows .ensures (loop .stage) given (reached .held .rows-are), reached .held .bounds))))
 
 add-stage : tie.Need-add-stage Inv-loop μ-loop
 add-stage c =
     let start = c .before .before .before .before .before .before .before .before .before .before .before .before .before .before .before .before .before in
     let loop = c .before .before .before .before .before .before .before .before .before .before .before .before .before .loop in
-    omega (arith, unsettled-next (start .args .sheet .now) (start .pre .0 .accepted) (loop .inv .unsettled), few-kinds (start .pre .0 .reads))
+    omega (arith, unsettled-next (senseOf (start .args .sense)) (start .args .sheet .now) (start .pre .0 .accepted) (loop .inv .unsettled), few-kinds (start .pre .0 .reads))
 
 slice-aggregate-keep-stage : tie.Need-slice-aggregate-keep-stage Inv-loop μ-loop
 slice-aggregate-keep-stage c = search needs
@@ -95,7 +97,7 @@ slice-aggregate-rows-expand c = search needs
 slice-aggregate-rows-expand-2 : tie.Need-slice-aggregate-rows-expand-2 Inv-loop μ-loop
 slice-aggregate-rows-expand-2 c = search needs
 
-norms-long : (c : tie.Start Inv-loop μ-loop) → length (c .args .t3) ≡ 32
+norms-long : (c : tie.Start Inv-loop μ-loop) → length (c .args .t4) ≡ 32
 norms-long c = search needs
 
 slice-aggregate-rows-expand-3 : tie.Need-slice-aggregate-rows-expand-3 Inv-loop μ-loop
@@ -117,11 +119,14 @@ rows-expand-requires c κs =
     let whole = lines-whole (start .pre .1 .0) (start .pre .0 .reads) in
     let given = held-given (start .pre .0 .reads) (start .pre .0 .accepted) (start .pre .1 .0) (loop .inv .held) in
     let found = rows .ensures (loop .stage) given (loop .inv .held .rows-are) in
-    ((whole, omega (arith, whole .few, all-classes (c .before .before .before .before .before .before .before .before .before .before .before .before))), ((search needs, kinds-most (start .pre .0 .reads), omega (arith, norms-long start, kinds-most (start .pre .0 .reads))), held-atoms (start .pre .0) (start .pre .1 .0) (loop .stage) _ (loop .classes) (found .base-is)))
+    ((whole, omega (arith, whole .few, all-classes (c .before .before .before .before .before .before .before .before .before .before .before .before))), ((search needs, kinds-most (start .pre .0 .reads), omega (arith, norms-long start, kinds-most (start .pre .0 .reads))), held-atoms (senseOf (start .args .sense)) (start .pre .0) (start .pre .1 .0) (loop .stage) _ (loop .classes) (found .base-is)))
 
 -- The state in which the next stage has been tested: where the loop began, what it had reached, and what was found since.
 abbrev start : tie.After-rows-expand Inv-loop μ-loop → tie.Start Inv-loop μ-loop
 start c = c .before .before .before .before .before .before .before .before .before .before .before .before .before .before .before .before .before .before .before .before .before .before .before .before .before .before .before .before
+
+abbrev sense : tie.After-rows-expand Inv-loop μ-loop → Sense
+sense c = senseOf (start c .args .sense)
 
 abbrev stage : tie.After-rows-expand Inv-loop μ-loop → ℕ
 stage c = c .before .before .before .before .before .before .before .before .before .before .before .before .before .before .before .before .before .before .before .before .before .before .before .before .loop .stage
@@ -132,20 +137,20 @@ next c = c .before .before .before .before .before .before .before .before .befo
 abbrev classes : tie.After-rows-expand Inv-loop μ-loop → List ℕ
 classes c = c .before .before .before .before .before .before .before .before .before .before .before .before .before .line-classes .result
 
-base : (c : tie.After-rows-expand Inv-loop μ-loop) → BaseAt (start c .args .sheet .now) (suc (stage c)) (next c)
+base : (c : tie.After-rows-expand Inv-loop μ-loop) → BaseAt (sense c) (start c .args .sheet .now) (suc (stage c)) (next c)
 base c =
     let reached = c .before .before .before .before .before .before .before .before .before .before .before .before .before .before .before .before .before .before .before .before .before .before .before .before .loop .inv in
     let given = held-given (start c .pre .0 .reads) (start c .pre .0 .accepted) (start c .pre .1 .0) (reached .held) in
     c .before .before .before .before .before .before .before .before .before .before .before .before .before .before .before .before .before .before .before .before .stage-rows .ensures (stage c) given (reached .held .rows-are) .base-is
 
-told : (c : tie.After-rows-expand Inv-loop μ-loop) → Classes (start c .args .sheet .now) (stage c) (classes c) × BoundsAt (start c .args .sheet .now) (stage c) (classes c)
-told c = c .before .before .before .before .before .before .before .before .before .before .before .before .before .line-classes .ensures .0 (stage c) (base c)
+told : (c : tie.After-rows-expand Inv-loop μ-loop) → Classes (sense c) (start c .args .sheet .now) (stage c) (classes c) × BoundsAt (sense c) (start c .args .sheet .now) (stage c) (classes c)
+told c = c .before .before .before .before .before .before .before .before .before .before .before .before .before .line-classes .ensures .0 (sense c) (stage c) (base c)
 
-kept : (c : tie.After-rows-expand Inv-loop μ-loop) → let keep = c .before .before .before .before .before .before .keep-stage .last in KeptTo (start c .args .sheet .now) (suc (stage c)) (keep .1 .1 .1 .0) (keep .1 .1 .1 .1 .0)
+kept : (c : tie.After-rows-expand Inv-loop μ-loop) → let keep = c .before .before .before .before .before .before .keep-stage .last in KeptTo (sense c) (start c .args .sheet .now) (suc (stage c)) (keep .1 .1 .1 .0) (keep .1 .1 .1 .1 .0)
 kept c =
     let reached = c .before .before .before .before .before .before .before .before .before .before .before .before .before .before .before .before .before .before .before .before .before .before .before .before .loop .inv in
     let keep = c .before .before .before .before .before .before .keep-stage in
-    kept-stage (start c .args .sheet .now) (start c .pre .0 .accepted) (stage c) (reached .kept) (base c) (reached .held .rows-are .follows) (rw (add-one (stage c)) at (keep .ensures)) (few-kinds (start c .pre .0 .reads))
+    kept-stage (sense c) (start c .args .sheet .now) (start c .pre .0 .accepted) (stage c) (reached .kept) (base c) (reached .held .rows-are .follows) (rw (add-one (stage c)) at (keep .ensures)) (few-kinds (start c .pre .0 .reads))
 
 same-length : tie.Need-same-length Inv-loop μ-loop
 same-length c = omega (arith, c .before .before .before .before .before .before .before .before .before .before .before .before .before .before .line-classes .ensures .1 .long, start (c .before) .pre .1 .1 .long)
@@ -156,13 +161,13 @@ returns c =
     let begun = start tested in
     let unsettled = c .before .before .before .before .before .before .before .before .before .before .before .before .before .before .before .before .before .before .before .before .before .before .before .before .before .loop .inv .unsettled in
     let passes = tested .rows-expand .ensures .0 (c .if1 .taken) in
-    rw (add-one (stage tested)) (held-end (begun .pre .0) (begun .pre .1 .0) (stage tested) (next tested) (classes tested) (base tested) (told tested .0) unsettled passes _ refl (kept tested))
+    rw (add-one (stage tested)) (held-end (sense tested) (begun .pre .0) (begun .pre .1 .0) (stage tested) (next tested) (classes tested) (base tested) (told tested .0) unsettled passes _ refl (kept tested))
 
 loop-less : tie.Need-loop-less Inv-loop μ-loop
 loop-less c =
     let begun = start (c .before) in
     let unsettled = c .before .before .before .before .before .before .before .before .before .before .before .before .before .before .before .before .before .before .before .before .before .before .before .before .before .loop .inv .unsettled in
-    omega (arith, unsettled-next (begun .args .sheet .now) (begun .pre .0 .accepted) unsettled, kinds-are (begun .pre .0 .reads))
+    omega (arith, unsettled-next (sense (c .before)) (begun .args .sheet .now) (begun .pre .0 .accepted) unsettled, kinds-are (begun .pre .0 .reads))
 
 loop-again : tie.Need-loop-again Inv-loop μ-loop
 loop-again c =
@@ -172,10 +177,10 @@ loop-again c =
     let ok = begun .pre .0 .accepted in
     let reached = c .before .before .before .before .before .before .before .before .before .before .before .before .before .before .before .before .before .before .before .before .before .before .before .before .before .loop .inv in
     let keep = c .before .before .before .before .before .before .before .keep-stage in
-    let settled = held-settled (begun .pre .0) (begun .pre .1 .0) (stage tested) (next tested) (classes tested) (base tested) (told tested .0) in
+    let settled = held-settled (sense tested) (begun .pre .0) (begun .pre .1 .0) (stage tested) (next tested) (classes tested) (base tested) (told tested .0) in
     rw (add-one (stage tested)) (record {
       held = held-next ok (stage tested) (next tested) (classes tested) (base tested) (told tested .0) (told tested .1);
-      unsettled = unsettled-more sheet ok (reached .unsettled) (λ y. told-not (tested .rows-expand .ensures) (c .if1 .left) (settled .1 y));
+      unsettled = unsettled-more (sense tested) sheet ok (reached .unsettled) (λ y. told-not (tested .rows-expand .ensures) (c .if1 .left) (settled .1 y));
       table = c .before .before .before .before .before .before .before .before .before .before .before .before .before .before .line-classes .ensures .1;
       kept = kept tested;
       rows-long = all-rows (c .before .before .before .before .before .before .before .before .before .before .before .before .before .before .before .before .before .before .before .before .before);

@@ -38,11 +38,8 @@ enum-known-tried-3 c = search needs
 judge-held-requires-2 : tie.Need-judge-held-requires-2
 judge-held-requires-2 c κs = search needs
 
-enum-known-tried-4 : tie.Need-enum-known-tried-4
-enum-known-tried-4 c = search needs
-
-judge-held-requires-3 : tie.Need-judge-held-requires-3
-judge-held-requires-3 c κs = search needs
+enum-told-6 : tie.Need-enum-told-6
+enum-told-6 c = search needs
 
 returns : tie.Need-returns
 returns c = judged (c .before .before .enum-told .given .1) (c .enum-told2 .given .1)
@@ -81,10 +78,7 @@ returns-8 c =
     c .judge-held2 .ensures ∙ judged (different .called .given .1) (told .tried3 .given .1)
 
 returns-9 : tie.Need-returns-9
-returns-9 c =
-    let told = c .before .before in
-    let different = told .before .before .before in
-    c .judge-held3 .ensures ∙ judged (different .called .given .1) (told .tried4 .given .1)
+returns-9 c = judged (c .before .before .before .called .given .1) (c .enum-told6 .given .1)
 
 pub judge-spec : {M : Type 1} → statement M
 judge-spec =
@@ -101,8 +95,7 @@ judge-spec =
     judge-held-requires
     enum-known-tried-3
     judge-held-requires-2
-    enum-known-tried-4
-    judge-held-requires-3
+    enum-told-6
     returns
     returns-2
     returns-3

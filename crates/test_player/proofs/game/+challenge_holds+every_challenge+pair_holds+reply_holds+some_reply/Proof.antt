@@ -18,9 +18,9 @@ use Rattle.test_player.proofs.game.+challenge_holds+every_challenge+pai
 use Rattle.second_reader.proofs.reader.lines.Reads as lines-reads
 use Rattle.test_player.proofs.game.+challenge_holds+every_challenge+pair_holds+reply_holds+some_reply.{statement}
 use Rattle.test_player.proofs.game.+challenge_holds+every_challenge+pair_holds+reply_holds+some_reply.Tie.{close}
-use Rattle.test_player.proofs.game.+challenge_holds+every_challenge+pair_holds+reply_holds+some_reply.Proof.Cycle.{μ-challenge-holds, μ-every-challenge, μ-pair-holds, μ-reply-holds, μ-some-reply, challenge-holds-at, every-challenge-at, every-challenge-below, pair-holds-at, reply-holds-at, reply-holds-below, some-reply-at, challenge-holds-calls, every-challenge-calls, reply-holds-calls}
+use Rattle.test_player.proofs.game.+challenge_holds+every_challenge+pair_holds+reply_holds+some_reply.Proof.Cycle.{μ-challenge-holds, μ-every-challenge, μ-pair-holds, μ-reply-holds, μ-some-reply, challenge-holds-at, every-challenge-at, pair-holds-at, reply-holds-at, reply-holds-below, some-reply-at, challenge-holds-calls, every-challenge-calls, pair-holds-calls, reply-holds-calls}
 use Rattle.test_player.proofs.game.+challenge_holds+every_challenge+pair_holds+reply_holds+some_reply.Proof.Challenging.{challenge-holds-may-use-requires, challenge-holds-field-after-requires, challenge-holds-some-reply-requires, challenge-holds-returns, challenge-holds-returns-2, every-challenge-loop-holds, every-challenge-challenge-holds-requires, every-challenge-returns, every-challenge-returns-2, every-challenge-loop-again, every-challenge-returns-3, every-challenge-Inv-loop, every-challenge-μ-loop}
-use Rattle.test_player.proofs.game.+challenge_holds+every_challenge+pair_holds+reply_holds+some_reply.Proof.Pairing.{pair-holds-returns, pair-holds-returns-2, pair-holds-every-challenge-requires, pair-holds-every-challenge-requires-2, pair-holds-returns-3, pair-holds-returns-4, pair-holds-returns-5}
+use Rattle.test_player.proofs.game.+challenge_holds+every_challenge+pair_holds+reply_holds+some_reply.Proof.Pairing.{pair-holds-returns, pair-holds-shares-total-requires, pair-holds-returns-2, pair-holds-returns-3, pair-holds-every-challenge-requires, pair-holds-every-challenge-requires-2, pair-holds-returns-4, pair-holds-returns-5, pair-holds-returns-6}
 use Rattle.test_player.proofs.game.+challenge_holds+every_challenge+pair_holds+reply_holds+some_reply.Proof.Replying.{reply-holds-may-reply-requires, reply-holds-field-after-requires, reply-holds-pair-holds-requires, reply-holds-pair-holds-requires-2, reply-holds-returns, reply-holds-returns-2, reply-holds-returns-3, some-reply-loop-holds, some-reply-reply-holds-requires, some-reply-returns, some-reply-returns-2, some-reply-loop-again, some-reply-returns-3, some-reply-Inv-loop, some-reply-μ-loop}
 
 pub +challenge-holds+every-challenge+pair-holds+reply-holds+some-reply-spec :
@@ -57,13 +57,15 @@ pub +challenge-holds+every-challenge+pair-holds+reply-holds+some-reply-spec :
     (λ c. search needs)
     (every-challenge-loop-again t)
     (every-challenge-returns-3 t))
-    (λ t. pair-holds-lts.spec
-    (every-challenge-below t, every-challenge.Post)
+    (λ t. pair-holds-lts.spec (pair-holds-calls t)
     (pair-holds-at t)
     pair-holds.Post
     (pair-holds-returns t)
+    (pair-holds-shares-total-requires t)
     (λ c. search needs)
     (pair-holds-returns-2 t)
+    (λ c. search needs)
+    (pair-holds-returns-3 t)
     (λ c. search needs)
     (λ c. search needs)
     (λ c. search needs)
@@ -72,9 +74,9 @@ pub +challenge-holds+every-challenge+pair-holds+reply-holds+some-reply-spec :
     (pair-holds-every-challenge-requires-2 t)
     (λ c. search needs)
     (λ c. search needs)
-    (pair-holds-returns-3 t)
     (pair-holds-returns-4 t)
-    (pair-holds-returns-5 t))
+    (pair-holds-returns-5 t)
+    (pair-holds-returns-6 t))
     (λ t. reply-holds-lts.spec (reply-holds-calls t)
     (reply-holds-at t)
     reply-holds.Post

@@ -5,9 +5,8 @@ use Prim.Native.Nat.{ℕ, _-_, _≤_, _<_}
 use Rattle.model.specs.Field.{at}
 use Rattle.model.specs.Sheet.{lineCount, cardOf}
 use Rattle.model.specs.Walk.{tryChallenges}
-use Rattle.theory.specs.Counted.{leaves}
 use Rattle.theory.proofs.Runs.{challenges}
-use Rattle.test_player.specs.Played.{countedOf, challenger}
+use Rattle.test_player.specs.Played.{countedOf, challenger, senseOf, leavesIn}
 use Rattle.second_reader.proofs.Counts.{fits-fewer, after-fits}
 use Rattle.test_player.proofs.Lines.{Remains, runs-start, runs-next, runs-end, challenge-played, challenge-passed}
 use Rattle.test_player.proofs.game.challenge_holds.Reads as challenge-holds
@@ -42,7 +41,7 @@ module _ (t : ℕ) where
 
 -- Every challenge: what is left of the budget, for the lines from this one on, comes to what all of it comes to for all lines.
 abbrev pub every-challenge-Inv-loop : every-challenge-lts.InvT-loop
-every-challenge-Inv-loop s turn field other budget count left₀ line₀ left line = (line ≤ count) × Remains (tryChallenges (leaves (challenger (turn .second)) (cardOf s .lines) (turn .rounds)) (cardOf s .lines) (at field) (at other)) s budget left line
+every-challenge-Inv-loop s turn field other budget count left₀ line₀ left line = (line ≤ count) × Remains (tryChallenges (leavesIn (senseOf (turn .totals)) (challenger (turn .second)) (cardOf s) (turn .rounds)) (cardOf s .lines) (at field) (at other)) s budget left line
 
 -- The measure of the loop is what is left of the lines.
 abbrev pub every-challenge-μ-loop : every-challenge-lts.MeasureT-loop

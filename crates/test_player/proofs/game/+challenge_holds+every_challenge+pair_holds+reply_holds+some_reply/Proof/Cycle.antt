@@ -17,6 +17,7 @@ use Rattle.test_player.proofs.game.+challenge_holds+every_challenge+pai
 use Rattle.test_player.proofs.game.some_reply.Reads as some-reply
 use Rattle.test_player.proofs.game.some_reply.Kinds as some-reply-kinds
 use Rattle.test_player.proofs.game.+challenge_holds+every_challenge+pair_holds+reply_holds+some_reply.Lts-some_reply as some-reply-lts
+use Rattle.test_player.proofs.totals.shares_total.Reads as shares-total-reads
 use Rattle.second_reader.proofs.moves.field_after.Reads as field-after-reads
 use Rattle.second_reader.proofs.moves.may_reply.Reads as may-reply-reads
 use Rattle.second_reader.proofs.moves.may_use.Reads as may-use-reads
@@ -32,7 +33,7 @@ abbrev pub μ-every-challenge : Measures 3 every-challenge-kinds.ps ℕ
 
 -- What falls from call to call of pair_holds.
 abbrev pub μ-pair-holds : Measures 3 pair-holds-kinds.ps ℕ
-μ-pair-holds κs a = 8 * a .1 .0 + 1
+μ-pair-holds κs a = 8 * a .1 .1 .0 + 1
 
 -- What falls from call to call of reply_holds.
 abbrev pub μ-reply-holds : Measures 3 reply-holds-kinds.ps ℕ
@@ -118,7 +119,7 @@ every-challenge-calls t = (lines-reads.Asked, lines-reads.Learnt, challenge-hold
 
 -- What pair_holds calls.
 abbrev pub pair-holds-calls : ℕ → pair-holds-lts.Claims
-pair-holds-calls t = (every-challenge-below t, every-challenge.Post)
+pair-holds-calls t = (shares-total-reads.Asked, shares-total-reads.Learnt, every-challenge-below t, every-challenge.Post)
 
 -- What reply_holds calls.
 abbrev pub reply-holds-calls : ℕ → reply-holds-lts.Claims

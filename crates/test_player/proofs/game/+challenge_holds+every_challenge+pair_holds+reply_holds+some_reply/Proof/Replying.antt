@@ -5,9 +5,8 @@ use Prim.Native.Nat.{ℕ, _-_, _≤_, _<_}
 use Rattle.model.specs.Field.{at}
 use Rattle.model.specs.Sheet.{lineCount, lineOf, cardOf}
 use Rattle.model.specs.Walk.{tryReplies}
-use Rattle.theory.specs.Counted.{leaves}
 use Rattle.theory.proofs.Runs.{replies}
-use Rattle.test_player.specs.Played.{countedOf, challenger}
+use Rattle.test_player.specs.Played.{countedOf, challenger, senseOf, leavesIn}
 use Rattle.second_reader.proofs.Counts.{fits-fewer, after-fits}
 use Rattle.test_player.proofs.Lines.{Remains, runs-start, runs-next, runs-end, reply-played, reply-passed, left-first, left-second}
 use Rattle.test_player.proofs.game.reply_holds.Reads as reply-holds
@@ -46,20 +45,20 @@ module _ (t : ℕ) where
   reply-holds-returns c =
       let fired = c .before .before .before in
       let usable = fired .before in
-      reply-played _ _ _ _ _ _ (usable .before .may-reply .ensures) (usable .if1 .taken) (left-second _ _ _ refl (fired .field-after .ensures .field) (c .before .before .if2 .taken) (c .pair-holds .ensures))
+      reply-played _ _ _ _ _ _ (usable .before .may-reply .ensures) (usable .if1 .taken) (left-second _ _ _ _ refl (fired .field-after .ensures .field) (c .before .before .if2 .taken) (c .pair-holds .ensures))
 
   pub reply-holds-returns-2 : reply-holds-lts.Need-returns-2 (reply-holds-calls t) (reply-holds-at t) reply-holds.Post
   reply-holds-returns-2 c =
       let fired = c .before .before .before in
       let usable = fired .before in
-      reply-played _ _ _ _ _ _ (usable .before .may-reply .ensures) (usable .if1 .taken) (left-first _ _ _ refl (fired .field-after .ensures .field) (c .before .before .if2 .left) (c .pair-holds2 .ensures))
+      reply-played _ _ _ _ _ _ (usable .before .may-reply .ensures) (usable .if1 .taken) (left-first _ _ _ _ refl (fired .field-after .ensures .field) (c .before .before .if2 .left) (c .pair-holds2 .ensures))
 
   pub reply-holds-returns-3 : reply-holds-lts.Need-returns-3 (reply-holds-calls t) (reply-holds-at t) reply-holds.Post
   reply-holds-returns-3 c = reply-passed _ _ _ _ _ _ (c .before .may-reply .ensures) (c .if1 .left)
 
 -- Some reply: what is left of the budget, for the lines from this one on, comes to what all of it comes to for all lines.
 abbrev pub some-reply-Inv-loop : some-reply-lts.InvT-loop
-some-reply-Inv-loop s turn challenge used other budget count left₀ line₀ left line = (line ≤ count) × Remains (tryReplies (leaves (challenger (turn .second)) (cardOf s .lines) (turn .rounds)) (lineOf s challenge) (at used) (at other)) s budget left line
+some-reply-Inv-loop s turn challenge used other budget count left₀ line₀ left line = (line ≤ count) × Remains (tryReplies (leavesIn (senseOf (turn .totals)) (challenger (turn .second)) (cardOf s) (turn .rounds)) (lineOf s challenge) (at used) (at other)) s budget left line
 
 -- The measure of the loop is what is left of the lines.
 abbrev pub some-reply-μ-loop : some-reply-lts.MeasureT-loop

@@ -1,7 +1,7 @@
 -- The settlement is the sheet's.
 use borrow.Author.Needs.{needs}
-use Rattle.filer.proofs.compare.compare.Statement.{statement}
-use Rattle.filer.proofs.compare.compare.Tie as tie
+use Rattle.filer.proofs.compare.compare_in.Statement.{statement}
+use Rattle.filer.proofs.compare.compare_in.Tie as tie
 
 settle-once-requires : tie.Need-settle-once-requires
 settle-once-requires c κs = search needs
@@ -12,5 +12,5 @@ compare-settled-requires c κs = search needs
 returns : tie.Need-returns
 returns c = c .compare-settled .ensures
 
-pub compare-spec : {M : Type 1} → statement M
-compare-spec = tie.close (tie.spec settle-once-requires compare-settled-requires returns)
+pub compare-in-spec : {M : Type 1} → statement M
+compare-in-spec = tie.close (tie.spec settle-once-requires compare-settled-requires returns)

@@ -1,42 +1,43 @@
--- `field_form`: with one number, the prime form of this field.
+-- `tell_form`: with one number, the prime form of the sense of this field.
 use mathlib.Core.Path.{sym, ap, _∙_}
 use Prim.Native.Nat.{_≤_}
 use native.Mathlib.Omega.{arith}
 use lib.ListN.{length, getD, take}
 use lib.Seq.{length-take-le}
 use Rattle.model.specs.Sheet.{kindCount}
-use Rattle.model.specs.Answer.{given, formOf}
+use Rattle.model.specs.Answer.{given, formingIn}
 use Rattle.sheet.specs.declared.reader.Card.{Card}
+use Rattle.tables.specs.Senses.{senseOf}
 use Rattle.filer.specs.Answers.{formingOf}
 use Rattle.text.specs.Count.{countsLine}
 use Rattle.replies.specs.Told.{told}
-use Rattle.verbs.specs.Texts.{formText}
-use Rattle.verbs.specs.Calls.{formTold}
+use Rattle.verbs.specs.Texts.{formTextIn}
+use Rattle.verbs.specs.Calls.{formToldIn}
 use Rattle.replies.proofs.Texts.{counts-answered, counts-refused}
 use Rattle.verbs.proofs.Sizes.{formed-few}
 use Rattle.replies.proofs.Numbers.{one-taken, one-other}
 use Rattle.replies.proofs.Replies.{tells-answer, tells-nothing, told-as}
 use borrow.Author.Needs.{needs}
-use Rattle.verbs.proofs.form.field_form.Statement.{statement}
-use Rattle.verbs.proofs.form.field_form.Tie as tie
+use Rattle.verbs.proofs.form.tell_form.Statement.{statement}
+use Rattle.verbs.proofs.form.tell_form.Tie as tie
 
 -- The sheet was accepted, so that the room suffices.
-few : (c : tie.After-put-counts-line-arg) → let prime-form = c .before .before .before .before .before .prime-form in c .before .of-header .result .kinds ≤ length (prime-form .last .1 .1 .0)
+few : (c : tie.After-put-counts-line-arg) → let forming-of = c .before .before .before .before .before .forming-of in c .before .of-header .result .kinds ≤ length (forming-of .last .1 .1 .1 .0)
 few c =
     let start = c .before .before .before .before .before .before .before .before .before .before .before .before .before in
     let form-room = c .before .before .before .before .before .before .before .before .form-room in
-    let prime-form = c .before .before .before .before .before .prime-form in
+    let forming-of = c .before .before .before .before .before .forming-of in
     omega (
       arith,
       ap (λ (x : Card). x .kinds) (c .before .of-header .ensures),
-      formed-few (start .args .sheet .now) (getD (start .args .numbers .now) 0 0) (form-room .result) (ap formingOf (sym (c .before .before .enum-told .given .1)) ∙ prime-form .ensures .0),
+      formed-few (senseOf (start .args .sense)) (start .args .sheet .now) (getD (start .args .numbers .now) 0 0) (form-room .result) (ap formingOf (sym (c .before .before .enum-told .given .1)) ∙ forming-of .ensures .0),
     )
 
 no-call-requires : tie.Need-no-call-requires
 no-call-requires c κs = search needs
 
 returns : tie.Need-returns
-unfolding formTold
+unfolding formToldIn
 returns c =
     let start = c .before .before .before .before .before in
     told-as _ (tells-nothing (start .args .out .now) (c .no-call .result) (c .no-call .ensures)) (one-other _ (start .args .numbers .now) (c .before .if1 .taken))
@@ -44,14 +45,14 @@ returns c =
 form-room-requires : tie.Need-form-room-requires
 form-room-requires c κs = search needs
 
-shared-slice-read-prime-form : tie.Need-shared-slice-read-prime-form
-shared-slice-read-prime-form c = search needs
+shared-slice-read-forming-of : tie.Need-shared-slice-read-forming-of
+shared-slice-read-forming-of c = search needs
 
-slice-aggregate-prime-form : tie.Need-slice-aggregate-prime-form
-slice-aggregate-prime-form c = search needs
+slice-aggregate-forming-of : tie.Need-slice-aggregate-forming-of
+slice-aggregate-forming-of c = search needs
 
-prime-form-requires : tie.Need-prime-form-requires
-prime-form-requires c κs = search needs
+forming-of-requires : tie.Need-forming-of-requires
+forming-of-requires c κs = search needs
 
 enum-told : tie.Need-enum-told
 enum-told c = search needs
@@ -68,8 +69,8 @@ slice-aggregate-put-counts-line c = sym (length-take-le _ _ (few (c .before)))
 put-counts-line-requires : tie.Need-put-counts-line-requires
 put-counts-line-requires c κs =
     let start = c .before .before .before .before .before .before .before .before .before .before .before .before .before .before in
-    let prime-form = c .before .before .before .before .before .before .prime-form in
-    omega (arith, start .pre, few (c .before), length-take-le (c .before .before .of-header .result .kinds) (prime-form .last .1 .1 .0) (few (c .before)))
+    let forming-of = c .before .before .before .before .before .before .forming-of in
+    omega (arith, start .pre, few (c .before), length-take-le (c .before .before .of-header .result .kinds) (forming-of .last .1 .1 .1 .0) (few (c .before)))
 
 enum-known-number : tie.Need-enum-known-number
 enum-known-number c = search needs
@@ -81,49 +82,49 @@ same-length : tie.Need-same-length
 same-length c = search needs
 
 returns-2 : tie.Need-returns-2
-unfolding formTold formText
+unfolding formToldIn formTextIn
 returns-2 c =
     let start = c .before .before .before .before .before .before .before .before .before .before .before .before .before .before .before .before .before in
     let if1 = c .before .before .before .before .before .before .before .before .before .before .before .before .before .if1 in
     let form-room = c .before .before .before .before .before .before .before .before .before .before .before .before .form-room in
-    let prime-form = c .before .before .before .before .before .before .before .before .before .prime-form in
-    let form = prime-form .last .1 .1 .0 in
+    let forming-of = c .before .before .before .before .before .before .before .before .before .forming-of in
+    let form = forming-of .last .1 .1 .1 .0 in
     let at-enum-told = c .before .before .before .before .before .before .enum-told in
     let of-header = c .before .before .before .before .before .of-header in
     let field = getD (start .args .numbers .now) 0 0 in
-    let answers = ap formingOf (sym (at-enum-told .given .1)) ∙ prime-form .ensures .0 in
+    let answers = ap formingOf (sym (at-enum-told .given .1)) ∙ forming-of .ensures .0 in
     told-as _ (tells-answer (c .before .before .put-counts-line .ensures))
     (ap (λ (x : Card). told (given (countsLine (take (x .kinds) form)))) (of-header .ensures)
-    ∙ ap told (counts-answered (kindCount (start .args .sheet .now)) (formOf (start .args .sheet .now) field) (form-room .ensures) (prime-form .ensures .1) answers)
+    ∙ ap told (counts-answered (kindCount (start .args .sheet .now)) (formingIn (senseOf (start .args .sense)) (start .args .sheet .now) field) (form-room .ensures) (forming-of .ensures .1) answers)
     ∙ one-taken _ (start .args .numbers .now) (if1 .left))
 
 same-length-2 : tie.Need-same-length-2
 same-length-2 c = search needs
 
 returns-3 : tie.Need-returns-3
-unfolding formTold formText
+unfolding formToldIn formTextIn
 returns-3 c =
     let start = c .before .before .before .before .before .before .before .before .before .before .before .before .before .before .before .before in
     let if1 = c .before .before .before .before .before .before .before .before .before .before .before .before .if1 in
     let form-room = c .before .before .before .before .before .before .before .before .before .before .before .form-room in
-    let prime-form = c .before .before .before .before .before .before .before .before .prime-form in
+    let forming-of = c .before .before .before .before .before .before .before .before .forming-of in
     let number = c .before .before .before .before .before .number in
     let field = getD (start .args .numbers .now) 0 0 in
-    let answers = ap formingOf (sym (number .given .1)) ∙ prime-form .ensures .0 in
+    let answers = ap formingOf (sym (number .given .1)) ∙ forming-of .ensures .0 in
     told-as _ (c .before .before .refuse .ensures)
-    (ap told (counts-refused (kindCount (start .args .sheet .now)) (formOf (start .args .sheet .now) field) (form-room .ensures) (prime-form .ensures .1) _ _ answers)
+    (ap told (counts-refused (kindCount (start .args .sheet .now)) (formingIn (senseOf (start .args .sense)) (start .args .sheet .now) field) (form-room .ensures) (forming-of .ensures .1) _ _ answers)
     ∙ one-taken _ (start .args .numbers .now) (if1 .left))
 
-pub field-form-spec : {M : Type 1} → statement M
-field-form-spec =
+pub tell-form-spec : {M : Type 1} → statement M
+tell-form-spec =
     tie.close
     (tie.spec
     no-call-requires
     returns
     form-room-requires
-    shared-slice-read-prime-form
-    slice-aggregate-prime-form
-    prime-form-requires
+    shared-slice-read-forming-of
+    slice-aggregate-forming-of
+    forming-of-requires
     enum-told
     of-header-requires
     array-share-prefix-form
