@@ -34,8 +34,8 @@ pub fn finer_compare(sheet: &[u8], first: usize, second: usize) -> Verdict
     compare_in(Sense::Finer, sheet, first, second)
 }
 
-// The verdict of a sense.
-fn compare_in(sense: Sense, sheet: &[u8], first: usize, second: usize) -> Verdict
+// Compare or finer Compare, by the sense.
+pub fn compare_in(sense: Sense, sheet: &[u8], first: usize, second: usize) -> Verdict
     ensures { λ r. ⌜ verdictOf r ≡ compareIn (senseOf sense) (now (sheet .entry)) first second ⌝ }
 {
     compare_settled(sense, sheet, settle_once(sense, sheet), first, second)

@@ -8,6 +8,7 @@ ghost use Rattle.model.specs.Sheet.{kindCount, cardOf};
 ghost use Rattle.model.specs.Refusal.{Accepted};
 ghost use Rattle.model.specs.Answer.{primeFormIn, formingIn, formOf, finerFormOf};
 ghost use Rattle.sheet.specs.Reader.{Reads};
+ghost use Rattle.tables.specs.Senses.{senseOf};
 ghost use Rattle.rows.specs.Stage.{BaseAt};
 ghost use Rattle.filer.specs.Answers.{formingOf};
 ghost use Rattle.filer.specs.Settlement.{IsSettlement};
@@ -26,7 +27,7 @@ pub fn prime_form(sheet: &[u8], field: usize, buffer: &mut [u64]) -> Forming
     ensures { λ r. ⌜ formingOf r ≡ formOf (now (sheet .entry)) field (now (buffer .entry)) .answer ⌝ }
     ensures { λ r. ⌜ now (buffer .exit) ≡ formOf (now (sheet .entry)) field (now (buffer .entry)) .lent ⌝ }
 {
-    form_settled(sheet, settle_once(Sense::Plain, sheet), field, buffer)
+    form_in(Sense::Plain, sheet, field, buffer)
 }
 
 // Finer Prime form, of any bytes, any field number and a buffer of any length: the prime form of the finer sense.
@@ -34,7 +35,15 @@ pub fn finer_prime_form(sheet: &[u8], field: usize, buffer: &mut [u64]) -> Formi
     ensures { λ r. ⌜ formingOf r ≡ finerFormOf (now (sheet .entry)) field (now (buffer .entry)) .answer ⌝ }
     ensures { λ r. ⌜ now (buffer .exit) ≡ finerFormOf (now (sheet .entry)) field (now (buffer .entry)) .lent ⌝ }
 {
-    form_settled(sheet, settle_once(Sense::Finer, sheet), field, buffer)
+    form_in(Sense::Finer, sheet, field, buffer)
+}
+
+// Prime form or finer Prime form, by the sense.
+pub fn form_in(sense: Sense, sheet: &[u8], field: usize, buffer: &mut [u64]) -> Forming
+    ensures { λ r. ⌜ formingOf r ≡ formingIn (senseOf sense) (now (sheet .entry)) field (now (buffer .entry)) .answer ⌝ }
+    ensures { λ r. ⌜ now (buffer .exit) ≡ formingIn (senseOf sense) (now (sheet .entry)) field (now (buffer .entry)) .lent ⌝ }
+{
+    form_settled(sheet, settle_once(sense, sheet), field, buffer)
 }
 
 // The prime form of the sense in which a sheet was settled, of any field number and a buffer of any length.

@@ -1,7 +1,6 @@
 // compare I J and finer I J.
 use filer::Verdict;
-use filer::compare::compare;
-use filer::compare::finer_compare;
+use filer::compare::compare_in;
 use replies::reply::Outcome;
 use replies::reply::Reply;
 use replies::reply::no_call;
@@ -9,10 +8,8 @@ use replies::reply::refuse;
 use tables::sense::Sense;
 use verdicts::put_different;
 use verdicts::put_same;
-ghost use mathlib.Core.Path.{_≡_};
 ghost use Prim.Native.Nat.{_≤_};
 ghost use lib.ListN.{length};
-ghost use Rattle.model.specs.Answer.{compareIn};
 ghost use Rattle.tables.specs.Senses.{senseOf};
 ghost use Rattle.filer.specs.Answers.{verdictOf};
 ghost use Rattle.replies.specs.Told.{told, Tells};
@@ -44,16 +41,6 @@ fn put_verdict(out: &mut [u8], verdict: Verdict) -> Reply
     }
 }
 
-// Compare or finer Compare, by the sense.
-fn verdict_of(sense: Sense, sheet: &[u8], first: usize, second: usize) -> Verdict
-    ensures { λ r. ⌜ verdictOf r ≡ compareIn (senseOf sense) (now (sheet .entry)) first second ⌝ }
-{
-    match sense {
-        Sense::Plain => compare(sheet, first, second),
-        Sense::Finer => finer_compare(sheet, first, second),
-    }
-}
-
 // The verdict of a sense on two fields.
 fn tell_verdict(sense: Sense, sheet: &[u8], numbers: &[u64], out: &mut [u8]) -> Reply
     requires { ⌜ mostText ≤ length (now out) ⌝ }
@@ -62,7 +49,7 @@ fn tell_verdict(sense: Sense, sheet: &[u8], numbers: &[u64], out: &mut [u8]) -> 
     if numbers.len() != 2 {
         return no_call();
     }
-    let verdict = verdict_of(sense, sheet, numbers[0] as usize, numbers[1] as usize);
+    let verdict = compare_in(sense, sheet, numbers[0] as usize, numbers[1] as usize);
     put_verdict(out, verdict)
 }
 

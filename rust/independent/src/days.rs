@@ -4,6 +4,7 @@
 
 use std::collections::BTreeMap;
 
+use crate::asked::hold;
 use crate::calls::{Answer, Call, Day, Implementation, Lent, Made, day, sheets};
 use crate::random::Random;
 use crate::walker::DESKS;
@@ -42,12 +43,8 @@ pub fn play_days(seed: u64, numbers: std::ops::Range<u64>, implementation: Imple
         for desk in 0..DESKS.min(day.entries) {
             let own = day.of_desk(desk);
             played.beside_others += u64::from(!own.walks.is_empty() && own.walks.len() < day.walks.len());
-            if !sums_to_the_loss(&day, &made, desk) {
-                *played.broken.entry(Promise::Loss).or_default() += 1;
-            }
-            if !is_as_alone(&day, &made, desk, &play(&own)) {
-                *played.broken.entry(Promise::Alone).or_default() += 1;
-            }
+            hold(&mut played.broken, Promise::Loss, sums_to_the_loss(&day, &made, desk));
+            hold(&mut played.broken, Promise::Alone, is_as_alone(&day, &made, desk, &play(&own)));
         }
     }
     played

@@ -5,11 +5,9 @@
 use std::collections::BTreeMap;
 use std::ops::Range;
 
-use crate::calls::{Implementation, form_of, verdict_of};
+use crate::asked::{Asked, ask_each, hold};
+use crate::calls::Implementation;
 use crate::filer::Verdict;
-use crate::generator::sample;
-use crate::norm::{NormedCard, accept};
-use crate::random::Random;
 use crate::sense::Sense;
 use crate::shelf::tokens_of;
 
@@ -58,59 +56,31 @@ pub struct Tried {
 /// Asks some questions on the sheets of some numbers of a seed, and looks at what is answered.
 pub fn try_finer(seed: u64, numbers: Range<u64>, implementation: Implementation) -> Tried {
     let mut tried = Tried::default();
-    for number in numbers {
-        let bytes = sample(seed, number).bytes;
-        let Ok(normed) = accept(&bytes) else { continue };
-        let asked = Asked { bytes: &bytes, normed: &normed, implementation };
-        let mut random = Random::new(seed.rotate_left(32) ^ number);
+    ask_each(seed, numbers, implementation, |asked, random| {
+        let (fields, reached) = (asked.normed.card.fields, &asked.normed.reached);
         tried.sheets += 1;
-        for _ in 0..4 * usize::from(normed.card.fields > 0) {
-            let first = random.below(normed.card.fields);
-            asked.try_pair(first, random.below(normed.card.fields), &mut tried);
-            asked.try_pair(first, (first + 1) % normed.card.fields, &mut tried);
-            asked.try_form(first, &mut tried);
+        for _ in 0..4 * usize::from(fields > 0) {
+            let first = random.below(fields);
+            tried.try_pair(asked, first, random.below(fields));
+            tried.try_pair(asked, first, (first + 1) % fields);
+            tried.try_form(asked, first);
         }
-        for _ in 0..2 * usize::from(!normed.reached.is_empty()) {
-            asked.try_row(random.choose(&normed.reached), &mut tried);
+        for _ in 0..2 * usize::from(!reached.is_empty()) {
+            tried.try_row(asked, random.choose(reached));
         }
-    }
+    });
     tried
 }
 
-/// An accepted sheet, and who is asked.
-struct Asked<'a> {
-    bytes: &'a [u8],
-    normed: &'a NormedCard<'a>,
-    implementation: Implementation,
-}
-
 impl Tried {
-    /// Counts a promise that is not kept.
-    fn hold(&mut self, promise: Promise, kept: bool) {
-        if !kept {
-            *self.broken.entry(promise).or_default() += 1;
-        }
-    }
-}
-
-impl Asked<'_> {
-    /// The verdict on two fields of a sheet.
-    fn verdict(&self, sense: Sense, bytes: &[u8], first: usize, second: usize) -> Verdict {
-        verdict_of(self.implementation, sense, bytes, first, second)
-    }
-
-    /// The prime form of a field of a sheet.
-    fn form(&self, sense: Sense, bytes: &[u8], field: usize) -> Vec<u64> {
-        form_of(self.implementation, sense, bytes, field, self.normed.card.kinds)
-    }
-
     /// Asks for the verdicts on two fields, and for their finer prime forms.
-    fn try_pair(&self, first: usize, second: usize, tried: &mut Tried) {
-        let [plain, finer] = Sense::BOTH.map(|sense| self.verdict(sense, self.bytes, first, second));
-        let counts = [first, second].map(|field| self.normed.card.field(field));
-        let forms = [first, second].map(|field| self.form(Sense::Finer, self.bytes, field));
+    fn try_pair(&mut self, asked: &Asked, first: usize, second: usize) {
+        let [plain, finer] = Sense::BOTH.map(|sense| asked.verdict(sense, asked.bytes, first, second));
+        let counts = [first, second].map(|field| asked.normed.card.field(field));
+        let forms = [first, second].map(|field| asked.form(Sense::Finer, asked.bytes, field));
         let equal_totals = tokens_of(&counts[0]) == tokens_of(&counts[1]);
-        tried.hold(
+        hold(
+            &mut self.broken,
             Promise::ImpliesSame,
             match (plain, finer) {
                 (Verdict::Same, _) => true,
@@ -121,45 +91,49 @@ impl Asked<'_> {
                 ) => finer_stage < stage || (finer_stage, finer_rounds) == (stage, rounds),
             },
         );
-        tried.hold(Promise::Totals, equal_totals || matches!(finer, Verdict::Different { stage: 0, .. }));
-        tried.hold(Promise::Forms, (forms[0] == forms[1]) == (finer == Verdict::Same));
-        tried.pairs += 1;
-        tried.finer_same += u64::from(finer == Verdict::Same && counts[0] != counts[1]);
-        tried.unequal_totals += u64::from(plain == Verdict::Same && !equal_totals);
-        tried.later +=
+        hold(&mut self.broken, Promise::Totals, equal_totals || matches!(finer, Verdict::Different { stage: 0, .. }));
+        hold(&mut self.broken, Promise::Forms, (forms[0] == forms[1]) == (finer == Verdict::Same));
+        self.pairs += 1;
+        self.finer_same += u64::from(finer == Verdict::Same && counts[0] != counts[1]);
+        self.unequal_totals += u64::from(plain == Verdict::Same && !equal_totals);
+        self.later +=
             u64::from(plain == Verdict::Same && matches!(finer, Verdict::Different { stage, .. } if stage > 0));
     }
 
     /// Asks for the finer prime form of a field, and for the verdict on the two.
-    fn try_form(&self, field: usize, tried: &mut Tried) {
-        let (card, counts) = (&self.normed.card, self.normed.card.field(field));
-        let form = self.form(Sense::Finer, self.bytes, field);
-        tried.hold(Promise::OwnForm, tokens_of(&form) == tokens_of(&counts));
-        if let Some(bytes) = card.with_field(self.bytes, &form) {
-            tried.hold(Promise::OwnForm, self.verdict(Sense::Finer, &bytes, field, card.fields) == Verdict::Same);
-            tried.hold(Promise::OwnForm, self.form(Sense::Finer, &bytes, card.fields) == form);
-            tried.forms += 1;
-            tried.of_other_counts += u64::from(form != counts);
+    fn try_form(&mut self, asked: &Asked, field: usize) {
+        let (card, counts) = (&asked.normed.card, asked.normed.card.field(field));
+        let form = asked.form(Sense::Finer, asked.bytes, field);
+        hold(&mut self.broken, Promise::OwnForm, tokens_of(&form) == tokens_of(&counts));
+        if let Some(bytes) = card.with_field(asked.bytes, &form) {
+            hold(
+                &mut self.broken,
+                Promise::OwnForm,
+                asked.verdict(Sense::Finer, &bytes, field, card.fields) == Verdict::Same,
+            );
+            hold(&mut self.broken, Promise::OwnForm, asked.form(Sense::Finer, &bytes, card.fields) == form);
+            self.forms += 1;
+            self.of_other_counts += u64::from(form != counts);
         }
     }
 
     /// Asks for the finer prime form of one token of a kind, and of the token that it is.
-    fn try_row(&self, kind: usize, tried: &mut Tried) {
-        let (kinds, fields, norms) = (self.normed.card.kinds, self.normed.card.fields, &self.normed.norms);
+    fn try_row(&mut self, asked: &Asked, kind: usize) {
+        let (kinds, fields, norms) = (asked.normed.card.kinds, asked.normed.card.fields, &asked.normed.norms);
         let token = |kind: usize| -> Vec<u64> { (0..kinds).map(|other| u64::from(other == kind)).collect() };
-        let Some(bytes) = self.normed.card.with_field(self.bytes, &token(kind)) else { return };
-        let row = self.form(Sense::Finer, &bytes, fields);
+        let Some(bytes) = asked.normed.card.with_field(asked.bytes, &token(kind)) else { return };
+        let row = asked.form(Sense::Finer, &bytes, fields);
         let held = row.iter().position(|&count| count > 0);
         let is_one_token = held.is_some_and(|held| {
-            let own = self.normed.card.with_field(self.bytes, &token(held)).expect("room for a field");
+            let own = asked.normed.card.with_field(asked.bytes, &token(held)).expect("room for a field");
             row == token(held)
                 && norms[held] == norms[kind]
                 && held <= kind
-                && self.form(Sense::Finer, &own, fields) == row
+                && asked.form(Sense::Finer, &own, fields) == row
         });
-        tried.hold(Promise::OneToken, is_one_token);
-        tried.rows += 1;
-        tried.of_earlier += u64::from(held != Some(kind));
-        tried.products += u64::from(held == Some(kind) && self.form(Sense::Plain, &bytes, fields) != row);
+        hold(&mut self.broken, Promise::OneToken, is_one_token);
+        self.rows += 1;
+        self.of_earlier += u64::from(held != Some(kind));
+        self.products += u64::from(held == Some(kind) && asked.form(Sense::Plain, &bytes, fields) != row);
     }
 }

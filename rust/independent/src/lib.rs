@@ -3,6 +3,8 @@
 //! and document 000 (Hirshfeld, Jerrum, Moller, 1996, the algorithm). It shares no code with the verified library. The tests hold the two against each other, and the measurements compare
 //! their times. Sentences in quotes are these documents' own.
 
+/// Questions on accepted sheets, and the promises that the answers keep or break.
+pub mod asked;
 /// The decomposition base from stage to stage: document 000's algorithm.
 pub mod base;
 /// Calls as values, the buffers that they lend, and one call after another on two implementations.

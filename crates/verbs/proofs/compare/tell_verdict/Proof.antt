@@ -18,14 +18,14 @@ returns c =
     let start = c .before .before .before .before .before in
     told-as _ (tells-nothing (start .args .out .now) (c .no-call .result) (c .no-call .ensures)) (two-other _ (start .args .numbers .now) (c .before .if1 .taken))
 
-shared-slice-read-verdict-of : tie.Need-shared-slice-read-verdict-of
-shared-slice-read-verdict-of c = search needs
+shared-slice-read-compare-in : tie.Need-shared-slice-read-compare-in
+shared-slice-read-compare-in c = search needs
 
-shared-slice-read-verdict-of-2 : tie.Need-shared-slice-read-verdict-of-2
-shared-slice-read-verdict-of-2 c = search needs
+shared-slice-read-compare-in-2 : tie.Need-shared-slice-read-compare-in-2
+shared-slice-read-compare-in-2 c = search needs
 
-verdict-of-requires : tie.Need-verdict-of-requires
-verdict-of-requires c κs = search needs
+compare-in-requires : tie.Need-compare-in-requires
+compare-in-requires c κs = search needs
 
 put-verdict-requires : tie.Need-put-verdict-requires
 put-verdict-requires c κs = search needs
@@ -38,8 +38,8 @@ unfolding compareToldIn compareTextIn
 returns-2 c =
     let start = c .before .before .before .before .before .before .before .before .before .before .before in
     let if1 = c .before .before .before .before .before .before .before .if1 in
-    let verdict-of = c .before .before .before .before .verdict-of in
-    told-as _ (c .before .before .put-verdict .ensures) (ap (λ a. told (verdictText a)) (verdict-of .ensures) ∙ two-taken _ (start .args .numbers .now) (if1 .left))
+    let compare-in = c .before .before .before .before .compare-in in
+    told-as _ (c .before .before .put-verdict .ensures) (ap (λ a. told (verdictText a)) (compare-in .ensures) ∙ two-taken _ (start .args .numbers .now) (if1 .left))
 
 pub tell-verdict-spec : {M : Type 1} → statement M
 tell-verdict-spec =
@@ -47,9 +47,9 @@ tell-verdict-spec =
     (tie.spec
     no-call-requires
     returns
-    shared-slice-read-verdict-of
-    shared-slice-read-verdict-of-2
-    verdict-of-requires
+    shared-slice-read-compare-in
+    shared-slice-read-compare-in-2
+    compare-in-requires
     put-verdict-requires
     same-length
     returns-2)

@@ -22,15 +22,15 @@ use Rattle.verbs.proofs.form.tell_form.Statement.{statement}
 use Rattle.verbs.proofs.form.tell_form.Tie as tie
 
 -- The sheet was accepted, so that the room suffices.
-few : (c : tie.After-put-counts-line-arg) → let forming-of = c .before .before .before .before .before .forming-of in c .before .of-header .result .kinds ≤ length (forming-of .last .1 .1 .1 .0)
+few : (c : tie.After-put-counts-line-arg) → let form-in = c .before .before .before .before .before .form-in in c .before .of-header .result .kinds ≤ length (form-in .last .1 .1 .1 .0)
 few c =
     let start = c .before .before .before .before .before .before .before .before .before .before .before .before .before in
     let form-room = c .before .before .before .before .before .before .before .before .form-room in
-    let forming-of = c .before .before .before .before .before .forming-of in
+    let form-in = c .before .before .before .before .before .form-in in
     omega (
       arith,
       ap (λ (x : Card). x .kinds) (c .before .of-header .ensures),
-      formed-few (senseOf (start .args .sense)) (start .args .sheet .now) (getD (start .args .numbers .now) 0 0) (form-room .result) (ap formingOf (sym (c .before .before .enum-told .given .1)) ∙ forming-of .ensures .0),
+      formed-few (senseOf (start .args .sense)) (start .args .sheet .now) (getD (start .args .numbers .now) 0 0) (form-room .result) (ap formingOf (sym (c .before .before .enum-told .given .1)) ∙ form-in .ensures .0),
     )
 
 no-call-requires : tie.Need-no-call-requires
@@ -45,14 +45,14 @@ returns c =
 form-room-requires : tie.Need-form-room-requires
 form-room-requires c κs = search needs
 
-shared-slice-read-forming-of : tie.Need-shared-slice-read-forming-of
-shared-slice-read-forming-of c = search needs
+shared-slice-read-form-in : tie.Need-shared-slice-read-form-in
+shared-slice-read-form-in c = search needs
 
-slice-aggregate-forming-of : tie.Need-slice-aggregate-forming-of
-slice-aggregate-forming-of c = search needs
+slice-aggregate-form-in : tie.Need-slice-aggregate-form-in
+slice-aggregate-form-in c = search needs
 
-forming-of-requires : tie.Need-forming-of-requires
-forming-of-requires c κs = search needs
+form-in-requires : tie.Need-form-in-requires
+form-in-requires c κs = search needs
 
 enum-told : tie.Need-enum-told
 enum-told c = search needs
@@ -69,8 +69,8 @@ slice-aggregate-put-counts-line c = sym (length-take-le _ _ (few (c .before)))
 put-counts-line-requires : tie.Need-put-counts-line-requires
 put-counts-line-requires c κs =
     let start = c .before .before .before .before .before .before .before .before .before .before .before .before .before .before in
-    let forming-of = c .before .before .before .before .before .before .forming-of in
-    omega (arith, start .pre, few (c .before), length-take-le (c .before .before .of-header .result .kinds) (forming-of .last .1 .1 .1 .0) (few (c .before)))
+    let form-in = c .before .before .before .before .before .before .form-in in
+    omega (arith, start .pre, few (c .before), length-take-le (c .before .before .of-header .result .kinds) (form-in .last .1 .1 .1 .0) (few (c .before)))
 
 enum-known-number : tie.Need-enum-known-number
 enum-known-number c = search needs
@@ -87,15 +87,15 @@ returns-2 c =
     let start = c .before .before .before .before .before .before .before .before .before .before .before .before .before .before .before .before .before in
     let if1 = c .before .before .before .before .before .before .before .before .before .before .before .before .before .if1 in
     let form-room = c .before .before .before .before .before .before .before .before .before .before .before .before .form-room in
-    let forming-of = c .before .before .before .before .before .before .before .before .before .forming-of in
-    let form = forming-of .last .1 .1 .1 .0 in
+    let form-in = c .before .before .before .before .before .before .before .before .before .form-in in
+    let form = form-in .last .1 .1 .1 .0 in
     let at-enum-told = c .before .before .before .before .before .before .enum-told in
     let of-header = c .before .before .before .before .before .of-header in
     let field = getD (start .args .numbers .now) 0 0 in
-    let answers = ap formingOf (sym (at-enum-told .given .1)) ∙ forming-of .ensures .0 in
+    let answers = ap formingOf (sym (at-enum-told .given .1)) ∙ form-in .ensures .0 in
     told-as _ (tells-answer (c .before .before .put-counts-line .ensures))
     (ap (λ (x : Card). told (given (countsLine (take (x .kinds) form)))) (of-header .ensures)
-    ∙ ap told (counts-answered (kindCount (start .args .sheet .now)) (formingIn (senseOf (start .args .sense)) (start .args .sheet .now) field) (form-room .ensures) (forming-of .ensures .1) answers)
+    ∙ ap told (counts-answered (kindCount (start .args .sheet .now)) (formingIn (senseOf (start .args .sense)) (start .args .sheet .now) field) (form-room .ensures) (form-in .ensures .1) answers)
     ∙ one-taken _ (start .args .numbers .now) (if1 .left))
 
 same-length-2 : tie.Need-same-length-2
@@ -107,12 +107,12 @@ returns-3 c =
     let start = c .before .before .before .before .before .before .before .before .before .before .before .before .before .before .before .before in
     let if1 = c .before .before .before .before .before .before .before .before .before .before .before .before .if1 in
     let form-room = c .before .before .before .before .before .before .before .before .before .before .before .form-room in
-    let forming-of = c .before .before .before .before .before .before .before .before .forming-of in
+    let form-in = c .before .before .before .before .before .before .before .before .form-in in
     let number = c .before .before .before .before .before .number in
     let field = getD (start .args .numbers .now) 0 0 in
-    let answers = ap formingOf (sym (number .given .1)) ∙ forming-of .ensures .0 in
+    let answers = ap formingOf (sym (number .given .1)) ∙ form-in .ensures .0 in
     told-as _ (c .before .before .refuse .ensures)
-    (ap told (counts-refused (kindCount (start .args .sheet .now)) (formingIn (senseOf (start .args .sense)) (start .args .sheet .now) field) (form-room .ensures) (forming-of .ensures .1) _ _ answers)
+    (ap told (counts-refused (kindCount (start .args .sheet .now)) (formingIn (senseOf (start .args .sense)) (start .args .sheet .now) field) (form-room .ensures) (form-in .ensures .1) _ _ answers)
     ∙ one-taken _ (start .args .numbers .now) (if1 .left))
 
 pub tell-form-spec : {M : Type 1} → statement M
@@ -122,9 +122,9 @@ tell-form-spec =
     no-call-requires
     returns
     form-room-requires
-    shared-slice-read-forming-of
-    slice-aggregate-forming-of
-    forming-of-requires
+    shared-slice-read-form-in
+    slice-aggregate-form-in
+    form-in-requires
     enum-told
     of-header-requires
     array-share-prefix-form

@@ -1,0 +1,52 @@
+//! Questions on accepted sheets, put to an implementation, and the promises that its answers keep or break.
+
+use std::collections::BTreeMap;
+use std::ops::Range;
+
+use crate::calls::{Implementation, form_of, verdict_of};
+use crate::filer::Verdict;
+use crate::generator::sample;
+use crate::norm::{NormedCard, accept};
+use crate::random::Random;
+use crate::sense::Sense;
+
+/// An accepted sheet, and who is asked.
+pub struct Asked<'a> {
+    pub bytes: &'a [u8],
+    pub normed: &'a NormedCard<'a>,
+    pub implementation: Implementation,
+}
+
+impl Asked<'_> {
+    /// The verdict on two fields of a sheet.
+    pub fn verdict(&self, sense: Sense, bytes: &[u8], first: usize, second: usize) -> Verdict {
+        verdict_of(self.implementation, sense, bytes, first, second)
+    }
+
+    /// The prime form of a field of a sheet of as many kinds.
+    pub fn form(&self, sense: Sense, bytes: &[u8], field: usize) -> Vec<u64> {
+        form_of(self.implementation, sense, bytes, field, self.normed.card.kinds)
+    }
+}
+
+/// Asks on each accepted one of the sheets of some numbers of a seed.
+pub fn ask_each(
+    seed: u64,
+    numbers: Range<u64>,
+    implementation: Implementation,
+    mut ask: impl FnMut(&Asked, &mut Random),
+) {
+    for number in numbers {
+        let bytes = sample(seed, number).bytes;
+        let Ok(normed) = accept(&bytes) else { continue };
+        let asked = Asked { bytes: &bytes, normed: &normed, implementation };
+        ask(&asked, &mut Random::new(seed.rotate_left(32) ^ number));
+    }
+}
+
+/// Counts a promise that is not kept.
+pub fn hold<Promise: Ord>(broken: &mut BTreeMap<Promise, u64>, promise: Promise, kept: bool) {
+    if !kept {
+        *broken.entry(promise).or_default() += 1;
+    }
+}
