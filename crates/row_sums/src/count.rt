@@ -51,10 +51,9 @@ pub fn count_fields(rows: &[u64], kinds: &[usize], size: usize, counts: &[u64]) 
     while i < kinds.len() {
         let kind = kinds[i];
         let rest = less_row(counts, form_of(rows, kind));
-        let left = rest.counts;
         i += 1;
         if rest.fits {
-            found += count_fields(rows, &kinds[..i], size - 1, &left);
+            found += count_fields(rows, &kinds[..i], size - 1, &rest.counts);
         }
     }
     found

@@ -7,7 +7,7 @@ ghost use lib.ListN.{length};
 ghost use Rattle.model.specs.Field.{_⊕_, at};
 ghost use Rattle.model.specs.Limits.{mostKinds};
 
-// Whether a row goes into counts, and what is left of them then; no counts where it does not.
+// Whether a row goes into counts, and, where it does, what is left of them. Where it does not, the counts say nothing.
 pub struct Rest {
     pub fits: bool,
     pub counts: [u64; 32],
