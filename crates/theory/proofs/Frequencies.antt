@@ -1,0 +1,186 @@
+-- How common each answer is, of a field of an accepted sheet: stages are nested, so that the counts come from how many fields each stage relates to it.
+use mathlib.Core.Bool.{Bool, true}
+use mathlib.Core.List.{List, List·Memᴰ}
+use mathlib.Core.Logic.{_↔_}
+use mathlib.Core.Path.{_≡_, refl, sym, _∙_, ap, fun-ext}
+use Prim.Native.Nat.{ℕ, zero, suc, _+_, _≤_, _<_}
+use native.Mathlib.Decide.{decLt}
+use native.Mathlib.Omega.{arith}
+use lib.Dec.{T, eqb}
+use lib.ListN.{length}
+use Rattle.model.specs.Finite.{keep, below}
+use Rattle.model.specs.Sense.{plain}
+use Rattle.model.specs.Field.{Field}
+use Rattle.model.specs.Card.{Card, reachedCount}
+use Rattle.model.specs.Norm.{kindNorm, norm}
+use Rattle.model.specs.Stage.{stageIn}
+use Rattle.model.specs.Base.{settledStage, stageFormIn, formAt}
+use Rattle.model.specs.Limits.{mostKinds}
+use Rattle.model.specs.Shelf.{entry, shelf, agree}
+use Rattle.model.specs.Sheet.{kindCount, cardOf, fieldOf}
+use Rattle.model.specs.Refusal.{Accepted}
+use Rattle.model.specs.Answer.{Verdict, same, different, verdictIn, verdictPlace, judgedAt}
+use Rattle.theory.specs.Terms.{OfKinds}
+use Rattle.theory.specs.Frequencies.{relatedTo}
+use Rattle.theory.proofs.Field.{weigh-some}
+use Rattle.theory.proofs.Normed.{Normed}
+use Rattle.theory.proofs.Stages.{Stage}
+use Rattle.theory.proofs.Consequences.{Parts, settled-stays, stage-down}
+use Rattle.theory.proofs.Exec.{Tells, tells-map, tells-eq}
+use Rattle.theory.proofs.Lists.{below-mem}
+use Rattle.theory.proofs.Numbering.{tells-same, tells-agree}
+use Rattle.theory.proofs.Counting.{count, one-parts, count-same, count-parts, count-all}
+use Rattle.theory.proofs.Senses.{tidy, zeroth, tells-in, same-iff, different-parts, parts-verdict}
+use Rattle.theory.proofs.Sheets.{sheet-clear, under-kinds, certified, field-kinds}
+use Rattle.theory.proofs.Limits.{accepted-limits}
+use Rattle.theory.proofs.Shelves.{shelves}
+use Rattle.theory.proofs.Verdicts
+use Rattle.theory.proofs.Verdicts.{L, field-tidy}
+use Rattle.theory.proofs.Settling.{row-kinds}
+use Rattle.theory.proofs.Program.{stage-forms}
+
+-- The verdict of a place.
+place-same : (x : Verdict) → verdictPlace x ≡ 0 → x ≡ same
+unfolding verdictPlace
+place-same same e = refl
+place-same (different q r) e = absurd (omega arith)
+
+place-different : (x : Verdict) (q : ℕ) → verdictPlace x ≡ suc q → (r : ℕ) × (x ≡ different q r)
+unfolding verdictPlace
+place-different same q e = absurd (omega arith)
+place-different (different d r) q e = let z : d ≡ q = omega arith in (r, ap (λ n. different n r) z)
+
+module _ (s : List ℕ) (ok : Accepted s) (i : ℕ) where
+  abbrev c : Card
+  c = cardOf s
+
+  abbrev w : ℕ → ℕ
+  w = kindNorm (cardOf s)
+
+  abbrev a : Field
+  a = fieldOf s i
+
+  abbrev N : Normed
+  N = Verdicts.N plain s ok
+
+  -- The field is of reached kinds.
+  a-kinds : OfKinds c a
+  a-kinds = field-kinds s (sheet-clear s ok) i
+
+  -- The place of the verdict on another field.
+  abbrev place : Field → ℕ
+  place b = verdictPlace (verdictIn plain c w a b)
+
+  -- Stage q relates them, and the test of it.
+  abbrev At : ℕ → Field → Type 0
+  At q b = Stage N q a b
+
+  abbrev related : ℕ → Field → Bool
+  related q = stageIn plain c w q a
+
+  tells : (q : ℕ) (b : Field) → Tells (related q b) (At q b)
+  tells q b = tells-in plain c w (certified s ok) q a b
+
+  -- Every stage before q relates them.
+  before : ℕ → Field → Bool
+  before zero = λ _. true
+  before (suc q) = related q
+
+  tells-before : (q : ℕ) (b : Field) → Tells (before q b) ((r : ℕ) → r < q → At r b)
+  unfolding before
+  tells-before zero b = record { fact = λ _ r h. absurd (omega arith); test = λ _. tt }
+  tells-before (suc q) b = tells-map (λ h r l. stage-down N q r a b (omega arith) h) (λ f. f q (omega arith)) (tells q b)
+
+  module _ (b : Field) (v : OfKinds c b) where
+    place-zero : (place b ≡ 0) ↔ At (settledStage c) b
+    unfolding verdictPlace
+    place-zero =
+        let x = same-iff plain c w (certified s ok) (settledStage c) (L plain s ok .most) (L plain s ok .settled) a b (field-tidy plain s ok i) (tidy plain c w (certified s ok) b v) in
+        ((λ e. x .0 (place-same _ e)), (λ h. ap verdictPlace (x .1 h)))
+
+    place-next : (q : ℕ) → (place b ≡ suc q) ↔ Parts N q a b
+    unfolding verdictPlace
+    place-next q =
+        let u = field-tidy plain s ok i in
+        let y = tidy plain c w (certified s ok) b v in (
+          (λ e. let x = place-different _ q e in different-parts plain c w (certified s ok) (settledStage c) (L plain s ok .most) (L plain s ok .settled) a b u y q (x .0) (x .1) .3),
+          (λ p. ap verdictPlace (parts-verdict plain c w (certified s ok) (settledStage c) (L plain s ok .most) (L plain s ok .settled) a b u y q p)),
+        )
+
+    -- What the settled stage relates every stage does.
+    stays : At (settledStage c) b → (q : ℕ) → At q b
+    stays h q = settled-stays N (settledStage c) (L plain s ok .settled) q a b (field-tidy plain s ok i) (tidy plain c w (certified s ok) b v) h
+
+  module _ (t : ℕ) where
+    listed-kinds : (b : Field) → List·Memᴰ b (shelf c t) → OfKinds c b
+    listed-kinds b m = shelves s t .fields b .0 m .0
+
+    -- Those that part at stage q, and those that it relates, are those that every stage before relates.
+    part-at : (q : ℕ) → length (judgedAt c a t (suc q)) + relatedTo c a t q ≡ count (before q) (shelf c t)
+    unfolding judgedAt relatedTo
+    part-at q = count-parts (λ b. eqb (place b) (suc q)) (related q) (before q) (shelf c t) (λ b m.
+        let p = place-next b (listed-kinds b m) q in
+        one-parts (eqb (place b) (suc q)) (related q b) (before q b)
+        (λ x. let y = p .0 (tells-eq (place b) (suc q) .fact x) in (tells-before q b .test (y .1), λ z. y .0 (tells q b .fact z)))
+        (λ x n. tells-eq (place b) (suc q) .test (p .1 ((λ h. n (tells q b .test h)), tells-before q b .fact x)))
+        (λ x. tells-before q b .test (λ r l. stage-down N q r a b (omega arith) (tells q b .fact x))))
+
+    pub related-first : length (judgedAt c a t 1) + relatedTo c a t 0 ≡ entry (reachedCount c) t
+    unfolding before
+    related-first = part-at 0 ∙ count-all (shelf c t) ∙ shelves s t .many
+
+    pub related-next : (q : ℕ) → length (judgedAt c a t (suc (suc q))) + relatedTo c a t (suc q) ≡ relatedTo c a t q
+    unfolding before relatedTo
+    related-next q = part-at (suc q)
+
+    -- From the settled stage on nothing changes.
+    pub related-settled : (q : ℕ) → settledStage c ≤ q → relatedTo c a t q ≡ relatedTo c a t (settledStage c)
+    unfolding relatedTo
+    related-settled q h = count-same (related q) (related (settledStage c)) (shelf c t) (λ b m.
+        tells-same (related q b) (related (settledStage c) b) (tells q b) (tells (settledStage c) b)
+        (stage-down N q (settledStage c) a b h) (λ x. stays b (listed-kinds b m) x q))
+
+    -- The same are those that the settled stage relates, and so every later one.
+    settled-same : length (judgedAt c a t 0) ≡ relatedTo c a t (settledStage c)
+    unfolding judgedAt relatedTo
+    settled-same = count-same (λ b. eqb (place b) 0) (related (settledStage c)) (shelf c t) (λ b m.
+        let z = place-zero b (listed-kinds b m) in
+        tells-same (eqb (place b) 0) (related (settledStage c) b) (tells-eq (place b) 0) (tells (settledStage c) b) (z .0) (z .1))
+
+    pub related-same : (q : ℕ) → settledStage c ≤ q → length (judgedAt c a t 0) ≡ relatedTo c a t q
+    related-same q h = settled-same ∙ sym (related-settled q h)
+
+    -- As a program tests it: equal norms at stage 0, equal forms at each later stage.
+    pub related-norms : relatedTo c a t 0 ≡ length (keep (λ b. eqb (norm c b) (norm c a)) (shelf c t))
+    unfolding relatedTo
+    related-norms = count-same (related 0) (λ b. eqb (norm c b) (norm c a)) (shelf c t) (λ b m.
+        let z = zeroth plain c w (certified s ok) a b in
+        tells-same (related 0 b) (eqb (norm c b) (norm c a)) (tells 0 b) (tells-eq (norm c b) (norm c a)) (λ h. sym (z .0 h)) (λ e. z .1 (sym e)))
+
+    abbrev form : ℕ → Field → Field
+    form q = stageFormIn plain c (suc q)
+
+    -- A form has tokens of the kinds of the sheet alone.
+    form-under : (q : ℕ) (b : Field) → OfKinds c b → (j : ℕ) → 0 < form q b j → j < mostKinds
+    unfolding formAt
+    form-under q b v j h =
+        let k = weigh-some (c .kinds) _ b h in
+        omega (arith, under-kinds s j (row-kinds plain c (certified s ok) q (k .0) (v (k .0) (k .2)) j (k .3)), accepted-limits s ok .kinds .1)
+
+    forms-same : (q : ℕ) (b : Field) → OfKinds c b → ((j : ℕ) → List·Memᴰ j (below mostKinds) → form q b j ≡ form q a j) → form q a ≡ form q b
+    forms-same q b v f = fun-ext (λ j. go j (decLt 0 (form q a j)) (decLt 0 (form q b j)))
+      where
+        go : (j : ℕ) → Dec (0 < form q a j) → Dec (0 < form q b j) → form q a j ≡ form q b j
+        go j (yes h) _ = sym (f j (below-mem mostKinds j (form-under q a a-kinds j h)))
+        go j (no h) (yes k) = sym (f j (below-mem mostKinds j (form-under q b v j k)))
+        go j (no h) (no k) = omega arith
+
+    pub related-forms : (q : ℕ)
+        → relatedTo c a t (suc q) ≡ length (keep (λ b. agree (below mostKinds) (stageFormIn plain c (suc q) b) (stageFormIn plain c (suc q) a)) (shelf c t))
+    unfolding relatedTo
+    related-forms q = count-same (related (suc q)) (λ b. agree (below mostKinds) (form q b) (form q a)) (shelf c t) (λ b m.
+        let v = listed-kinds b m in
+        let z = stage-forms plain c w (certified s ok) q a b a-kinds v in
+        tells-same (related (suc q) b) (agree (below mostKinds) (form q b) (form q a))
+        (record { fact = z .0; test = z .1 }) (tells-agree (below mostKinds) (form q b) (form q a))
+        (λ e j _. ap (λ (f : Field). f j) (sym e)) (forms-same q b v))
