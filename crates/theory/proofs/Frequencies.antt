@@ -7,35 +7,38 @@ use Prim.Native.Nat.{ℕ, zero, suc, _+_, _≤_, _<_}
 use native.Mathlib.Decide.{decLt}
 use native.Mathlib.Omega.{arith}
 use lib.Dec.{T, eqb}
-use lib.ListN.{length}
-use Rattle.model.specs.Finite.{keep, below}
+use lib.ListN.{length, getD}
+use Rattle.model.specs.Finite.{keep, listFrom, below, sum}
 use Rattle.model.specs.Sense.{plain}
-use Rattle.model.specs.Field.{Field}
-use Rattle.model.specs.Card.{Card, reachedCount}
+use Rattle.model.specs.Field.{Field, none, at}
+use Rattle.model.specs.Card.{Card, On, reachedCount}
 use Rattle.model.specs.Norm.{kindNorm, norm}
 use Rattle.model.specs.Stage.{stageIn}
 use Rattle.model.specs.Base.{settledStage, stageFormIn, formAt}
 use Rattle.model.specs.Limits.{mostKinds}
-use Rattle.model.specs.Shelf.{entry, shelf, agree}
+use Rattle.model.specs.Shelf.{entry, shelf, lastFirst, agree}
 use Rattle.model.specs.Sheet.{kindCount, cardOf, fieldOf}
 use Rattle.model.specs.Refusal.{Accepted}
-use Rattle.model.specs.Answer.{Verdict, same, different, verdictIn, verdictPlace, judgedAt}
-use Rattle.theory.specs.Terms.{OfKinds}
-use Rattle.theory.specs.Frequencies.{relatedTo}
+use Rattle.model.specs.Answer.{Verdict, same, different, verdictIn, verdictPlace, judgedAt, frequencies}
+use Rattle.theory.specs.Expansion.{Bisimilar}
+use Rattle.theory.specs.Terms.{OfKinds, StageIn}
+use Rattle.theory.specs.Shelves.{Precedes}
+use Rattle.theory.specs.Frequencies.{OfSize, Frequencies, relatedTo}
 use Rattle.theory.proofs.Field.{weigh-some}
 use Rattle.theory.proofs.Normed.{Normed}
 use Rattle.theory.proofs.Stages.{Stage}
 use Rattle.theory.proofs.Consequences.{Parts, settled-stays, stage-down}
-use Rattle.theory.proofs.Exec.{Tells, tells-map, tells-eq}
-use Rattle.theory.proofs.Lists.{below-mem}
+use Rattle.theory.proofs.Exec.{Tells, tells-map, tells-eq, keep-on, on-keep}
+use Rattle.theory.proofs.Lists.{getD-from, getD-past, below-mem}
+use Rattle.theory.proofs.Order.{rises-at, rises-keep, precedes-one, listed-rises}
 use Rattle.theory.proofs.Numbering.{tells-same, tells-agree}
-use Rattle.theory.proofs.Counting.{count, one-parts, count-same, count-parts, count-all}
+use Rattle.theory.proofs.Counting.{count, one-parts, count-same, count-parts, count-all, count-most}
 use Rattle.theory.proofs.Senses.{tidy, zeroth, tells-in, same-iff, different-parts, parts-verdict}
-use Rattle.theory.proofs.Sheets.{sheet-clear, under-kinds, certified, field-kinds}
+use Rattle.theory.proofs.Sheets.{sheet-clear, under-kinds, some-kind, certified, field-kinds}
 use Rattle.theory.proofs.Limits.{accepted-limits}
-use Rattle.theory.proofs.Shelves.{shelves}
+use Rattle.theory.proofs.Shelves.{kinds-down, shelves}
 use Rattle.theory.proofs.Verdicts
-use Rattle.theory.proofs.Verdicts.{L, field-tidy}
+use Rattle.theory.proofs.Verdicts.{L, field-tidy, bisimilar}
 use Rattle.theory.proofs.Settling.{row-kinds}
 use Rattle.theory.proofs.Program.{stage-forms}
 
@@ -106,6 +109,16 @@ module _ (s : List ℕ) (ok : Accepted s) (i : ℕ) where
           (λ e. let x = place-different _ q e in different-parts plain c w (certified s ok) (settledStage c) (L plain s ok .most) (L plain s ok .settled) a b u y q (x .0) (x .1) .3),
           (λ p. ap verdictPlace (parts-verdict plain c w (certified s ok) (settledStage c) (L plain s ok .most) (L plain s ok .settled) a b u y q p)),
         )
+
+    place-most : place b < kindCount s + 2
+    unfolding verdictPlace
+    place-most = go (verdictIn plain c w a b) refl
+      where
+        go : (x : Verdict) → verdictIn plain c w a b ≡ x → verdictPlace x < kindCount s + 2
+        go same e = omega arith
+        go (different q r) e =
+            let x = different-parts plain c w (certified s ok) (settledStage c) (L plain s ok .most) (L plain s ok .settled) a b (field-tidy plain s ok i) (tidy plain c w (certified s ok) b v) q r e in
+            omega (arith, x .0, certified s ok .reach .count-most, Verdicts.kinds-is plain s ok)
 
     -- What the settled stage relates every stage does.
     stays : At (settledStage c) b → (q : ℕ) → At q b
@@ -184,3 +197,87 @@ module _ (s : List ℕ) (ok : Accepted s) (i : ℕ) where
         tells-same (related (suc q) b) (agree (below mostKinds) (form q b) (form q a))
         (record { fact = z .0; test = z .1 }) (tells-agree (below mostKinds) (form q b) (form q a))
         (λ e j _. ap (λ (f : Field). f j) (sym e)) (forms-same q b v))
+
+    -- The fields that are counted at a place.
+    judged-iff : (p : ℕ) (b : Field) → List·Memᴰ b (judgedAt c a t p) ↔ (OfSize c t b × (place b ≡ p))
+    unfolding judgedAt
+    judged-iff p b =
+        let f = shelves s t .fields b in (
+          (λ m. let x = keep-on (λ y. eqb (place y) p) (λ y. place y ≡ p) (λ y. tells-eq (place y) p) (shelf c t) b m in (f .0 (x .0), x .1)),
+          (λ x. on-keep (λ y. eqb (place y) p) (λ y. place y ≡ p) (λ y. tells-eq (place y) p) (shelf c t) b (f .1 (x .0)) (x .1)),
+        )
+
+    judged-same {ℓ} : (b : Field) → List·Memᴰ b (judgedAt c a t 0) ↔ (OfSize c t b × Bisimilar {ℓ} (On c) a b)
+    judged-same b = (
+      (λ m. let x = judged-iff 0 b .0 m in (x .0, bisimilar-to (x .0 .0) .0 (place-zero b (x .0 .0) .0 (x .1)))),
+      (λ x. judged-iff 0 b .1 (x .0, place-zero b (x .0 .0) .1 (bisimilar-to (x .0 .0) .1 (x .1)))),
+    )
+      where
+        bisimilar-to : OfKinds c b → At (settledStage c) b ↔ Bisimilar {ℓ} (On c) a b
+        bisimilar-to v = bisimilar plain s ok a b (field-tidy plain s ok i) (tidy plain c w (certified s ok) b v)
+
+    judged-parted : (q : ℕ) (b : Field) → List·Memᴰ b (judgedAt c a t (suc q))
+        ↔ (OfSize c t b × (¬ StageIn plain c q a b) × ((r : ℕ) → r < q → StageIn plain c r a b))
+    judged-parted q b = (
+      (λ m.
+          let x = judged-iff (suc q) b .0 m in
+          let y = place-next b (x .0 .0) q .0 (x .1) in
+          (x .0, (λ z. y .0 (tells q b .fact z)), λ r l. tells r b .test (y .1 r l))),
+      (λ x. judged-iff (suc q) b .1 (x .0, place-next b (x .0 .0) q .1 ((λ z. x .1 (tells q b .test z)), λ r l. tells r b .fact (x .2 r l)))),
+    )
+
+    -- The listing rises, and so does what is kept of it: no field is kept twice.
+    judged-once : (p x y : ℕ) → x < y → y < length (judgedAt c a t p) → ¬ (getD (judgedAt c a t p) x none ≡ getD (judgedAt c a t p) y none)
+    unfolding judgedAt
+    judged-once p x y h l e =
+        let r = rises-at (Precedes (lastFirst c)) none (judgedAt c a t p) x y
+        (rises-keep (Precedes (lastFirst c)) (λ b. eqb (place b) p) (shelf c t) (listed-rises (lastFirst c) t (kinds-down c .once))) h l in
+        let z = rw e at r in
+        precedes-one (lastFirst c) _ _ z z
+
+    counted : (p : ℕ) → p < kindCount s + 2 → at (frequencies s i t) p ≡ length (judgedAt c a t p)
+    unfolding frequencies
+    counted p h = let z : 0 + p ≡ p = omega arith in rw z at (getD-from (λ q. length (judgedAt c a t q)) 0 (kindCount s + 2) p 0 h)
+
+    -- The counts from place q + 2 on are what the stages from q on lose.
+    sum-lost : (q m : ℕ) → sum (listFrom (λ p. length (judgedAt c a t p)) (suc (suc q)) m) + relatedTo c a t (q + m) ≡ relatedTo c a t q
+    unfolding sum listFrom
+    sum-lost q zero = let z : q + 0 ≡ q = omega arith in omega (arith, ap (relatedTo c a t) z)
+    sum-lost q (suc m) =
+        let z : q + suc m ≡ suc q + m = omega arith in
+        rw z (omega (arith, related-next q, sum-lost (suc q) m))
+
+    settled-most : settledStage c ≤ kindCount s
+    settled-most = omega (arith, L plain s ok .most, some-kind s ok, certified s ok .reach .count-most, Verdicts.kinds-is plain s ok)
+
+    adds : sum (frequencies s i t) ≡ entry (reachedCount c) t
+    unfolding frequencies sum listFrom
+    adds =
+        let z : kindCount s + 2 ≡ suc (suc (kindCount s)) = omega arith in
+        let y : 0 + kindCount s ≡ kindCount s = omega arith in
+        ap (λ n. sum (listFrom (λ p. length (judgedAt c a t p)) 0 n)) z
+        ∙ omega (arith, related-first, related-same (kindCount s) settled-most, rw y at (sum-lost 0 (kindCount s)))
+
+    judged-past : (q : ℕ) → settledStage c < q → length (judgedAt c a t (suc q)) ≡ 0
+    judged-past zero h = absurd (omega arith)
+    judged-past (suc q) h = omega (arith, related-next q, related-settled q (omega arith), related-settled (suc q) (omega arith))
+
+    small : (p : ℕ) → at (frequencies s i t) p ≤ entry (reachedCount c) t
+    unfolding judgedAt frequencies
+    small p = go (decLt p (kindCount s + 2))
+      where
+        go : Dec (p < kindCount s + 2) → at (frequencies s i t) p ≤ entry (reachedCount c) t
+        go (yes h) = omega (arith, counted p h, count-most (λ b. eqb (place b) p) (shelf c t), shelves s t .many)
+        go (no h) = omega (arith, getD-past (λ q. length (judgedAt c a t q)) 0 (kindCount s + 2) p 0 (omega arith))
+
+    pub frequencies-claims {ℓ} : Frequencies {ℓ} s i t
+    frequencies-claims = record {
+      same = judged-same;
+      parted = judged-parted;
+      once = judged-once;
+      counted = counted;
+      one-place = λ b o. (place b, place-most b (o .0), λ r. ((λ m. sym (judged-iff r b .0 m .1)), (λ e. judged-iff r b .1 (o, sym e))));
+      adds = adds;
+      past = judged-past;
+      small = small;
+    }
