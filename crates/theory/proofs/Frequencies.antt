@@ -6,7 +6,7 @@ use mathlib.Core.Path.{_≡_, refl, sym, _∙_, ap, fun-ext}
 use Prim.Native.Nat.{ℕ, zero, suc, _+_, _≤_, _<_}
 use native.Mathlib.Decide.{decLt}
 use native.Mathlib.Omega.{arith}
-use lib.Dec.{T, eqb}
+use lib.Dec.{eqb}
 use lib.ListN.{length, getD}
 use Rattle.model.specs.Finite.{keep, listFrom, below, sum}
 use Rattle.model.specs.Sense.{plain}
@@ -25,7 +25,7 @@ use Rattle.theory.specs.Terms.{OfKinds, StageIn}
 use Rattle.theory.specs.Shelves.{Precedes}
 use Rattle.theory.specs.Frequencies.{OfSize, Frequencies, relatedTo}
 use Rattle.theory.proofs.Field.{weigh-some}
-use Rattle.theory.proofs.Normed.{Normed}
+use Rattle.theory.proofs.Normed.{Normed, Tidy}
 use Rattle.theory.proofs.Stages.{Stage}
 use Rattle.theory.proofs.Consequences.{Parts, settled-stays, stage-down}
 use Rattle.theory.proofs.Exec.{Tells, tells-map, tells-eq, keep-on, on-keep}
@@ -38,11 +38,11 @@ use Rattle.theory.proofs.Sheets.{sheet-clear, under-kinds, some-kind, c
 use Rattle.theory.proofs.Limits.{accepted-limits}
 use Rattle.theory.proofs.Shelves.{kinds-down, shelves}
 use Rattle.theory.proofs.Verdicts
-use Rattle.theory.proofs.Verdicts.{L, field-tidy, bisimilar}
+use Rattle.theory.proofs.Verdicts.{L, field-tidy, kinds-is, bisimilar}
 use Rattle.theory.proofs.Settling.{row-kinds}
 use Rattle.theory.proofs.Program.{stage-forms}
 
--- The verdict of a place.
+-- The verdict at a place: same at 0, different with stage q at q + 1.
 place-same : (x : Verdict) → verdictPlace x ≡ 0 → x ≡ same
 unfolding verdictPlace
 place-same same e = refl
@@ -53,6 +53,7 @@ unfolding verdictPlace
 place-different same q e = absurd (omega arith)
 place-different (different d r) q e = let z : d ≡ q = omega arith in (r, ap (λ n. different n r) z)
 
+-- Of the field i of an accepted sheet.
 module _ (s : List ℕ) (ok : Accepted s) (i : ℕ) where
   abbrev c : Card
   c = cardOf s
@@ -63,6 +64,7 @@ module _ (s : List ℕ) (ok : Accepted s) (i : ℕ) where
   abbrev a : Field
   a = fieldOf s i
 
+  -- The card with its norms, as the theory has it.
   abbrev N : Normed
   N = Verdicts.N plain s ok
 
@@ -84,7 +86,7 @@ module _ (s : List ℕ) (ok : Accepted s) (i : ℕ) where
   tells : (q : ℕ) (b : Field) → Tells (related q b) (At q b)
   tells q b = tells-in plain c w (certified s ok) q a b
 
-  -- Every stage before q relates them.
+  -- The test that every stage before q relates them.
   before : ℕ → Field → Bool
   before zero = λ _. true
   before (suc q) = related q
@@ -95,36 +97,64 @@ module _ (s : List ℕ) (ok : Accepted s) (i : ℕ) where
   tells-before (suc q) b = tells-map (λ h r l. stage-down N q r a b (omega arith) h) (λ f. f q (omega arith)) (tells q b)
 
   module _ (b : Field) (v : OfKinds c b) where
+    b-tidy : Tidy N b
+    b-tidy = tidy plain c w (certified s ok) b v
+
+    -- The two are the same, at place 0, where the settled stage relates them.
     place-zero : (place b ≡ 0) ↔ At (settledStage c) b
     unfolding verdictPlace
     place-zero =
-        let x = same-iff plain c w (certified s ok) (settledStage c) (L plain s ok .most) (L plain s ok .settled) a b (field-tidy plain s ok i) (tidy plain c w (certified s ok) b v) in
+        let x = same-iff plain c w (certified s ok) (settledStage c) (L plain s ok .most) (L plain s ok .settled) a b (field-tidy plain s ok i) b-tidy in
         ((λ e. x .0 (place-same _ e)), (λ h. ap verdictPlace (x .1 h)))
 
+    -- What a verdict with a stage says.
+    parts : (q r : ℕ) → verdictIn plain c w a b ≡ different q r → (q ≤ reachedCount c) × Parts N q a b
+    parts q r e =
+        let x = different-parts plain c w (certified s ok) (settledStage c) (L plain s ok .most) (L plain s ok .settled) a b (field-tidy plain s ok i) b-tidy q r e in
+        (x .0, x .3)
+
+    -- They part at stage q, at place q + 1, where it is the first stage that does not relate them.
     place-next : (q : ℕ) → (place b ≡ suc q) ↔ Parts N q a b
     unfolding verdictPlace
-    place-next q =
-        let u = field-tidy plain s ok i in
-        let y = tidy plain c w (certified s ok) b v in (
-          (λ e. let x = place-different _ q e in different-parts plain c w (certified s ok) (settledStage c) (L plain s ok .most) (L plain s ok .settled) a b u y q (x .0) (x .1) .3),
-          (λ p. ap verdictPlace (parts-verdict plain c w (certified s ok) (settledStage c) (L plain s ok .most) (L plain s ok .settled) a b u y q p)),
-        )
+    place-next q = (
+      (λ e. let x = place-different _ q e in parts q (x .0) (x .1) .1),
+      (λ p. ap verdictPlace (parts-verdict plain c w (certified s ok) (settledStage c) (L plain s ok .most) (L plain s ok .settled) a b (field-tidy plain s ok i) b-tidy q p)),
+    )
 
+    -- There are n + 2 places.
     place-most : place b < kindCount s + 2
     unfolding verdictPlace
     place-most = go (verdictIn plain c w a b) refl
       where
         go : (x : Verdict) → verdictIn plain c w a b ≡ x → verdictPlace x < kindCount s + 2
         go same e = omega arith
-        go (different q r) e =
-            let x = different-parts plain c w (certified s ok) (settledStage c) (L plain s ok .most) (L plain s ok .settled) a b (field-tidy plain s ok i) (tidy plain c w (certified s ok) b v) q r e in
-            omega (arith, x .0, certified s ok .reach .count-most, Verdicts.kinds-is plain s ok)
+        go (different q r) e = omega (arith, parts q r e .0, certified s ok .reach .count-most, kinds-is plain s ok)
 
     -- What the settled stage relates every stage does.
     stays : At (settledStage c) b → (q : ℕ) → At q b
-    stays h q = settled-stays N (settledStage c) (L plain s ok .settled) q a b (field-tidy plain s ok i) (tidy plain c w (certified s ok) b v) h
+    stays h q = settled-stays N (settledStage c) (L plain s ok .settled) q a b (field-tidy plain s ok i) b-tidy h
+
+  -- The form of a field at stage q + 1; it has tokens of the kinds of the sheet alone.
+  abbrev form : ℕ → Field → Field
+  form q = stageFormIn plain c (suc q)
+
+  form-under : (q : ℕ) (b : Field) → OfKinds c b → (j : ℕ) → 0 < form q b j → j < mostKinds
+  unfolding formAt
+  form-under q b v j h =
+      let k = weigh-some (c .kinds) _ b h in
+      omega (arith, under-kinds s j (row-kinds plain c (certified s ok) q (k .0) (v (k .0) (k .2)) j (k .3)), accepted-limits s ok .kinds .1)
+
+  -- So forms that agree on the first 32 kinds are equal.
+  forms-same : (q : ℕ) (b : Field) → OfKinds c b → ((j : ℕ) → List·Memᴰ j (below mostKinds) → form q b j ≡ form q a j) → form q a ≡ form q b
+  forms-same q b v f = fun-ext (λ j. go j (decLt 0 (form q a j)) (decLt 0 (form q b j)))
+    where
+      go : (j : ℕ) → Dec (0 < form q a j) → Dec (0 < form q b j) → form q a j ≡ form q b j
+      go j (yes h) _ = sym (f j (below-mem mostKinds j (form-under q a a-kinds j h)))
+      go j (no h) (yes k) = sym (f j (below-mem mostKinds j (form-under q b v j k)))
+      go j (no h) (no k) = omega arith
 
   module _ (t : ℕ) where
+    -- The fields of the size are of reached kinds.
     listed-kinds : (b : Field) → List·Memᴰ b (shelf c t) → OfKinds c b
     listed-kinds b m = shelves s t .fields b .0 m .0
 
@@ -138,6 +168,7 @@ module _ (s : List ℕ) (ok : Accepted s) (i : ℕ) where
         (λ x n. tells-eq (place b) (suc q) .test (p .1 ((λ h. n (tells q b .test h)), tells-before q b .fact x)))
         (λ x. tells-before q b .test (λ r l. stage-down N q r a b (omega arith) (tells q b .fact x))))
 
+    -- At stage 0 that is every field of the size, at a later stage those that the stage before relates.
     pub related-first : length (judgedAt c a t 1) + relatedTo c a t 0 ≡ entry (reachedCount c) t
     unfolding before
     related-first = part-at 0 ∙ count-all (shelf c t) ∙ shelves s t .many
@@ -170,24 +201,6 @@ module _ (s : List ℕ) (ok : Accepted s) (i : ℕ) where
         let z = zeroth plain c w (certified s ok) a b in
         tells-same (related 0 b) (eqb (norm c b) (norm c a)) (tells 0 b) (tells-eq (norm c b) (norm c a)) (λ h. sym (z .0 h)) (λ e. z .1 (sym e)))
 
-    abbrev form : ℕ → Field → Field
-    form q = stageFormIn plain c (suc q)
-
-    -- A form has tokens of the kinds of the sheet alone.
-    form-under : (q : ℕ) (b : Field) → OfKinds c b → (j : ℕ) → 0 < form q b j → j < mostKinds
-    unfolding formAt
-    form-under q b v j h =
-        let k = weigh-some (c .kinds) _ b h in
-        omega (arith, under-kinds s j (row-kinds plain c (certified s ok) q (k .0) (v (k .0) (k .2)) j (k .3)), accepted-limits s ok .kinds .1)
-
-    forms-same : (q : ℕ) (b : Field) → OfKinds c b → ((j : ℕ) → List·Memᴰ j (below mostKinds) → form q b j ≡ form q a j) → form q a ≡ form q b
-    forms-same q b v f = fun-ext (λ j. go j (decLt 0 (form q a j)) (decLt 0 (form q b j)))
-      where
-        go : (j : ℕ) → Dec (0 < form q a j) → Dec (0 < form q b j) → form q a j ≡ form q b j
-        go j (yes h) _ = sym (f j (below-mem mostKinds j (form-under q a a-kinds j h)))
-        go j (no h) (yes k) = sym (f j (below-mem mostKinds j (form-under q b v j k)))
-        go j (no h) (no k) = omega arith
-
     pub related-forms : (q : ℕ)
         → relatedTo c a t (suc q) ≡ length (keep (λ b. agree (below mostKinds) (stageFormIn plain c (suc q) b) (stageFormIn plain c (suc q) a)) (shelf c t))
     unfolding relatedTo
@@ -207,6 +220,7 @@ module _ (s : List ℕ) (ok : Accepted s) (i : ℕ) where
           (λ x. on-keep (λ y. eqb (place y) p) (λ y. place y ≡ p) (λ y. tells-eq (place y) p) (shelf c t) b (f .1 (x .0)) (x .1)),
         )
 
+    -- The same are the bisimilar ones, and those that part at a stage are told by the stages.
     judged-same {ℓ} : (b : Field) → List·Memᴰ b (judgedAt c a t 0) ↔ (OfSize c t b × Bisimilar {ℓ} (On c) a b)
     judged-same b = (
       (λ m. let x = judged-iff 0 b .0 m in (x .0, bisimilar-to (x .0 .0) .0 (place-zero b (x .0 .0) .0 (x .1)))),
@@ -214,7 +228,7 @@ module _ (s : List ℕ) (ok : Accepted s) (i : ℕ) where
     )
       where
         bisimilar-to : OfKinds c b → At (settledStage c) b ↔ Bisimilar {ℓ} (On c) a b
-        bisimilar-to v = bisimilar plain s ok a b (field-tidy plain s ok i) (tidy plain c w (certified s ok) b v)
+        bisimilar-to v = bisimilar plain s ok a b (field-tidy plain s ok i) (b-tidy b v)
 
     judged-parted : (q : ℕ) (b : Field) → List·Memᴰ b (judgedAt c a t (suc q))
         ↔ (OfSize c t b × (¬ StageIn plain c q a b) × ((r : ℕ) → r < q → StageIn plain c r a b))
@@ -235,6 +249,7 @@ module _ (s : List ℕ) (ok : Accepted s) (i : ℕ) where
         let z = rw e at r in
         precedes-one (lastFirst c) _ _ z z
 
+    -- What is listed.
     counted : (p : ℕ) → p < kindCount s + 2 → at (frequencies s i t) p ≡ length (judgedAt c a t p)
     unfolding frequencies
     counted p h = let z : 0 + p ≡ p = omega arith in rw z at (getD-from (λ q. length (judgedAt c a t q)) 0 (kindCount s + 2) p 0 h)
@@ -247,9 +262,11 @@ module _ (s : List ℕ) (ok : Accepted s) (i : ℕ) where
         let z : q + suc m ≡ suc q + m = omega arith in
         rw z (omega (arith, related-next q, sum-lost (suc q) m))
 
+    -- The settled stage is among those that are listed.
     settled-most : settledStage c ≤ kindCount s
-    settled-most = omega (arith, L plain s ok .most, some-kind s ok, certified s ok .reach .count-most, Verdicts.kinds-is plain s ok)
+    settled-most = omega (arith, L plain s ok .most, some-kind s ok, certified s ok .reach .count-most, kinds-is plain s ok)
 
+    -- So the counts add up to all fields of the size.
     adds : sum (frequencies s i t) ≡ entry (reachedCount c) t
     unfolding frequencies sum listFrom
     adds =
@@ -258,10 +275,12 @@ module _ (s : List ℕ) (ok : Accepted s) (i : ℕ) where
         ap (λ n. sum (listFrom (λ p. length (judgedAt c a t p)) 0 n)) z
         ∙ omega (arith, related-first, related-same (kindCount s) settled-most, rw y at (sum-lost 0 (kindCount s)))
 
+    -- Past the settled stage nothing is lost.
     judged-past : (q : ℕ) → settledStage c < q → length (judgedAt c a t (suc q)) ≡ 0
     judged-past zero h = absurd (omega arith)
     judged-past (suc q) h = omega (arith, related-next q, related-settled q (omega arith), related-settled (suc q) (omega arith))
 
+    -- No count is over the number of fields of the size.
     small : (p : ℕ) → at (frequencies s i t) p ≤ entry (reachedCount c) t
     unfolding judgedAt frequencies
     small p = go (decLt p (kindCount s + 2))
