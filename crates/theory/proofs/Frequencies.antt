@@ -34,7 +34,7 @@ use Rattle.theory.proofs.Order.{rises-at, rises-keep, precedes-one, lis
 use Rattle.theory.proofs.Numbering.{tells-same, tells-agree}
 use Rattle.theory.proofs.Counting.{count, one-parts, count-same, count-parts, count-all, count-most}
 use Rattle.theory.proofs.Senses.{tidy, zeroth, tells-in, same-iff, different-parts, parts-verdict}
-use Rattle.theory.proofs.Sheets.{sheet-clear, under-kinds, some-kind, certified, field-kinds}
+use Rattle.theory.proofs.Sheets.{sheet-clear, sheet-reaches, under-kinds, some-kind, certified, field-kinds}
 use Rattle.theory.proofs.Limits.{accepted-limits}
 use Rattle.theory.proofs.Shelves.{kinds-down, shelves}
 use Rattle.theory.proofs.Verdicts
@@ -128,7 +128,7 @@ module _ (s : List ℕ) (ok : Accepted s) (i : ℕ) where
       where
         go : (x : Verdict) → verdictIn plain c w a b ≡ x → verdictPlace x < kindCount s + 2
         go same e = omega arith
-        go (different q r) e = omega (arith, parts q r e .0, certified s ok .reach .count-most, kinds-is plain s ok)
+        go (different q r) e = omega (arith, parts q r e .0, sheet-reaches s .count-most, kinds-is plain s ok)
 
     -- What the settled stage relates every stage does.
     stays : At (settledStage c) b → (q : ℕ) → At q b
@@ -262,18 +262,17 @@ module _ (s : List ℕ) (ok : Accepted s) (i : ℕ) where
         let z : q + suc m ≡ suc q + m = omega arith in
         rw z (omega (arith, related-next q, sum-lost (suc q) m))
 
-    -- The settled stage is among those that are listed.
-    settled-most : settledStage c ≤ kindCount s
-    settled-most = omega (arith, L plain s ok .most, some-kind s ok, certified s ok .reach .count-most, kinds-is plain s ok)
-
-    -- So the counts add up to all fields of the size.
+    -- So the counts add up to all fields of the size: the settled stage is at most n.
     adds : sum (frequencies s i t) ≡ entry (reachedCount c) t
     unfolding frequencies sum listFrom
     adds =
         let z : kindCount s + 2 ≡ suc (suc (kindCount s)) = omega arith in
         let y : 0 + kindCount s ≡ kindCount s = omega arith in
         ap (λ n. sum (listFrom (λ p. length (judgedAt c a t p)) 0 n)) z
-        ∙ omega (arith, related-first, related-same (kindCount s) settled-most, rw y at (sum-lost 0 (kindCount s)))
+        ∙ omega (arith, related-first, related-same (kindCount s) most, rw y at (sum-lost 0 (kindCount s)))
+      where
+        most : settledStage c ≤ kindCount s
+        most = omega (arith, L plain s ok .most, some-kind s ok, sheet-reaches s .count-most, kinds-is plain s ok)
 
     -- Past the settled stage nothing is lost.
     judged-past : (q : ℕ) → settledStage c < q → length (judgedAt c a t (suc q)) ≡ 0
