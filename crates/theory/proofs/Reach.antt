@@ -57,7 +57,7 @@ unfolding one
 one-no true n = absurd (n tt)
 one-no false n = refl
 
-one-most : (b : Bool) → one b ≤ 1
+pub one-most : (b : Bool) → one b ≤ 1
 unfolding one
 one-most true = omega arith
 one-most false = omega arith
