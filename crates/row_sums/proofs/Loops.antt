@@ -70,8 +70,8 @@ module _ {rows kinds : List ℕ} {size : ℕ} {counts : List ℕ} {found i : ℕ
       omega (arith, H .sum, rw (front-many kinds i (H .within)) at (adding-most rows (front kinds i) (at counts) size), entries-fit i size (omega (arith, H .within, sorted .many)) h)
 
   -- One kind more, by what the count is with it.
-  next : i < length kinds → (found′ : ℕ) → found′ ≡ addingTo rows (at kinds i ∷ front kinds i) size (at counts) → Counted rows kinds size counts found′ (i + 1)
-  next inside found′ e =
+  next : i < length kinds → (count : ℕ) → count ≡ addingTo rows (at kinds i ∷ front kinds i) size (at counts) → Counted rows kinds size counts count (i + 1)
+  next inside count e =
       record { within = omega arith; sum = rw (add-one i) (e ∙ ap (λ (ks : List ℕ). addingTo rows ks size (at counts)) (sym (front-next kinds i inside))) }
 
 -- A turn, by the row of the kind as it is lent: of more than no tokens, the row goes into the counts and leaves others, or does not.

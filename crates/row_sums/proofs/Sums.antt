@@ -1,10 +1,11 @@
 -- The fields of a size whose rows add up to given counts, a kind at a time.
-use mathlib.Core.Bool.{Bool, true, false}
+use mathlib.Core.Bool.{Bool}
 use mathlib.Core.List.{List, [], _∷_, map, List·Memᴰ}
 use mathlib.Core.Path.{_≡_, refl, sym, _∙_, ap, fun-ext}
 use Prim.Native.Nat.{ℕ, suc, _+_, _≤_, _<_}
 use native.Mathlib.Decide.{decLt}
 use native.Mathlib.Omega.{arith}
+use lib.Dec.{T}
 use lib.ListN.{length}
 use Rattle.model.specs.Finite.{below}
 use Rattle.model.specs.Field.{Field, none, _⊕_, unit}
@@ -14,24 +15,18 @@ use Rattle.tables.specs.Table.{rowIn, formIn}
 use Rattle.theory.proofs.Field.{weigh-plus, weigh-none, weigh-unit, weigh-some}
 use Rattle.theory.proofs.Exec.{Tells, tells-map}
 use Rattle.theory.proofs.Lists.{below-mem}
+use Rattle.theory.proofs.Reach.{one-yes, one-no}
+use Rattle.theory.proofs.Counting.{count, count-none, count-cons, count-most}
 use Rattle.theory.proofs.Listing.{more, listed-next, listed-length}
 use Rattle.theory.proofs.Entries.{entry-empty}
 use Rattle.theory.proofs.Numbering.{tells-agree, tells-same, listed-none}
 use Rattle.tables.proofs.Tables.{at-kind, row-past}
 use Rattle.row_sums.specs.Sums.{addingTo}
-use Rattle.row_sums.proofs.Counting.{count, count-yes, count-no, count-empty, count-append, count-most, count-none, count-map}
+use Rattle.row_sums.proofs.Counting.{count-append, count-zero, count-map}
 
 -- No kind past the most that a card may have has a count.
 abbrev pub NonePast : Field → Type 0
 NonePast x = (j : ℕ) → mostKinds ≤ j → x j ≡ 0
-
-told : {A : Type 0} (b : Bool) → Tells b A → A → b ≡ true
-told true f a = refl
-told false f a = absurd (f .test a)
-
-told-not : {A : Type 0} (b : Bool) → Tells b A → ¬ A → b ≡ false
-told-not true f n = absurd (n (f .fact tt))
-told-not false f n = refl
 
 module _ (rows : List ℕ) where
   -- The rows of a field, added: those of no tokens, and of one token more.
@@ -77,12 +72,14 @@ module _ (rows : List ℕ) where
     pub adding-nothing : NonePast x → none ≡ x → addingTo rows ks 0 x ≡ 1
     unfolding addingTo
     adding-nothing n e =
-        ap (count (adds x)) (listed-none ks) ∙ count-yes (adds x) none [] (told (adds x none) (tells-adds x n none) (sum-none ∙ e)) ∙ ap suc (count-empty (adds x))
+        ap (count (adds x)) (listed-none ks)
+        ∙ omega (arith, count-cons (adds x) none [], one-yes (adds x none) (tells-adds x n none .test (sum-none ∙ e)), count-none (adds x))
 
     pub adding-something : NonePast x → ¬ (none ≡ x) → addingTo rows ks 0 x ≡ 0
     unfolding addingTo
     adding-something n d =
-        ap (count (adds x)) (listed-none ks) ∙ count-no (adds x) none [] (told-not (adds x none) (tells-adds x n none) (λ e. d (sym sum-none ∙ e))) ∙ count-empty (adds x)
+        ap (count (adds x)) (listed-none ks)
+        ∙ omega (arith, count-cons (adds x) none [], one-no (adds x none) (λ q. d (sym sum-none ∙ tells-adds x n none .fact q)), count-none (adds x))
 
   -- Of no kinds there is no field of a token.
   pub adding-empty : (x : Field) (t : ℕ) → 0 < t → addingTo rows [] t x ≡ 0
@@ -116,11 +113,10 @@ module _ (rows : List ℕ) where
 
       -- Its row does not go into them: no field with a token of it adds up to them.
       pub adding-over : ¬ ((j : ℕ) → rowIn rows k j ≤ x j) → addingTo rows (k ∷ ks) (suc t) x ≡ addingTo rows ks (suc t) x
-      adding-over n = adding-next ∙ omega (arith, count-none (λ b. adds x (more k ks b)) never (listed (k ∷ ks) t))
+      adding-over n = adding-next ∙ omega (arith, count-zero (λ b. adds x (more k ks b)) never (listed (k ∷ ks) t))
         where
-          never : (b : Field) → adds x (more k ks b) ≡ false
-          never b =
-              told-not (adds x (more k ks b)) (tells-adds x short (more k ks b)) (λ q. n (λ j. omega (arith, at-kind q j, at-kind (sum-more k under b) j)))
+          never : (b : Field) → ¬ T (adds x (more k ks b))
+          never b q = n (λ j. omega (arith, at-kind (tells-adds x short (more k ks b) .fact q) j, at-kind (sum-more k under b) j))
 
   -- One token: of one kind more, the token of it, where its row is the counts.
   module _ (k : ℕ) (ks : List ℕ) (x : Field) (under : k < mostKinds) (short : NonePast x) where
@@ -130,11 +126,10 @@ module _ (rows : List ℕ) where
     pub adding-other : ¬ (rowIn rows k ≡ x) → addingTo rows (k ∷ ks) 1 x ≡ addingTo rows ks 1 x
     adding-other d = adding-next k ks 0 x ∙ omega (arith, nothing)
       where
-        not-it : adds x (more k ks none) ≡ false
-        not-it =
-            told-not (adds x (more k ks none)) (tells-adds x short (more k ks none))
-            (λ q. d (fun-ext (λ j. omega (arith, at-kind q j, at-kind (sum-more k under none) j, at-kind sum-none j))))
+        not-it : ¬ T (adds x (more k ks none))
+        not-it q = d (fun-ext (λ j. omega (arith, at-kind (tells-adds x short (more k ks none) .fact q) j, at-kind (sum-more k under none) j, at-kind sum-none j)))
 
         nothing : withKind k ks 0 x ≡ 0
         nothing =
-            ap (count (λ b. adds x (more k ks b))) (listed-none (k ∷ ks)) ∙ count-no (λ b. adds x (more k ks b)) none [] not-it ∙ count-empty (λ b. adds x (more k ks b))
+            ap (count (λ b. adds x (more k ks b))) (listed-none (k ∷ ks))
+            ∙ omega (arith, count-cons (λ b. adds x (more k ks b)) none [], one-no (adds x (more k ks none)) not-it, count-none (λ b. adds x (more k ks b)))

@@ -52,7 +52,7 @@ unfolding one
 one-yes true t = refl
 one-yes false t = absurd t
 
-one-no : (b : Bool) → ¬ T b → one b ≡ 0
+pub one-no : (b : Bool) → ¬ T b → one b ≡ 0
 unfolding one
 one-no true n = absurd (n tt)
 one-no false n = refl
