@@ -29,7 +29,7 @@ abbrev pub NonePast : Field → Type 0
 NonePast x = (j : ℕ) → mostKinds ≤ j → x j ≡ 0
 
 module _ (rows : List ℕ) where
-  -- The rows of a field, added: those of no tokens, and of one token more.
+  -- The rows of a field, added: no counts past the most kinds, none of no tokens, and one row more of one token more.
   abbrev sum : Field → Field
   sum b = formIn mostKinds rows b
 

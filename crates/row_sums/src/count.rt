@@ -50,11 +50,12 @@ pub fn count_fields(rows: &[u64], kinds: &[usize], size: usize, counts: &[u64]) 
     let mut i = 0;
     while i < kinds.len() {
         let kind = kinds[i];
+        let next = i + 1;
         let rest = less_row(counts, form_of(rows, kind));
-        i += 1;
         if rest.fits {
-            found += count_fields(rows, &kinds[..i], size - 1, &rest.counts);
+            found += count_fields(rows, &kinds[..next], size - 1, &rest.counts);
         }
+        i = next;
     }
     found
 }

@@ -86,6 +86,9 @@ module _ (t : ℕ) where
   shared-slice-read-kind : count-fields-lts.Need-shared-slice-read-kind (count-fields-calls t) (count-fields-at t) count-fields.Post count-fields-Inv-loop count-fields-μ-loop
   shared-slice-read-kind c = search needs
 
+  add-next : count-fields-lts.Need-add-next (count-fields-calls t) (count-fields-at t) count-fields.Post count-fields-Inv-loop count-fields-μ-loop
+  add-next c = search needs
+
   form-of-requires : count-fields-lts.Need-form-of-requires (count-fields-calls t) (count-fields-at t) count-fields.Post count-fields-Inv-loop count-fields-μ-loop
   form-of-requires c κs =
       let turn = c .before in
@@ -98,21 +101,11 @@ module _ (t : ℕ) where
       let start = begun turn in
       (start .pre .1 .1 .1 .1, row-long (start .args .rows .now) (start .pre .1 .1 .1 .0) (start .pre .1 .0) (turn .before .loop .i) (turn .loop-test .taken) (c .form-of .ensures))
 
-  add-i : count-fields-lts.Need-add-i (count-fields-calls t) (count-fields-at t) count-fields.Post count-fields-Inv-loop count-fields-μ-loop
-  add-i c = search needs
-
   slice-aggregate-count-fields : count-fields-lts.Need-slice-aggregate-count-fields (count-fields-calls t) (count-fields-at t) count-fields.Post count-fields-Inv-loop count-fields-μ-loop
   slice-aggregate-count-fields c = sym (length-take-le _ _ (omega (arith, c .before .before .before .before .before .loop-test .taken)))
 
   sub-count-fields : count-fields-lts.Need-sub-count-fields (count-fields-calls t) (count-fields-at t) count-fields.Post count-fields-Inv-loop count-fields-μ-loop
   sub-count-fields c = search needs
-
-  count-fields-requires : count-fields-lts.Need-count-fields-requires (count-fields-calls t) (count-fields-at t) count-fields.Post count-fields-Inv-loop count-fields-μ-loop
-  count-fields-requires c κs =
-      let turn = c .before .before .before .before .before .before .before .before in
-      let pre = begun turn .pre in
-      let sorted = in-order-first (begun turn .args .kinds .now) (turn .before .loop .i + 1) (pre .1 .0) (omega (arith, turn .loop-test .taken)) in
-      (omega (arith, pre .0), (sorted, (omega (arith, pre .1 .1 .0), (pre .1 .1 .1 .0, search needs))))
 
   -- The row goes into the counts: the fields of a token less that add up to what is left are added.
   row-taken : (c : count-fields-lts.After-count-fields (count-fields-calls t) (count-fields-at t) count-fields.Post count-fields-Inv-loop count-fields-μ-loop)
@@ -126,6 +119,13 @@ module _ (t : ℕ) where
       let goes-in = c .before .before .before .before .before .if4 .taken in
       counted-more (turn .before .loop .inv) (pre .0) (pre .1 .1 .1) (omega arith) (turn .loop-test .taken) (less .before .form-of .ensures)
       (less .less-row .result .counts) (less .less-row .ensures .1 goes-in) (c .count-fields .result) (c .count-fields .ensures)
+
+  count-fields-requires : count-fields-lts.Need-count-fields-requires (count-fields-calls t) (count-fields-at t) count-fields.Post count-fields-Inv-loop count-fields-μ-loop
+  count-fields-requires c κs =
+      let turn = c .before .before .before .before .before .before .before .before in
+      let pre = begun turn .pre in
+      let sorted = in-order-first (begun turn .args .kinds .now) (turn .before .loop .i + 1) (pre .1 .0) (omega (arith, turn .loop-test .taken)) in
+      (omega (arith, pre .0), (sorted, (omega (arith, pre .1 .1 .0), (pre .1 .1 .1 .0, search needs))))
 
   add-found : count-fields-lts.Need-add-found (count-fields-calls t) (count-fields-at t) count-fields.Post count-fields-Inv-loop count-fields-μ-loop
   add-found c =
@@ -165,9 +165,9 @@ pub +count-fields-spec : {M : Type 1} → statement M
     (loop-holds t)
     (mul-kind t)
     (shared-slice-read-kind t)
+    (add-next t)
     (form-of-requires t)
     (less-row-requires t)
-    (add-i t)
     (slice-aggregate-count-fields t)
     (sub-count-fields t)
     (count-fields-requires t)
