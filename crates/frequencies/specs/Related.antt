@@ -15,10 +15,14 @@ use Rattle.tables.specs.Table.{rowIn}
 use Rattle.shelf.specs.Kinds.{InOrder}
 use Rattle.stages.specs.Kept.{KeptTo, formBefore}
 
+-- A kind's row is that of the stage before, and the rows of all others are as they were.
+pub record RowLowered (since before : List ℕ) (stage k : ℕ) (rows lowered : List ℕ) : Type 0 where
+  pub here : rowIn lowered k ≡ formBefore since before stage (rowIn rows k)
+  pub others : (i : ℕ) → ¬ (i ≡ k) → rowIn lowered i ≡ rowIn rows i
+
 -- The rows of the kinds are those of the stage before.
-pub record Lowered (kinds since before : List ℕ) (stage : ℕ) (rows lowered : List ℕ) : Type 0 where
-  pub long : length lowered ≡ length rows
-  pub each : (x : ℕ) → x < length kinds → rowIn lowered (at kinds x) ≡ formBefore since before stage (rowIn rows (at kinds x))
+abbrev pub RowsLowered : List ℕ → List ℕ → List ℕ → ℕ → List ℕ → List ℕ → Type 0
+RowsLowered kinds since before stage rows lowered = (x : ℕ) → x < length kinds → rowIn lowered (at kinds x) ≡ formBefore since before stage (rowIn rows (at kinds x))
 
 -- Of an accepted sheet: its reached kinds, their rows at stage t, the form of field i there, and what is kept of the stages up to that one or a later one.
 pub record RowsAt (s : List ℕ) (i t : ℕ) (kinds since before rows form : List ℕ) : Type 0 where

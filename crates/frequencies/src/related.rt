@@ -14,7 +14,7 @@ ghost use Rattle.tables.specs.Table.{rowIn};
 ghost use Rattle.shelf.specs.Kinds.{InOrder};
 ghost use Rattle.stages.specs.Kept.{formBefore};
 ghost use Rattle.stages.specs.Settle.{IsSettled};
-ghost use Rattle.frequencies.specs.Related.{RowsAt, Lowered};
+ghost use Rattle.frequencies.specs.Related.{RowLowered, RowsLowered, RowsAt};
 use copies::bits64::write_u64;
 use row_sums::count::count_fields;
 use sheet::Card;
@@ -27,7 +27,8 @@ use tables::table::wide;
 use weights::fields::field_norm;
 
 // The rows of a base as counts of 64 bits.
-fn wide_rows(rows: &[u32; 1024]) -> [u64; 1024]
+fn wide_rows(rows: &[u32]) -> [u64; 1024]
+    requires { ⌜ length (now rows) ≡ 1024 ⌝ }
     ensures { λ r. ⌜ r ≡ now (rows .entry) ⌝ }
 {
     let mut table = [0u64; 1024];
@@ -72,19 +73,29 @@ fn count_norms(
     count_fields(&rows, kinds, size, &counts)
 }
 
+// Puts the row of a kind at the stage before in the place of that at a stage.
+fn lower_row(rows: &mut [u64], kind: usize, since: &[usize], before: &[u32], stage: usize)
+    requires { ⌜ (length (now rows) ≡ 1024) × (length (now since) ≡ mostKinds) × (length (now before) ≡ 1024) × (kind < mostKinds) ⌝ }
+    requires { ⌜ ((j : ℕ) → formBefore (now since) (now before) stage (rowIn (now rows) kind) j < 2 ^ 64) ⌝ }
+    ensures { λ _. ⌜ RowLowered (now (since .entry)) (now (before .entry)) stage kind (now (rows .entry)) (now (rows .exit)) ⌝ }
+{
+    let row = form_before(form_of(rows, kind), since, before, stage);
+    let start = kind * 32;
+    let end = start + 32;
+    write_u64(&row, &mut rows[start..end]);
+}
+
 // The rows of the kinds at the stage before, from those at a stage.
 fn lower_rows(rows: &mut [u64], kinds: &[usize], since: &[usize], before: &[u32], stage: usize)
     requires { ⌜ InOrder (now kinds) ⌝ }
     requires { ⌜ (length (now rows) ≡ 1024) × (length (now since) ≡ mostKinds) × (length (now before) ≡ 1024) ⌝ }
     requires { ⌜ ((x j : ℕ) → x < length (now kinds) → formBefore (now since) (now before) stage (rowIn (now rows) (at (now kinds) x)) j < 2 ^ 64) ⌝ }
-    ensures { λ _. ⌜ Lowered (now (kinds .entry)) (now (since .entry)) (now (before .entry)) stage (now (rows .entry)) (now (rows .exit)) ⌝ }
+    ensures { λ _. ⌜ RowsLowered (now (kinds .entry)) (now (since .entry)) (now (before .entry)) stage (now (rows .entry)) (now (rows .exit)) ⌝ }
 {
     let mut i = 0;
     while i < kinds.len() {
         let kind = kinds[i];
-        let row = form_before(form_of(rows, kind), since, before, stage);
-        let start = kind * 32;
-        write_u64(&row, &mut rows[start..]);
+        lower_row(rows, kind, since, before, stage);
         i += 1;
     }
 }
