@@ -26,9 +26,10 @@ use Rattle.theory.proofs.Counting.{count-same}
 use Rattle.theory.proofs.Exec.{tells-eq}
 use Rattle.theory.proofs.Frequencies.{related-first, related-next, related-same, related-forms, related-norms, related-settled}
 use Rattle.theory.proofs.Field.{unit-same, unit-other, weigh-past, weigh-weights}
-use Rattle.theory.proofs.Lists.{below-mem, mem-below}
+use Rattle.theory.proofs.Lists.{below-mem, from-same}
 use Rattle.theory.proofs.Numbering.{mem-getD, tells-same, tells-agree}
 use Rattle.theory.proofs.Order.{getD-mem}
+use Rattle.theory.proofs.Senses.{weigh-zero}
 use Rattle.theory.proofs.Sheets.{certified, field-kinds, sheet-clear, sheet-reaches, under-kinds}
 use Rattle.theory.proofs.Shelves.{shelves}
 use Rattle.theory.proofs.Widths.{widths}
@@ -49,7 +50,6 @@ use Rattle.stages.proofs.Outcomes.{settled-form}
 use Rattle.stages.proofs.Settled.{settled-most}
 use Rattle.shelf.specs.Kinds.{InOrder}
 use Rattle.frequencies.specs.Related.{RowsLowered, RowsAt, relatedBefore, placed}
-use Rattle.frequencies.proofs.Places.{from-same}
 
 -- How many of the fields of a size, over kinds, have these counts as the sum of their rows: the definition.
 abbrev adding : List ℕ → List ℕ → ℕ → Field → ℕ
@@ -146,11 +146,6 @@ module _ {s : List ℕ} {i : ℕ} {kinds since before rows form : List ℕ} wher
       stage = omega arith
 
 -- By norms.
-no-weights : (n : ℕ) (a : Field) → weigh n (λ _. 0) a ≡ 0
-unfolding weigh
-no-weights zero a = refl
-no-weights (suc n) a = omega (arith, no-weights n a)
-
 module _ {s : List ℕ} {card : Card} {norms : List ℕ} (A : Accepts s card norms) (table : List ℕ) (R : (k : ℕ) → k < mostKinds → rowIn table k ≡ times (at norms k) (unit 0)) where
   -- Of rows that have a kind's norm as their first count, the sum of a field's tokens has its norm there, and no other count.
   sum-weights : (b : Field) → OfKinds (cardOf s) b → (j : ℕ) → formIn mostKinds table b j ≡ weigh (card .kinds) (λ k. at norms k * unit 0 j) b
@@ -167,7 +162,7 @@ module _ {s : List ℕ} {card : Card} {norms : List ℕ} (A : Accepts s card nor
   sum-none : (b : Field) → OfKinds (cardOf s) b → (j : ℕ) → ¬ (j ≡ 0) → formIn mostKinds table b j ≡ 0
   sum-none b u j n =
       sum-weights b u j
-      ∙ weigh-weights (card .kinds) (λ k. at norms k * unit 0 j) (λ _. 0) b (λ k _ _. rw (unit-other 0 j n) (omega arith)) ∙ no-weights (card .kinds) b
+      ∙ weigh-weights (card .kinds) (λ k. at norms k * unit 0 j) (λ _. 0) b (λ k _ _. rw (unit-other 0 j n) (omega arith)) ∙ weigh-zero (card .kinds) b
 
   pub count-is-norms : (i t : ℕ) {kinds : List ℕ} (v : ℕ) → v ≡ norm (cardOf s) (fieldOf s i) → kinds ≡ reachedKinds (cardOf s)
       → addingTo table (reverse kinds) t (at (set (replicate mostKinds 0) 0 v)) ≡ relatedTo (cardOf s) (fieldOf s i) t 0
@@ -263,7 +258,7 @@ module _ (s : List ℕ) (ok : Accepted s) (i size : ℕ) (related : List ℕ) (f
 
   pub places-are : listFrom (placed all related (kindCount s)) 0 (kindCount s + 2) ≡ frequencies s i size
   unfolding frequencies placed relatedBefore
-  places-are = from-same (placed all related (kindCount s)) _ (kindCount s + 2) place
+  places-are = from-same (placed all related (kindCount s)) _ 0 (kindCount s + 2) (λ p _ l. place p (omega arith))
     where
       place : (p : ℕ) → p < kindCount s + 2 → placed all related (kindCount s) p ≡ length (judgedAt (cardOf s) (fieldOf s i) size p)
       place zero h = C (kindCount s) few ∙ sym (related-same s ok i size (kindCount s) (settled-most plain s ok))

@@ -4,22 +4,14 @@ use mathlib.Core.Path.{_≡_, refl, sym, _∙_, ap}
 use Prim.Native.Nat.{ℕ, zero, suc, _+_, _-_, _^_, _≤_, _<_}
 use native.Mathlib.Decide.{ℕ-discrete}
 use native.Mathlib.Omega.{arith}
-use lib.ListN.{length, getD, take, set, replicate, length-set}
-use lib.Seq.{ext-getD, getD-set-same, getD-set-other}
+use lib.ListN.{length, take, set, length-set}
+use lib.Seq.{getD-set-same, getD-set-other}
 use Rattle.model.specs.Finite.{listFrom}
 use Rattle.model.specs.Field.{at}
 use Rattle.model.specs.Limits.{mostKinds, mostListed}
-use Rattle.theory.proofs.Lists.{length-from, getD-from}
+use Rattle.theory.proofs.Lists.{from-same}
 use Rattle.theory.proofs.Writing.{first-counts}
 use Rattle.frequencies.specs.Related.{relatedBefore, placed}
-
--- Lists made of numbers that are the same.
-pub from-same : (f g : ℕ → ℕ) (n : ℕ) → ((p : ℕ) → p < n → f p ≡ g p) → listFrom f 0 n ≡ listFrom g 0 n
-from-same f g n h =
-    ext-getD 0 (listFrom f 0 n) (listFrom g 0 n) (length-from f 0 n ∙ sym (length-from g 0 n)) (λ k l.
-    let q : k < n = omega (arith, length-from f 0 n) in
-    let z : 0 + k ≡ k = omega arith in
-    getD-from f 0 n k 0 q ∙ rw z (h k q) ∙ sym (getD-from g 0 n k 0 q ∙ ap g z))
 
 -- Each stage relates no more than the one before it, and so no more than all.
 module _ (all : ℕ) (related : List ℕ) (last : ℕ) (falls : (q : ℕ) → q ≤ last → at related q ≤ relatedBefore all related q) where
@@ -67,4 +59,4 @@ module _ {all : ℕ} {related : List ℕ} {last : ℕ} where
         go p l (no z) = getD-set-other counts (stage + 1) p v 0 z ∙ P .each p (omega arith)
 
     pub placed-all : last < stage → last ≤ mostKinds → take (last + 2) counts ≡ listFrom (placed all related last) 0 (last + 2)
-    placed-all h few = first-counts counts (last + 2) (omega (arith, P .long)) ∙ from-same (at counts) (placed all related last) (last + 2) (λ p l. P .each p (omega arith))
+    placed-all h few = first-counts counts (last + 2) (omega (arith, P .long)) ∙ from-same (at counts) (placed all related last) 0 (last + 2) (λ p _ l. P .each p (omega arith))

@@ -1,15 +1,16 @@
 -- Tables of the kinds' rows as counts of 64 bits: norms as rows, and the rows of the stage before.
-use mathlib.Core.List.{List, _++_, append-assoc, append-nil}
+use mathlib.Core.List.{List, _++_, append-assoc}
 use mathlib.Core.Path.{_≡_, refl, sym, _∙_, ap}
 use Prim.Native.Nat.{ℕ, _+_, _-_, _*_, _≤_, _<_}
 use native.Mathlib.Decide.{ℕ-discrete}
 use native.Mathlib.Omega.{arith}
-use lib.ListN.{length, take, drop, set, replicate, length-set, drop-of-length-le}
+use lib.ListN.{length, take, drop, set, replicate, length-set}
 use lib.Seq.{getD-set-same, getD-set-other, drop-drop}
 use Rattle.model.specs.Answer.{written}
 use Rattle.model.specs.Field.{Field, none, times, unit, at}
 use Rattle.model.specs.Limits.{mostKinds}
 use Rattle.theory.proofs.Field.{unit-same, unit-other}
+use Rattle.theory.proofs.Writing.{written-whole}
 use Rattle.tables.specs.Table.{rowIn, withRow}
 use Rattle.tables.proofs.Tables.{at-kind, row-at, row-past, row-same, zero-row, lent-length}
 use Rattle.tables.proofs.Stores.{with-row, with-others}
@@ -88,11 +89,6 @@ module _ {kinds since before : List ℕ} {stage : ℕ} {rows lowered : List ℕ}
   pub lowered-fits : {bound : ℕ} → i < length kinds → ((x j : ℕ) → x < length kinds → formBefore since before stage (rowIn rows (at kinds x)) j < bound)
       → (j : ℕ) → formBefore since before stage (rowIn lowered (at kinds i)) j < bound
   lowered-fits h f j = rw (r .left i (omega arith) h) (f i j h)
-
--- A list that is written to a buffer of its length is all that this holds.
-pub written-whole : (xs buffer : List ℕ) → length xs ≡ length buffer → written xs buffer ≡ xs
-unfolding written
-written-whole xs buffer e = ap (λ (l : List ℕ). xs ++ l) (drop-of-length-le buffer {i = length xs} (omega arith)) ∙ append-nil xs
 
 -- A row that is written to its place in a table: to the part of it that has the row.
 pub row-put : (rows row part : List ℕ) (k : ℕ) → length row ≡ mostKinds → length part ≡ mostKinds

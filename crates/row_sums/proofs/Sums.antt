@@ -16,13 +16,12 @@ use Rattle.theory.proofs.Field.{weigh-plus, weigh-none, weigh-unit, weigh-some}
 use Rattle.theory.proofs.Exec.{Tells, tells-map}
 use Rattle.theory.proofs.Lists.{below-mem}
 use Rattle.theory.proofs.Reach.{one-yes, one-no}
-use Rattle.theory.proofs.Counting.{count, count-none, count-cons, count-most}
+use Rattle.theory.proofs.Counting.{count, count-none, count-cons, count-most, count-append, count-zero, count-map}
 use Rattle.theory.proofs.Listing.{more, listed-next, listed-length}
 use Rattle.theory.proofs.Entries.{entry-empty}
 use Rattle.theory.proofs.Numbering.{tells-agree, tells-same, listed-none}
 use Rattle.tables.proofs.Tables.{at-kind, row-past}
 use Rattle.row_sums.specs.Sums.{addingTo}
-use Rattle.row_sums.proofs.Counting.{count-append, count-zero, count-map}
 
 -- No kind past the most that a card may have has a count.
 abbrev pub NonePast : Field → Type 0

@@ -1,13 +1,14 @@
 -- How many members of a list pass a test.
 use mathlib.Core.Bool.{Bool, true, false}
-use mathlib.Core.List.{List, [], _∷_, List·Memᴰ, List·Memᴰ·head, List·Memᴰ·tail}
-use mathlib.Core.Path.{_≡_, refl, ap}
+use mathlib.Core.List.{List, [], _∷_, _++_, map, List·Memᴰ, List·Memᴰ·head, List·Memᴰ·tail}
+use mathlib.Core.Path.{_≡_, refl, _∙_, ap}
 use Prim.Native.Nat.{ℕ, suc, _+_, _≤_}
 use native.Mathlib.Omega.{arith}
 use lib.Dec.{T}
-use lib.ListN.{length}
+use lib.ListN.{length, length-append}
 use Rattle.model.specs.Finite.{keep}
-use Rattle.theory.proofs.Reach.{one, one-most}
+use Rattle.theory.proofs.Reach.{one, one-no, one-most}
+use Rattle.theory.proofs.Shelves.{keep-append}
 
 -- How many pass.
 abbrev pub count : {A : Type 0} → (A → Bool) → List A → ℕ
@@ -59,3 +60,17 @@ module _ {A : Type 0} where
   pub count-most : (p : A → Bool) (xs : List A) → count p xs ≤ length xs
   count-most p [] = omega (arith, count-none p)
   count-most p (x ∷ xs) = omega (arith, count-cons p x xs, one-most (p x), count-most p xs)
+
+-- Of two lists; by a test that nothing passes.
+module _ {A : Type 0} (p : A → Bool) where
+  pub count-append : (xs ys : List A) → count p (xs ++ ys) ≡ count p xs + count p ys
+  count-append xs ys = ap length (keep-append p xs ys) ∙ length-append (keep p xs) (keep p ys)
+
+  pub count-zero : ((x : A) → ¬ T (p x)) → (xs : List A) → count p xs ≡ 0
+  count-zero f [] = count-none p
+  count-zero f (x ∷ xs) = omega (arith, count-cons p x xs, one-no (p x) (f x), count-zero f xs)
+
+-- The images that pass are those of the members whose image does.
+pub count-map : {A B : Type 0} (p : B → Bool) (f : A → B) (xs : List A) → count p (map f xs) ≡ count (λ x. p (f x)) xs
+count-map p f [] = omega (arith, count-none p, count-none (λ x. p (f x)))
+count-map p f (x ∷ xs) = omega (arith, count-cons p (f x) (map f xs), count-cons (λ y. p (f y)) x xs, count-map p f xs)

@@ -4,8 +4,7 @@ use mathlib.Core.Path.{_≡_, _∙_}
 use Prim.Native.Nat.{_-_}
 use native.Mathlib.Omega.{arith}
 use lib.ListN.{length, replicate}
-use Rattle.theory.proofs.Writing.{Begun, begun-none, begun-more, begun-all}
-use Rattle.frequencies.proofs.Rows.{written-whole}
+use Rattle.theory.proofs.Writing.{Begun, begun-none, begun-more, begun-all, written-whole}
 use Rattle.frequencies.proofs.related.wide_rows.Statement.{statement}
 use Rattle.frequencies.proofs.related.wide_rows.Tie as tie
 
