@@ -1,14 +1,14 @@
 -- The counts of the places, from how many fields there are and how many of them each stage relates.
 use mathlib.Core.List.{List}
-use mathlib.Core.Path.{_≡_, refl, sym, _∙_, ap}
-use Prim.Native.Nat.{ℕ, zero, suc, _+_, _-_, _^_, _≤_, _<_}
+use mathlib.Core.Path.{_≡_, refl, _∙_}
+use Prim.Native.Nat.{ℕ, zero, suc, _+_, _-_, _≤_, _<_}
 use native.Mathlib.Decide.{ℕ-discrete}
 use native.Mathlib.Omega.{arith}
 use lib.ListN.{length, take, set, length-set}
 use lib.Seq.{getD-set-same, getD-set-other}
 use Rattle.model.specs.Finite.{listFrom}
 use Rattle.model.specs.Field.{at}
-use Rattle.model.specs.Limits.{mostKinds, mostListed}
+use Rattle.model.specs.Limits.{mostKinds}
 use Rattle.theory.proofs.Lists.{from-same}
 use Rattle.theory.proofs.Writing.{first-counts}
 use Rattle.frequencies.specs.Related.{relatedBefore, placed}

@@ -4,11 +4,10 @@ use mathlib.Core.Logic.{_↔_, Iff·trans}
 use mathlib.Core.Path.{_≡_, refl, sym, _∙_, ap}
 use Prim.Native.Nat.{ℕ, suc, _+_, _≤_, _<_}
 use native.Mathlib.Omega.{arith}
-use lib.Dec.{eqb}
 use lib.ListN.{length, take}
 use lib.Seq.{take-at}
 use Rattle.model.specs.Sense.{plain}
-use Rattle.model.specs.Field.{Field, at, tokens}
+use Rattle.model.specs.Field.{at, tokens}
 use Rattle.model.specs.Card.{reachedCount}
 use Rattle.model.specs.Norm.{kindNorm}
 use Rattle.model.specs.Limits.{mostTokens, mostListed, Limits}
@@ -25,7 +24,7 @@ use Rattle.theory.proofs.Shelves.{shelves}
 use Rattle.theory.proofs.Told.{told, found, cleared, answer-of, lent-of}
 use Rattle.tables.proofs.Tables.{first-below}
 use Rattle.frequencies.specs.Answers.{frequenciesAnswer}
-use Rattle.frequencies.specs.Promises.{HowMany, FrequenciesAnswers, FrequenciesMean, Promises}
+use Rattle.frequencies.specs.Promises.{FrequenciesAnswers, FrequenciesMean, Promises}
 use Rattle.frequencies.specs.declared.answers.Frequencies.{Frequencies}
 use Rattle.frequencies.specs.declared.answers.Frequencies.the-variants.{Written, Refused as NotWritten}
 

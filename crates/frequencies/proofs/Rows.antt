@@ -7,7 +7,7 @@ use native.Mathlib.Omega.{arith}
 use lib.ListN.{length, take, drop, set, replicate, length-set}
 use lib.Seq.{getD-set-same, getD-set-other, drop-drop}
 use Rattle.model.specs.Answer.{written}
-use Rattle.model.specs.Field.{Field, none, times, unit, at}
+use Rattle.model.specs.Field.{none, times, unit, at}
 use Rattle.model.specs.Limits.{mostKinds}
 use Rattle.theory.proofs.Field.{unit-same, unit-other}
 use Rattle.theory.proofs.Writing.{written-whole}

@@ -7,7 +7,7 @@ ghost use Rattle.model.specs.Field.{at};
 ghost use Rattle.model.specs.Card.{reachedKinds, reachedCount};
 ghost use Rattle.model.specs.Limits.{mostKinds, mostTokens, mostListed};
 ghost use Rattle.model.specs.Shelf.{entry};
-ghost use Rattle.model.specs.Sheet.{kindCount, fieldCount, cardOf};
+ghost use Rattle.model.specs.Sheet.{kindCount, cardOf};
 ghost use Rattle.model.specs.Answer.{written, frequencies, frequenciesOf};
 ghost use Rattle.norms.specs.Norms.{Accepts};
 ghost use Rattle.shelf.specs.Kinds.{InOrder};

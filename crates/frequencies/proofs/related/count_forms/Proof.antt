@@ -1,7 +1,7 @@
 -- From the settled stage down: the rows and the form are those of the stage, and the counts of the stages from it up are set.
 use borrow.Author.Needs.{needs}
 use mathlib.Core.Path.{_≡_, refl, _∙_}
-use Prim.Native.Nat.{ℕ, _+_, _-_, _≤_}
+use Prim.Native.Nat.{ℕ, _≤_, _<_}
 use native.Mathlib.Omega.{arith}
 use lib.ListN.{length}
 use mathlib.Core.List.{List}
@@ -48,7 +48,7 @@ lower-rows-requires c κs =
     let loop = c .before .before .before .before .loop in
     let given = start .pre .1 in
     let rows = loop .inv .5 (given .0) (given .1) (given .2) .0 in
-    (rows .in-order, ((loop .inv .2, search needs, search needs), rows-fit (loop .t) (c .before .before .before .loop-test .taken) rows))
+    (rows .in-order, ((loop .inv .2, search needs, search needs), rows-fit (loop .t) (omega (arith, c .before .before .before .loop-test .taken)) rows))
 
 slice-aggregate-form-before : tie.Need-slice-aggregate-form-before Inv-loop μ-loop
 slice-aggregate-form-before c = search needs
@@ -64,7 +64,7 @@ form-before-requires c κs =
     let start = c .before .before .before .before .before .before .before .before .before .before .before .before .before .before .before .before in
     let loop = c .before .before .before .before .before .before .before .before .before .loop in
     let given = start .pre .1 in
-    ((loop .inv .3, search needs, search needs), form-fits (loop .t) (c .before .before .before .before .before .before .before .before .loop-test .taken) (loop .inv .5 (given .0) (given .1) (given .2) .0))
+    ((loop .inv .3, search needs, search needs), form-fits (loop .t) (omega (arith, c .before .before .before .before .before .before .before .before .loop-test .taken)) (loop .inv .5 (given .0) (given .1) (given .2) .0))
 
 sub-t : tie.Need-sub-t Inv-loop μ-loop
 sub-t c = search needs
@@ -93,7 +93,7 @@ loop-again : tie.Need-loop-again Inv-loop μ-loop
 loop-again c =
     let start = c .before .before .before .before .before .before .before .before .before .before .before .before .before .before .before .before .before .before .before .before in
     let loop = c .before .before .before .before .before .before .before .before .before .before .before .before .before .loop in
-    let here = c .before .before .before .before .before .before .before .before .before .before .before .before .loop-test .taken in
+    let here : 1 < loop .t = omega (arith, c .before .before .before .before .before .before .before .before .before .before .before .before .loop-test .taken) in
     let table = c .before .before .before .before .before .before .before .before .lower-rows in
     let form = c .before .before .before .form-before in (
       omega arith,

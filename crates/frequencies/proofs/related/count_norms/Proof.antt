@@ -1,9 +1,7 @@
 -- The rows are the norms, and the counts are the norm of the field.
 use borrow.Author.Needs.{needs}
-use mathlib.Core.Path.{_≡_, sym, _∙_}
-use Prim.Native.Nat.{ℕ, _+_, _-_, _≤_}
+use mathlib.Core.Path.{_∙_}
 use native.Mathlib.Omega.{arith}
-use lib.ListN.{length}
 use Rattle.sheet.proofs.Laws.{kinds-most}
 use Rattle.stages.proofs.Fields.{read-fits, read-norm}
 use Rattle.frequencies.proofs.Counted.{count-is-norms}

@@ -2,7 +2,6 @@
 use borrow.Author.Needs.{needs}
 use mathlib.Core.Path.{_∙_}
 use Prim.Native.Nat.{_-_}
-use native.Mathlib.Omega.{arith}
 use lib.ListN.{length}
 use Rattle.frequencies.proofs.Rows.{LoweredTo, lowered-none, lowered-more, lowered-all, lowered-fits}
 use Rattle.frequencies.proofs.related.lower_rows.Statement.{statement}

@@ -3,7 +3,6 @@ use borrow.Author.Needs.{needs}
 use mathlib.Core.Path.{refl}
 use Prim.Native.Nat.{_-_}
 use native.Mathlib.Omega.{arith}
-use lib.ListN.{length}
 use Rattle.frequencies.proofs.Rows.{NormRows, norm-rows-none, norm-rows-more}
 use Rattle.frequencies.proofs.related.norm_rows.Statement.{statement}
 use Rattle.frequencies.proofs.related.norm_rows.Tie as tie
