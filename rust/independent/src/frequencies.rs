@@ -11,9 +11,8 @@ use crate::shelf::{Entries, MOST_TOKENS};
 /// "18 an entry over 65,536": so many fields are listed at most.
 pub const MOST_LISTED: u64 = 65_536;
 
-/// Looks at a pair of fields with each field of so many tokens of some kinds in the second place, which is empty before
-/// and afterwards: of the first of the kinds any number of these tokens, and of the others the rest. Of no kinds there is
-/// a field of no tokens alone.
+/// Looks at a pair of fields with each field of so many tokens of some kinds in the second place: of the first of the kinds
+/// any number of these tokens, and of the others the rest. Of no kinds there is a field of no tokens alone.
 fn each_field(kinds: &[usize], tokens: u64, pair: &mut [Vec<u64>; 2], look: &mut impl FnMut(&[Vec<u64>; 2])) {
     let Some((&kind, others)) = kinds.split_first() else {
         if tokens == 0 {
@@ -25,7 +24,6 @@ fn each_field(kinds: &[usize], tokens: u64, pair: &mut [Vec<u64>; 2], look: &mut
         pair[1][kind] = count;
         each_field(others, tokens - count, pair, look);
     }
-    pair[1][kind] = 0;
 }
 
 /// Frequencies: "how many of the fields of t tokens are the same as it and how many part from it at each stage from 0 to
