@@ -229,19 +229,30 @@ module _ (s : List ℕ) (ok : Accepted s) (r : Settled) (S : IsSettled plain s r
     form-is = d ∙ settled-form plain s ok (r .base .rows) (S .base-is) i;
   })
 
-  -- All counts: that of stage 0 beside those of the later stages, which past the settled stage stay what they are there.
-  pub related-all : (size v : ℕ) (related : List ℕ) → length related ≡ 33
-      → ((q : ℕ) → 1 ≤ q → q ≤ r .stage → at related q ≡ relatedTo (cardOf s) (fieldOf s i) size q)
+  -- The counts of the later stages, which past the settled stage stay what they are there.
+  pub related-later : (size : ℕ) (related : List ℕ) → ((q : ℕ) → 1 ≤ q → q ≤ r .stage → at related q ≡ relatedTo (cardOf s) (fieldOf s i) size q)
       → ((q : ℕ) → r .stage ≤ q → q ≤ mostKinds → at related q ≡ relatedTo (cardOf s) (fieldOf s i) size (r .stage))
-      → v ≡ relatedTo (cardOf s) (fieldOf s i) size 0 → (q : ℕ) → q ≤ mostKinds → at (set related 0 v) q ≡ relatedTo (cardOf s) (fieldOf s i) size q
-  related-all size v related long later past e q h = go (ℕ-discrete q 0) (decLt (r .stage) q)
+      → (q : ℕ) → 1 ≤ q → q ≤ mostKinds → at related q ≡ relatedTo (cardOf s) (fieldOf s i) size q
+  related-later size related later past q h l = go (decLt (r .stage) q)
     where
-      go : Dec (q ≡ 0) → Dec (r .stage < q) → at (set related 0 v) q ≡ relatedTo (cardOf s) (fieldOf s i) size q
-      go (yes z) _ = rw z (getD-set-same related 0 v 0 (omega arith) ∙ e)
-      go (no n) (no l) = getD-set-other related 0 q v 0 n ∙ later q (omega arith) (omega arith)
-      go (no n) (yes l) =
-          getD-set-other related 0 q v 0 n ∙ past q (omega arith) h
-          ∙ ap (relatedTo (cardOf s) (fieldOf s i) size) (S .stage-is) ∙ sym (related-settled s ok i size q (omega (arith, S .stage-is)))
+      go : Dec (r .stage < q) → at related q ≡ relatedTo (cardOf s) (fieldOf s i) size q
+      go (no m) = later q h (omega arith)
+      go (yes m) = past q (omega arith) l ∙ ap (relatedTo (cardOf s) (fieldOf s i) size) (S .stage-is) ∙ sym (related-settled s ok i size q (omega (arith, S .stage-is)))
+
+module _ (s : List ℕ) (ok : Accepted s) (i size : ℕ) where
+  -- Where stage 0 relates none no stage does.
+  pub related-none : (v : ℕ) → v ≡ relatedTo (cardOf s) (fieldOf s i) size 0 → v ≡ 0 → (q : ℕ) → at (replicate 33 0) q ≡ relatedTo (cardOf s) (fieldOf s i) size q
+  related-none v e z zero = zero-counts 33 0 ∙ sym z ∙ e
+  related-none v e z (suc q) = omega (arith, zero-counts 33 (suc q), zero-counts 33 q, related-none v e z q, related-next s ok i size q)
+
+  -- All counts: that of stage 0 beside those of the later stages.
+  pub related-all : (v : ℕ) (related : List ℕ) → length related ≡ 33 → ((q : ℕ) → 1 ≤ q → q ≤ mostKinds → at related q ≡ relatedTo (cardOf s) (fieldOf s i) size q)
+      → v ≡ relatedTo (cardOf s) (fieldOf s i) size 0 → (q : ℕ) → q ≤ mostKinds → at (set related 0 v) q ≡ relatedTo (cardOf s) (fieldOf s i) size q
+  related-all v related long later e q h = go (ℕ-discrete q 0)
+    where
+      go : Dec (q ≡ 0) → at (set related 0 v) q ≡ relatedTo (cardOf s) (fieldOf s i) size q
+      go (yes z) = rw z (getD-set-same related 0 v 0 (omega arith) ∙ e)
+      go (no n) = getD-set-other related 0 q v 0 n ∙ later q (omega arith) h
 
 -- The entry for the kinds that are listed.
 pub entry-for : (s kinds : List ℕ) (size : ℕ) → kinds ≡ reachedKinds (cardOf s) → entry (length kinds) size ≡ entry (reachedCount (cardOf s)) size

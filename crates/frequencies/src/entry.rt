@@ -21,14 +21,12 @@ use numbering::kinds::listed_kinds;
 use numbering::number::TOKENS;
 use sheet::Card;
 use shelf::entry::entry_of;
-use stages::reached::settle_reached;
-use tables::sense::Sense;
 use validation::checks::Checked;
 
 // "an entry over 65,536"
 const LISTED: u64 = 65_536;
 
-// Frequencies, of any bytes, any field number, any size and a buffer of any length; a refusal leaves the buffer as it was. The sheet is settled once, where nothing is refused.
+// Frequencies, of any bytes, any field number, any size and a buffer of any length; a refusal leaves the buffer as it was. The sheet is settled once, and not at all where the call is refused.
 pub fn frequencies(sheet: &[u8], field: usize, size: usize, buffer: &mut [u32]) -> Frequencies
     ensures { λ r. ⌜ frequenciesAnswer r ≡ frequenciesOf (now (sheet .entry)) field size (now (buffer .entry)) .answer ⌝ }
     ensures { λ r. ⌜ now (buffer .exit) ≡ frequenciesOf (now (sheet .entry)) field size (now (buffer .entry)) .lent ⌝ }
@@ -88,7 +86,7 @@ fn frequencies_accepted(
     Frequencies::Written
 }
 
-// Settles the sheet, and writes how many of the fields of the size, over the reached kinds, get each answer.
+// Writes how many of the fields of the size, over the reached kinds, get each answer.
 fn count_answers(
     sheet: &[u8],
     card: Card,
@@ -105,8 +103,7 @@ fn count_answers(
     requires { ⌜ kindCount (now sheet) + 2 ≤ length (now buffer) ⌝ }
     ensures { λ _. ⌜ now (buffer .exit) ≡ written (frequencies (now (sheet .entry)) field size) (now (buffer .entry)) ⌝ }
 {
-    let settled = settle_reached(Sense::Plain, sheet, card, norms);
-    let related = related_fields(sheet, card, norms, settled, kinds, field, size);
+    let related = related_fields(sheet, card, norms, kinds, field, size);
     let all = entry_of(kinds.len(), size);
     write_places(all, &related, card.kinds, buffer);
 }

@@ -8,7 +8,9 @@ ghost use Rattle.model.specs.Field.{at, times, unit};
 ghost use Rattle.model.specs.Card.{reachedKinds};
 ghost use Rattle.model.specs.Limits.{mostKinds, mostTokens};
 ghost use Rattle.model.specs.Sheet.{cardOf, fieldOf};
+ghost use Rattle.model.specs.Refusal.{Accepted};
 ghost use Rattle.theory.specs.Frequencies.{relatedTo};
+ghost use Rattle.sheet.specs.Reader.{Reads};
 ghost use Rattle.norms.specs.Norms.{Accepts};
 ghost use Rattle.tables.specs.Table.{rowIn};
 ghost use Rattle.shelf.specs.Kinds.{InOrder};
@@ -21,7 +23,9 @@ use sheet::Card;
 use stages::kept::Kept;
 use stages::kept::form_before;
 use stages::parting::field_form;
+use stages::reached::settle_reached;
 use stages::settle::Settled;
+use tables::sense::Sense;
 use tables::table::form_of;
 use tables::table::wide;
 use weights::fields::field_norm;
@@ -129,28 +133,49 @@ fn count_forms(
     related
 }
 
-// How many of the fields of a size, over the reached kinds, each stage up to 32 relates to a field of a settled sheet.
-pub fn related_fields(
+// How many of the fields of a size, over the reached kinds, each stage from 1 to 32 relates to a field of a settled sheet.
+fn count_settled(
     sheet: &[u8],
     card: Card,
-    norms: [u32; 32],
     settled: Settled,
     kinds: &[usize],
     field: usize,
     size: usize,
 ) -> [u64; 33]
-    requires { ⌜ Accepts (now sheet) card norms ⌝ }
+    requires { ⌜ Reads (now sheet) card × Accepted (now sheet) ⌝ }
     requires { ⌜ IsSettled plain (now sheet) settled ⌝ }
     requires { ⌜ (now kinds ≡ reachedKinds (cardOf (now sheet))) × InOrder (now kinds) ⌝ }
     requires { ⌜ (field < card .fields) × (size ≤ mostTokens) ⌝ }
-    ensures { λ r. ⌜ ((q : ℕ) → q ≤ mostKinds → at r q ≡ relatedTo (cardOf (now (sheet .entry))) (fieldOf (now (sheet .entry)) field) size q) ⌝ }
+    ensures { λ r. ⌜ ((q : ℕ) → 1 ≤ q → q ≤ mostKinds → at r q ≡ relatedTo (cardOf (now (sheet .entry))) (fieldOf (now (sheet .entry)) field) size q) ⌝ }
 {
     let base = settled.base;
     let rows = base.rows;
     let form = field_form(sheet, card, &rows, field);
     let table = wide_rows(&rows);
     let stage = settled.stage;
-    let mut related = count_forms(settled.kept, stage, table, form, kinds, size);
-    related[0] = count_norms(sheet, card, norms, kinds, field, size);
+    count_forms(settled.kept, stage, table, form, kinds, size)
+}
+
+// How many of the fields of a size, over the reached kinds, each stage up to 32 relates to a field of an accepted sheet. Where none has the norm of the field no stage relates any, and nothing is settled.
+pub fn related_fields(
+    sheet: &[u8],
+    card: Card,
+    norms: [u32; 32],
+    kinds: &[usize],
+    field: usize,
+    size: usize,
+) -> [u64; 33]
+    requires { ⌜ Accepts (now sheet) card norms ⌝ }
+    requires { ⌜ (now kinds ≡ reachedKinds (cardOf (now sheet))) × InOrder (now kinds) ⌝ }
+    requires { ⌜ (field < card .fields) × (size ≤ mostTokens) ⌝ }
+    ensures { λ r. ⌜ ((q : ℕ) → q ≤ mostKinds → at r q ≡ relatedTo (cardOf (now (sheet .entry))) (fieldOf (now (sheet .entry)) field) size q) ⌝ }
+{
+    let start = count_norms(sheet, card, norms, kinds, field, size);
+    if start == 0 {
+        return [0u64; 33];
+    }
+    let settled = settle_reached(Sense::Plain, sheet, card, norms);
+    let mut related = count_settled(sheet, card, settled, kinds, field, size);
+    related[0] = start;
     related
 }

@@ -13,9 +13,6 @@ use Rattle.frequencies.proofs.Counted.{entry-for, related-falls, places
 use Rattle.frequencies.proofs.entry.count_answers.Statement.{statement}
 use Rattle.frequencies.proofs.entry.count_answers.Tie as tie
 
-settle-reached-requires : tie.Need-settle-reached-requires
-settle-reached-requires c κs = search needs
-
 related-fields-requires : tie.Need-related-fields-requires
 related-fields-requires c κs = search needs
 
@@ -24,7 +21,7 @@ entry-of-requires c κs = search needs
 
 write-places-requires : tie.Need-write-places-requires
 write-places-requires c κs =
-    let start = c .before .before .before .before .before .before .before .before in
+    let start = c .before .before .before .before .before .before .before in
     let A = start .pre .0 in
     let all = c .before .before .entry-of .ensures ∙ entry-for (start .args .sheet .now) (start .args .kinds .now) (start .args .size) (start .pre .1 .0 .0) in (
       (omega (arith, all, start .pre .1 .1 .1 .0), kinds-most (A .reads), omega (arith, kinds-are (A .reads), start .pre .1 .1 .1 .1)),
@@ -36,7 +33,7 @@ same-length c = search needs
 
 returns : tie.Need-returns
 returns c =
-    let start = c .before .before .before .before .before .before .before .before .before .before .before in
+    let start = c .before .before .before .before .before .before .before .before .before .before in
     let A = start .pre .0 in
     let all = c .before .before .before .before .before .entry-of .ensures ∙ entry-for (start .args .sheet .now) (start .args .kinds .now) (start .args .size) (start .pre .1 .0 .0) in
     let related = c .before .before .before .before .before .before .related-fields in
@@ -49,7 +46,6 @@ pub count-answers-spec : {M : Type 1} → statement M
 count-answers-spec =
     tie.close
     (tie.spec
-    settle-reached-requires
     related-fields-requires
     entry-of-requires
     write-places-requires

@@ -1,75 +1,38 @@
--- By the rows of the settled stage and what is kept; stage 0 by norms.
+-- Stage 0 by norms, the later stages by the settled sheet.
 use borrow.Author.Needs.{needs}
-use mathlib.Core.Path.{_≡_}
-use native.Mathlib.Omega.{arith}
-use lib.ListN.{length}
-use Rattle.model.specs.Sense.{plain}
-use Rattle.theory.specs.Widths.{Bytes}
-use Rattle.theory.proofs.Settling.{sheet-settles}
-use Rattle.stages.proofs.Outcomes.{settled-fit}
-use Rattle.stages.proofs.Settled.{settled-most}
-use Rattle.stages.proofs.Unsettled.{few-kinds}
-use Rattle.frequencies.proofs.Counted.{rows-settled, related-all}
+use Rattle.frequencies.proofs.Counted.{related-none, related-all}
 use Rattle.frequencies.proofs.related.related_fields.Statement.{statement}
 use Rattle.frequencies.proofs.related.related_fields.Tie as tie
-
-rows-all : (start : tie.Start) → length (start .args .settled .base .rows) ≡ 1024
-rows-all start = search needs
-
-slice-aggregate-field-form : tie.Need-slice-aggregate-field-form
-slice-aggregate-field-form c = search needs
-
-field-form-requires : tie.Need-field-form-requires
-field-form-requires c κs =
-    let start = c .before .before .before .before .before in
-    let bytes : Bytes (start .args .sheet .now) = λ k. omega (arith, c .before .before .before .before .shared-slice-known .given k) in
-    (start .pre .0 .reads, (start .pre .1 .1 .1 .0, (rows-all start, settled-fit plain (start .args .sheet .now) (start .pre .0 .accepted) (start .args .settled .base .rows) (start .pre .1 .0 .base-is) bytes)))
-
-slice-aggregate-wide-rows : tie.Need-slice-aggregate-wide-rows
-slice-aggregate-wide-rows c = search needs
-
-wide-rows-requires : tie.Need-wide-rows-requires
-wide-rows-requires c κs = search needs
-
-count-forms-requires : tie.Need-count-forms-requires
-count-forms-requires c κs =
-    let start = c .before .before .before .before .before .before .before .before in
-    let sheet = start .args .sheet .now in
-    let ok = start .pre .0 .accepted in
-    let S = start .pre .1 .0 in
-    let few = few-kinds (start .pre .0 .reads) in
-    let bytes : Bytes sheet = λ k. omega (arith, c .before .before .before .before .before .before .before .shared-slice-known .given k) in (
-      (omega (arith, S .stage-is, sheet-settles plain sheet ok .from), omega (arith, S .stage-is, settled-most plain sheet ok), start .pre .1 .1 .1 .1),
-      (sheet, start .args .field, rows-settled sheet ok (start .args .settled) S (start .args .field) bytes few (start .pre .1 .1 .0 .0) (start .pre .1 .1 .0 .1) _ _ (c .wide-rows .ensures) (c .before .before .field-form .ensures)),
-    )
 
 count-norms-requires : tie.Need-count-norms-requires
 count-norms-requires c κs = search needs
 
+returns : tie.Need-returns
+returns c =
+    let start = c .before .before .before .before in
+    λ q _. related-none (start .args .sheet .now) (start .pre .0 .accepted) (start .args .field) (start .args .size) _ (c .before .count-norms .ensures) (search needs) q
+
+settle-reached-requires : tie.Need-settle-reached-requires
+settle-reached-requires c κs = search needs
+
+count-settled-requires : tie.Need-count-settled-requires
+count-settled-requires c κs = search needs
+
 array-write-related : tie.Need-array-write-related
 array-write-related c = search needs
 
-returns : tie.Need-returns
-returns c =
-    let start = c .before .before .before .before .before .before .before .before .before .before in
-    let sheet = start .args .sheet .now in
-    let ok = start .pre .0 .accepted in
-    let S = start .pre .1 .0 in
-    let bytes : Bytes sheet = λ k. omega (arith, c .before .before .before .before .before .before .before .before .before .shared-slice-known .given k) in
-    let rows = rows-settled sheet ok (start .args .settled) S (start .args .field) bytes (few-kinds (start .pre .0 .reads)) (start .pre .1 .1 .0 .0) (start .pre .1 .1 .0 .1) _ _ (c .before .before .wide-rows .ensures) (c .before .before .before .before .field-form .ensures) in
-    let counted = c .before .count-forms in
-    related-all sheet ok (start .args .settled) S (start .args .field) (start .args .size) _ (counted .result) (search needs)
-    (counted .ensures .0 sheet (start .args .field) rows) (counted .ensures .1 sheet (start .args .field) rows) (c .count-norms .ensures)
+returns-2 : tie.Need-returns-2
+returns-2 c =
+    let start = c .before .before .before .before .before .before in
+    related-all (start .args .sheet .now) (start .pre .0 .accepted) (start .args .field) (start .args .size) _ (c .count-settled .result) (search needs) (c .count-settled .ensures) (c .before .before .before .count-norms .ensures)
 
 pub related-fields-spec : {M : Type 1} → statement M
 related-fields-spec =
     tie.close
     (tie.spec
-    slice-aggregate-field-form
-    field-form-requires
-    slice-aggregate-wide-rows
-    wide-rows-requires
-    count-forms-requires
     count-norms-requires
+    returns
+    settle-reached-requires
+    count-settled-requires
     array-write-related
-    returns)
+    returns-2)
