@@ -117,24 +117,24 @@ enum { LIMBATUE_TOGETHER = 0, LIMBATUE_APART = 1, LIMBATUE_SPENT = 2 };
 #define LIMBATUE_SQUADS_ANSWER 1
 #define LIMBATUE_FINER_COMPARE_ANSWER 3
 
-/* Bytes of stack that must be left where a call is made. Taken are, as measured: settle 129,080, compare and finer compare 124,968, prime form and finer prime form
- * 129,384, walk 81,220 at most, page 224,072, shelf number 6,824, shelf field 6,936, squads 133,672, frequencies NOT YET MEASURED, the others under 256. Stated is each with
+/* Bytes of stack that must be left where a call is made. Taken are, as measured: settle 131,208, compare and finer compare 140,328, prime form and finer prime form
+ * 127,288, walk 81,220 at most, page 213,416, shelf number 6,824, shelf field 9,728, squads 131,496, frequencies 150,344, the others under 256. Stated is each with
  * 4,096 more, for memcpy, memset and the loader, which may be asked for them at a first call, and rounded up to pages of 4,096. In the repository ./stack measures the
  * archive again, and fails where under 4,096 are left. */
 #define LIMBATUE_VERSION_STACK 8192
 #define LIMBATUE_NUMBERS_STACK 8192
-#define LIMBATUE_SETTLE_STACK 135168
+#define LIMBATUE_SETTLE_STACK 139264
 #define LIMBATUE_ROW_CHECK_STACK 8192
-#define LIMBATUE_COMPARE_STACK 131072
+#define LIMBATUE_COMPARE_STACK 147456
 #define LIMBATUE_PRIME_FORM_STACK 135168
 #define LIMBATUE_WALK_STACK 86016
-#define LIMBATUE_PAGE_STACK 229376
+#define LIMBATUE_PAGE_STACK 221184
 #define LIMBATUE_SHELF_NUMBER_STACK 12288
-#define LIMBATUE_SHELF_FIELD_STACK 12288
+#define LIMBATUE_SHELF_FIELD_STACK 16384
 #define LIMBATUE_SQUADS_STACK 139264
-#define LIMBATUE_FINER_COMPARE_STACK 131072
+#define LIMBATUE_FINER_COMPARE_STACK 147456
 #define LIMBATUE_FINER_PRIME_FORM_STACK 135168
-#define LIMBATUE_FREQUENCIES_STACK 229376
+#define LIMBATUE_FREQUENCIES_STACK 155648
 #define LIMBATUE_STACK_MOST LIMBATUE_PAGE_STACK
 
 /* The version of the library that was linked; LIMBATUE_VERSION is that of this header. */

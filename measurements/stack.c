@@ -18,8 +18,9 @@ static ucontext_t here, there;
 static uint8_t sheet[LIMBATUE_SHEET_MOST + 1], page[LIMBATUE_PAGE_MOST];
 /* The sheet with an odd number of tokens of kind 0 in field 0: an empty squad is refused, and nothing is divided. */
 static uint8_t with_squad[LIMBATUE_SHEET_MOST + 1];
-/* The sheet with as many tokens as there can be of each kind that its last field holds: frequencies go on where rows go into its form. */
-static uint8_t with_tokens[LIMBATUE_SHEET_MOST + 1];
+/* The sheet with one kind alone in its last field, the first that was there, whose tokens are counted at `tokens`: where these are as many as the size asked for the field has its own norm, the
+ * sheet is settled, and the kind's row goes into what is left of the form up to the last token. */
+static uint8_t with_tokens[LIMBATUE_SHEET_MOST + 1], *tokens;
 static uint32_t table[LIMBATUE_TABLE_MOST], session[LIMBATUE_DESKS], returned;
 static uint64_t counts[LIMBATUE_COUNTS_MOST], answer[4];
 static uint16_t field[LIMBATUE_COUNTS_MOST];
@@ -44,9 +45,10 @@ static void finer_prime_form(void) { returned = limbatue_finer_prime_form(sheet,
 static void frequencies(void)
 {
     size_t size = LIMBATUE_TOKENS_MOST;
-    do
+    do {
+        *tokens = (uint8_t)size;
         returned = limbatue_frequencies(with_tokens, length, last, size, common, LIMBATUE_FREQUENCIES_MOST);
-    while (LIMBATUE_NUMBER(returned) == LIMBATUE_REFUSED_ENTRY && size-- > 0);
+    } while (LIMBATUE_NUMBER(returned) == LIMBATUE_REFUSED_ENTRY && size-- > 0);
 }
 
 static struct {
@@ -108,13 +110,17 @@ static void read_sheet(const char *name)
     fclose(file);
     memcpy(with_squad, sheet, sizeof sheet);
     memcpy(with_tokens, sheet, sizeof sheet);
+    tokens = with_tokens + sizeof with_tokens - 1;
     last = 0;
     if (limbatue_numbers(sheet, length, answer, LIMBATUE_NUMBERS_ANSWER) == 0 && answer[3] > 0) {
         last = (size_t)answer[3] - 1;
         with_squad[20 + answer[2] * (2 + answer[0])] |= 1;
-        for (at = length - 2 * (size_t)answer[0]; at < length; at += 2)
-            if (with_tokens[at] != 0 || with_tokens[at + 1] != 0)
-                with_tokens[at] = with_tokens[at + 1] = 255;
+        tokens = with_tokens + length - 2 * (size_t)answer[0];
+        for (at = length; at > length - 2 * (size_t)answer[0]; at -= 2) {
+            if (with_tokens[at - 2] != 0 || with_tokens[at - 1] != 0)
+                tokens = with_tokens + at - 2;
+            with_tokens[at - 2] = with_tokens[at - 1] = 0;
+        }
     }
 }
 
