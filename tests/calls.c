@@ -551,7 +551,8 @@ static void test_frequencies(void)
 static void test_refused_frequencies(void)
 {
     const size_t short_counts = LIMBATUE_FREQUENCIES_MOST - 1;
-    size_t i;
+    size_t i, kinds, size;
+    uint64_t entry;
     make_chain(32);
     memset(common, 255, sizeof common);
     EXPECT(REFUSED(limbatue_frequencies(sheet, 0, 3, 17, common, short_counts), LIMBATUE_REFUSED_NO_HEADER, 0));
@@ -577,6 +578,11 @@ static void test_refused_frequencies(void)
     EXPECT(REFUSED(frequencies(0, 0), LIMBATUE_REFUSED_NO_NORM, 2) && REFUSED(frequencies(2, 17), LIMBATUE_REFUSED_NO_NORM, 2));
     make_sheet(3, 2, 3, 0); /* no field */
     EXPECT(REFUSED(frequencies(0, 0), LIMBATUE_REFUSED_NUMBER, 0));
+    for (kinds = 1; kinds <= 32; kinds++) { /* of every number of kinds and every size; the least entry that is refused is 65,780, for 22 kinds and 5 tokens */
+        make_chain(kinds);
+        for (size = 0, entry = 1; size <= LIMBATUE_TOKENS_MOST + 1; entry = entry * (kinds + size) / (size + 1), size++)
+            EXPECT(REFUSED(limbatue_frequencies(sheet, length, 0, size, common, 0), size > LIMBATUE_TOKENS_MOST ? LIMBATUE_REFUSED_SIZE : entry > 65536 ? LIMBATUE_REFUSED_ENTRY : LIMBATUE_REFUSED_TOO_SHORT, 0));
+    }
     for (i = 0; i < LIMBATUE_FREQUENCIES_MOST + 1; i++)
         EXPECT(common[i] == UINT32_MAX);
 }

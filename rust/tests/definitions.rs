@@ -432,6 +432,29 @@ fn count(number: u64, bytes: &[u8], normed: &NormedCard, counted: &mut Counted) 
     Ok(())
 }
 
+/// Of every number of kinds and every size: just the entries over 65,536 are refused, which is found before the buffer is.
+#[test]
+fn entries_over_the_limit_are_refused() {
+    let (mut listed, mut refused) = (Vec::new(), Vec::new());
+    for kinds in 1..=MOST_KINDS {
+        let sheet = sheet_of(kinds, &[]);
+        let mut entry = 1;
+        for size in 0..=MOST_TOKENS {
+            let refusal = frequencies(&sheet, 0, size as usize, &mut [7; 2]).expect_err("two counts are too few");
+            let number = if entry > 65_536 { 18 } else { 12 };
+            assert_eq!((refusal.number, refusal.place), (number, 0), "{kinds} kinds, {size} tokens");
+            if number == 12 {
+                listed.push(entry)
+            } else {
+                refused.push(entry)
+            }
+            entry = entry * (kinds as u64 + size) / (size + 1);
+        }
+        assert_eq!(frequencies(&sheet, 0, 17, &mut [7; 2]), Err(Refusal { number: 14, place: 0 }), "{kinds} kinds");
+    }
+    assert_eq!((listed.into_iter().max(), refused.into_iter().min()), (Some(54_264), Some(65_780)));
+}
+
 /// A walk by any desk is that of the definition on what this desk has left, whatever the others have.
 #[test]
 fn walks_and_their_counts() {
