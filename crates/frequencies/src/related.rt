@@ -1,4 +1,4 @@
-// How many of the fields of a size each stage relates to a field of a settled sheet.
+// How many of the fields of a size each stage relates to a field of an accepted sheet.
 ghost use mathlib.Core.List.{List};
 ghost use mathlib.Core.Path.{_≡_};
 ghost use Prim.Native.Nat.{ℕ, _^_, _≤_, _<_};

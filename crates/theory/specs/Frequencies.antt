@@ -17,7 +17,7 @@ use Rattle.model.specs.Answer.{judgedAt, frequencies}
 use Rattle.theory.specs.Expansion.{Bisimilar}
 use Rattle.theory.specs.Terms.{OfKinds, StageIn}
 
--- "the fields of t tokens (of the reached kinds)": b is one of them.
+-- "the fields of t tokens", which are of the reached kinds: b is one of them.
 abbrev pub OfSize : Card → ℕ → Field → Type 0
 OfSize c t b = OfKinds c b × (tokens (c .kinds) b ≡ t)
 
