@@ -1,4 +1,4 @@
-/* limbatue.h: race cards, fields and their prime forms. The verified library, version 0.8.0, for C99, C++11 and whatever calls C.
+/* limbatue.h: race cards, fields and their prime forms. The verified library, version 0.9.0, for C99, C++11 and whatever calls C.
  *
  * Link liblimbatue.a. Where it is installed, `pkg-config --cflags --libs limbatue` prints the options; in the repository, tools/archive proves it and writes
  * target/lib/liblimbatue.a. It is for Linux on x86-64, for programs and shared libraries alike. docs/SHEET.md tells what the bytes of a sheet are.
@@ -43,6 +43,7 @@
  *   14      0      the field or the size is over 16 tokens
  *   15      0      no field of this size has so large a number
  *   17      1      the squad is empty
+ *   18      0      there are over 65,536 fields of this size
  *   12      0      a buffer or table is too short
  */
 #ifndef LIMBATUE_H
@@ -56,8 +57,8 @@ extern "C" {
 #endif
 
 /* The version: 10000 x major + 100 x minor + patch. */
-#define LIMBATUE_VERSION 800
-#define LIMBATUE_VERSION_TEXT "0.8.0"
+#define LIMBATUE_VERSION 900
+#define LIMBATUE_VERSION_TEXT "0.9.0"
 
 /* Of what a call returned. */
 #define LIMBATUE_NUMBER(returned) ((returned) & 255u)
@@ -82,7 +83,8 @@ enum {
     LIMBATUE_REFUSED_SIZE = 14,
     LIMBATUE_REFUSED_SHELF_NUMBER = 15,
     LIMBATUE_REFUSED_DESK = 16,
-    LIMBATUE_REFUSED_EMPTY_SQUAD = 17
+    LIMBATUE_REFUSED_EMPTY_SQUAD = 17,
+    LIMBATUE_REFUSED_ENTRY = 18
 };
 
 /* answer[0] of Compare and of finer Compare; answer[0] of Walk. */
@@ -92,9 +94,10 @@ enum { LIMBATUE_TOGETHER = 0, LIMBATUE_APART = 1, LIMBATUE_SPENT = 2 };
 /* Bytes of the longest sheet. Who reads a sheet from a stream reads one byte more, so that a longer one is refused and not cut. */
 #define LIMBATUE_SHEET_MOST 12820
 
-/* Elements that any sheet's table and any field's counts have at most; bytes that no page passes. */
+/* Elements that any sheet's table, any field's counts and the counts of Frequencies have at most; bytes that no page passes. */
 #define LIMBATUE_TABLE_MOST 1024
 #define LIMBATUE_COUNTS_MOST 32
+#define LIMBATUE_FREQUENCIES_MOST 34
 #define LIMBATUE_PAGE_MOST 73319
 
 /* Tokens of the largest fields that have shelf numbers. */
@@ -114,23 +117,24 @@ enum { LIMBATUE_TOGETHER = 0, LIMBATUE_APART = 1, LIMBATUE_SPENT = 2 };
 #define LIMBATUE_SQUADS_ANSWER 1
 #define LIMBATUE_FINER_COMPARE_ANSWER 3
 
-/* Bytes of stack that must be left where a call is made. Taken are, as measured: settle 129,080, compare and finer compare 124,968, prime form and finer prime form
- * 129,384, walk 81,220 at most, page 224,072, shelf number 6,824, shelf field 6,936, squads 133,672, the others under 256. Stated is each with 4,096 more, for memcpy,
- * memset and the loader, which may be asked for them at a first call, and rounded up to pages of 4,096. In the repository ./stack measures the archive again, and fails
- * where under 4,096 are left. */
+/* Bytes of stack that must be left where a call is made. Taken are, as measured: settle 131,208, compare and finer compare 140,328, prime form and finer prime form
+ * 127,288, walk 81,220 at most, page 213,416, shelf number 6,824, shelf field 9,728, squads 131,496, frequencies 150,344, the others under 256. Stated is each with
+ * 4,096 more, for memcpy, memset and the loader, which may be asked for them at a first call, and rounded up to pages of 4,096. In the repository ./stack measures the
+ * archive again, and fails where under 4,096 are left. */
 #define LIMBATUE_VERSION_STACK 8192
 #define LIMBATUE_NUMBERS_STACK 8192
-#define LIMBATUE_SETTLE_STACK 135168
+#define LIMBATUE_SETTLE_STACK 139264
 #define LIMBATUE_ROW_CHECK_STACK 8192
-#define LIMBATUE_COMPARE_STACK 131072
+#define LIMBATUE_COMPARE_STACK 147456
 #define LIMBATUE_PRIME_FORM_STACK 135168
 #define LIMBATUE_WALK_STACK 86016
-#define LIMBATUE_PAGE_STACK 229376
+#define LIMBATUE_PAGE_STACK 221184
 #define LIMBATUE_SHELF_NUMBER_STACK 12288
-#define LIMBATUE_SHELF_FIELD_STACK 12288
+#define LIMBATUE_SHELF_FIELD_STACK 16384
 #define LIMBATUE_SQUADS_STACK 139264
-#define LIMBATUE_FINER_COMPARE_STACK 131072
+#define LIMBATUE_FINER_COMPARE_STACK 147456
 #define LIMBATUE_FINER_PRIME_FORM_STACK 135168
+#define LIMBATUE_FREQUENCIES_STACK 155648
 #define LIMBATUE_STACK_MOST LIMBATUE_PAGE_STACK
 
 /* The version of the library that was linked; LIMBATUE_VERSION is that of this header. */
@@ -194,6 +198,11 @@ uint32_t limbatue_finer_compare(const uint8_t *sheet, size_t sheet_length, size_
  * one token of an earlier prime kind that it is finer same as. Two fields are finer same just when their finer prime forms are equal, and a form has the total of its
  * field. Reads the sheet. Writes n counts. It has no answer array. Refuses 1 to 12. */
 uint32_t limbatue_finer_prime_form(const uint8_t *sheet, size_t sheet_length, size_t field, uint64_t *counts, size_t counts_length);
+
+/* Frequencies: how common each answer of Compare is, of a field and all fields of a size, which are those that Shelf field finds. The given field may have any number
+ * of tokens. Reads the sheet. Writes n + 2 counts: counts[0], how many of these fields are the same as the given one; counts[1 + s], how many part from it at stage s,
+ * for s from 0 to n. They add up to the number of fields of that size, at most 65,536. It has no answer array. Refuses 1 to 12, 14 where the size is over 16, and 18. */
+uint32_t limbatue_frequencies(const uint8_t *sheet, size_t sheet_length, size_t field, size_t size, uint32_t *counts, size_t counts_length);
 
 #ifdef __cplusplus
 }

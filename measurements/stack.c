@@ -18,9 +18,13 @@ static ucontext_t here, there;
 static uint8_t sheet[LIMBATUE_SHEET_MOST + 1], page[LIMBATUE_PAGE_MOST];
 /* The sheet with an odd number of tokens of kind 0 in field 0: an empty squad is refused, and nothing is divided. */
 static uint8_t with_squad[LIMBATUE_SHEET_MOST + 1];
+/* The sheet with one kind alone in its last field, the first that was there, whose tokens are counted at `tokens`: where these are as many as the size asked for the field has its own norm, the
+ * sheet is settled, and the kind's row goes into what is left of the form up to the last token. */
+static uint8_t with_tokens[LIMBATUE_SHEET_MOST + 1], *tokens;
 static uint32_t table[LIMBATUE_TABLE_MOST], session[LIMBATUE_DESKS], returned;
 static uint64_t counts[LIMBATUE_COUNTS_MOST], answer[4];
 static uint16_t field[LIMBATUE_COUNTS_MOST];
+static uint32_t common[LIMBATUE_FREQUENCIES_MOST];
 static size_t length, last;
 
 static void version(void) { returned = limbatue_version() == LIMBATUE_VERSION ? 0 : 1; }
@@ -37,6 +41,15 @@ static void shelf_field(void) { returned = limbatue_shelf_field(sheet, length, L
 static void squads(void) { returned = limbatue_squads(with_squad, length, last, 0, counts, LIMBATUE_COUNTS_MOST, answer, LIMBATUE_SQUADS_ANSWER); }
 static void finer_compare(void) { returned = limbatue_finer_compare(sheet, length, 0, last, answer, LIMBATUE_FINER_COMPARE_ANSWER); }
 static void finer_prime_form(void) { returned = limbatue_finer_prime_form(sheet, length, last, counts, LIMBATUE_COUNTS_MOST); }
+/* Of the greatest size whose fields are listed. */
+static void frequencies(void)
+{
+    size_t size = LIMBATUE_TOKENS_MOST;
+    do {
+        *tokens = (uint8_t)size;
+        returned = limbatue_frequencies(with_tokens, length, last, size, common, LIMBATUE_FREQUENCIES_MOST);
+    } while (LIMBATUE_NUMBER(returned) == LIMBATUE_REFUSED_ENTRY && size-- > 0);
+}
 
 static struct {
     const char *name;
@@ -57,6 +70,7 @@ static struct {
     { "squads", squads, LIMBATUE_SQUADS_STACK, 0, 0 },
     { "finer_compare", finer_compare, LIMBATUE_FINER_COMPARE_STACK, 0, 0 },
     { "finer_prime_form", finer_prime_form, LIMBATUE_FINER_PRIME_FORM_STACK, 0, 0 },
+    { "frequencies", frequencies, LIMBATUE_FREQUENCIES_STACK, 0, 0 },
 };
 enum { CALLS = sizeof calls / sizeof calls[0] };
 
@@ -86,6 +100,7 @@ static size_t taken_by(void (*call)(void))
 
 static void read_sheet(const char *name)
 {
+    size_t at;
     FILE *file = fopen(name, "rb");
     if (file == NULL)
         fail("can not read ", name);
@@ -94,10 +109,18 @@ static void read_sheet(const char *name)
         fail("can not read ", name);
     fclose(file);
     memcpy(with_squad, sheet, sizeof sheet);
+    memcpy(with_tokens, sheet, sizeof sheet);
+    tokens = with_tokens + sizeof with_tokens - 1;
     last = 0;
     if (limbatue_numbers(sheet, length, answer, LIMBATUE_NUMBERS_ANSWER) == 0 && answer[3] > 0) {
         last = (size_t)answer[3] - 1;
         with_squad[20 + answer[2] * (2 + answer[0])] |= 1;
+        tokens = with_tokens + length - 2 * (size_t)answer[0];
+        for (at = length; at > length - 2 * (size_t)answer[0]; at -= 2) {
+            if (with_tokens[at - 2] != 0 || with_tokens[at - 1] != 0)
+                tokens = with_tokens + at - 2;
+            with_tokens[at - 2] = with_tokens[at - 1] = 0;
+        }
     }
 }
 

@@ -12,6 +12,7 @@ static uint8_t sheet[LIMBATUE_SHEET_MOST + 1], page[LIMBATUE_PAGE_MOST];
 static uint32_t table[LIMBATUE_TABLE_MOST], session[LIMBATUE_DESKS + 1];
 static uint64_t counts[LIMBATUE_COUNTS_MOST], answer[4];
 static uint16_t shelved[LIMBATUE_COUNTS_MOST + 1];
+static uint32_t common[LIMBATUE_FREQUENCIES_MOST + 1];
 static size_t length;
 
 static void put(size_t at, size_t bytes, size_t value)
@@ -51,6 +52,7 @@ static uint32_t shelf_number(size_t field) { return limbatue_shelf_number(sheet,
 static uint32_t shelf_field(size_t size, uint64_t number) { return limbatue_shelf_field(sheet, length, size, number, shelved, LIMBATUE_COUNTS_MOST); }
 static uint32_t finer(size_t first, size_t second) { return limbatue_finer_compare(sheet, length, first, second, answer, LIMBATUE_FINER_COMPARE_ANSWER); }
 static uint32_t finer_form(size_t field) { return limbatue_finer_prime_form(sheet, length, field, counts, LIMBATUE_COUNTS_MOST); }
+static uint32_t frequencies(size_t field, size_t size) { return limbatue_frequencies(sheet, length, field, size, common, LIMBATUE_FREQUENCIES_MOST); }
 static uint32_t squads(size_t whole, size_t squad) { return limbatue_squads(sheet, length, whole, squad, counts, LIMBATUE_COUNTS_MOST, answer, LIMBATUE_SQUADS_ANSWER); }
 
 /* The numbers of a sheet, or the refusal of a small one of which one part was changed. */
@@ -472,6 +474,119 @@ static void test_refused_finer(void)
     EXPECT(answered(answer[3], answer[3], answer[3]) && answer[3] % 256 == 7);
 }
 
+/* A chain of so many kinds: each reads code 0 and leaves nothing; each but kind 0 also reads code 1 and leaves one of the kind before it. All have norm 1, and kind k parts from each later kind at stage k + 2. Field 0
+ * is one token of the last kind, field 1 is empty, field 2 has 65,535 tokens of each kind. */
+static void make_chain(size_t kinds)
+{
+    size_t kind, at;
+    make_sheet(kinds, 2, 2 * kinds - 1, 3);
+    for (kind = 1; kind < kinds; kind++) {
+        at = 20 + (kinds - 1 + kind) * (2 + kinds);
+        sheet[at] = (uint8_t)kind;
+        sheet[at + 1] = 1;
+        sheet[at + 2 + kind - 1] = 1;
+    }
+    put_count(0, kinds - 1, 1);
+    for (kind = 0; kind < kinds; kind++)
+        put_count(2, kind, 65535);
+}
+
+/* Whether so many are the same, so many part at stages 0 and 1, none at the later ones of so many kinds, and the count past these is as it was filled. */
+static int are_common(size_t kinds, uint32_t same, uint32_t at_stage_0, uint32_t at_stage_1)
+{
+    size_t i;
+    for (i = 3; i < kinds + 2; i++)
+        if (common[i] != 0)
+            return 0;
+    return common[0] == same && common[1] == at_stage_0 && common[2] == at_stage_1 && common[kinds + 2] == UINT32_MAX;
+}
+
+static void test_frequencies(void)
+{
+    size_t stage;
+    make_squads();
+    memset(common, 255, sizeof common);
+    EXPECT(frequencies(2, 2) == LIMBATUE_DONE && are_common(3, 1, 3, 2)); /* 0 2 0 itself; 1 0 1, 0 1 1 and 0 0 2 have other norms; 2 0 0 and 1 1 0 part at stage 1 */
+    EXPECT(frequencies(2, 1) == LIMBATUE_DONE && are_common(3, 0, 2, 1));
+    EXPECT(frequencies(1, 2) == LIMBATUE_DONE && are_common(3, 1, 4, 1));
+    EXPECT(frequencies(1, 3) == LIMBATUE_DONE && are_common(3, 1, 6, 3)); /* 1 2 0 is the same as 0 1 1 */
+    EXPECT(frequencies(0, 3) == LIMBATUE_DONE && are_common(3, 0, 10, 0)); /* the given field has 15 tokens */
+    EXPECT(frequencies(3, 0) == LIMBATUE_DONE && are_common(3, 1, 0, 0)); /* one empty field is listed, and the given one is empty */
+    EXPECT(frequencies(3, 1) == LIMBATUE_DONE && are_common(3, 0, 3, 0));
+    EXPECT(frequencies(0, LIMBATUE_TOKENS_MOST) == LIMBATUE_DONE && are_common(3, 1, 138, 14)); /* 15 of the 153 have two of kind 2, and so the norm 18; of them 6 8 2 is the same */
+    EXPECT(common[LIMBATUE_FREQUENCIES_MOST] == UINT32_MAX);
+    /* with room for the five counts alone */
+    memset(common, 255, sizeof common);
+    EXPECT(limbatue_frequencies(sheet, length, 1, 3, common, 5) == LIMBATUE_DONE && are_common(3, 1, 6, 3));
+    make_chain(32);
+    memset(common, 255, sizeof common);
+    EXPECT(frequencies(0, 1) == LIMBATUE_DONE && common[0] == 1 && common[1] == 0 && common[2] == 0 && common[34] == UINT32_MAX);
+    for (stage = 2; stage <= 32; stage++)
+        EXPECT(common[1 + stage] == 1);
+    EXPECT(frequencies(0, 2) == LIMBATUE_DONE && are_common(32, 0, 528, 0));
+    EXPECT(frequencies(1, 4) == LIMBATUE_DONE && are_common(32, 0, 52360, 0));
+    EXPECT(frequencies(2, 0) == LIMBATUE_DONE && are_common(32, 0, 1, 0)); /* the given field has 32 times 65,535 tokens */
+    put_count(0, 31, 4); /* a field parts from four of kind 31 by the lowest kind that it holds */
+    EXPECT(frequencies(0, 4) == LIMBATUE_DONE && common[0] == 1 && common[1] == 0 && common[2] == 0 && common[34] == UINT32_MAX);
+    for (stage = 2; stage <= 32; stage++)
+        EXPECT(common[1 + stage] == (36 - stage) * (35 - stage) * (34 - stage) / 6);
+    make_fields(); /* every kind is one of kind 0 */
+    EXPECT(frequencies(1, 1) == LIMBATUE_DONE && are_common(32, 32, 0, 0));
+    EXPECT(frequencies(1, 2) == LIMBATUE_DONE && are_common(32, 0, 528, 0));
+    EXPECT(frequencies(2, 2) == LIMBATUE_DONE && are_common(32, 528, 0, 0));
+    put_count(2, 0, 4);
+    EXPECT(frequencies(2, 4) == LIMBATUE_DONE && are_common(32, 52360, 0, 0));
+    make_sheet(7, 1, 7, 2);
+    for (stage = 0; stage < 7; stage++)
+        put_count(0, stage, 1);
+    put_count(1, 0, 15);
+    memset(common, 255, sizeof common);
+    EXPECT(frequencies(0, 7) == LIMBATUE_DONE && are_common(7, 1716, 0, 0));
+    EXPECT(frequencies(1, 15) == LIMBATUE_DONE && are_common(7, 54264, 0, 0)); /* no sheet has more fields of a size that is listed */
+    EXPECT(REFUSED(frequencies(1, 16), LIMBATUE_REFUSED_ENTRY, 0)); /* 74,613 */
+    EXPECT(are_common(7, 54264, 0, 0));
+}
+
+/* Each refusal before the next, with all that the later ones refuse given too; nothing changes. */
+static void test_refused_frequencies(void)
+{
+    const size_t short_counts = LIMBATUE_FREQUENCIES_MOST - 1;
+    size_t i, kinds, size;
+    uint64_t entry;
+    make_chain(32);
+    memset(common, 255, sizeof common);
+    EXPECT(REFUSED(limbatue_frequencies(sheet, 0, 3, 17, common, short_counts), LIMBATUE_REFUSED_NO_HEADER, 0));
+    EXPECT(REFUSED(limbatue_frequencies(sheet, length - 1, 3, 17, common, short_counts), LIMBATUE_REFUSED_LAYOUT, 3));
+    EXPECT(REFUSED(limbatue_frequencies(sheet, length, 3, 17, common, short_counts), LIMBATUE_REFUSED_NUMBER, 0));
+    EXPECT(REFUSED(limbatue_frequencies(sheet, length, 3, 5, common, short_counts), LIMBATUE_REFUSED_NUMBER, 0));
+    EXPECT(REFUSED(limbatue_frequencies(sheet, length, SIZE_MAX, SIZE_MAX, common, 0), LIMBATUE_REFUSED_NUMBER, 0));
+    EXPECT(REFUSED(limbatue_frequencies(sheet, length, (size_t)UINT64_C(4294967296), 1, common, 0), LIMBATUE_REFUSED_NUMBER, 0));
+    EXPECT(REFUSED(limbatue_frequencies(sheet, length, 0, LIMBATUE_TOKENS_MOST + 1, common, short_counts), LIMBATUE_REFUSED_SIZE, 0));
+    EXPECT(REFUSED(limbatue_frequencies(sheet, length, 2, 256, common, 0), LIMBATUE_REFUSED_SIZE, 0));
+    EXPECT(REFUSED(limbatue_frequencies(sheet, length, 2, (size_t)UINT64_C(4294967296), common, 0), LIMBATUE_REFUSED_SIZE, 0));
+    EXPECT(REFUSED(limbatue_frequencies(sheet, length, 2, SIZE_MAX, common, 0), LIMBATUE_REFUSED_SIZE, 0));
+    EXPECT(REFUSED(limbatue_frequencies(sheet, length, 0, LIMBATUE_TOKENS_MOST, common, short_counts), LIMBATUE_REFUSED_ENTRY, 0));
+    EXPECT(REFUSED(limbatue_frequencies(sheet, length, 0, 5, common, short_counts), LIMBATUE_REFUSED_ENTRY, 0)); /* 376,992 */
+    EXPECT(REFUSED(limbatue_frequencies(sheet, length, 0, 5, common, 0), LIMBATUE_REFUSED_ENTRY, 0));
+    EXPECT(REFUSED(limbatue_frequencies(sheet, length, 0, 4, common, short_counts), LIMBATUE_REFUSED_TOO_SHORT, 0));
+    EXPECT(REFUSED(limbatue_frequencies(sheet, length, 0, 4, common, LIMBATUE_COUNTS_MOST), LIMBATUE_REFUSED_TOO_SHORT, 0));
+    EXPECT(REFUSED(limbatue_frequencies(sheet, length, 1, 0, common, 0), LIMBATUE_REFUSED_TOO_SHORT, 0));
+    /* with room for everything */
+    EXPECT(REFUSED(frequencies(3, 1), LIMBATUE_REFUSED_NUMBER, 0) && REFUSED(frequencies(0, 17), LIMBATUE_REFUSED_SIZE, 0));
+    EXPECT(REFUSED(frequencies(0, 5), LIMBATUE_REFUSED_ENTRY, 0) && REFUSED(frequencies(2, 16), LIMBATUE_REFUSED_ENTRY, 0));
+    make_no_norm();
+    EXPECT(REFUSED(frequencies(0, 0), LIMBATUE_REFUSED_NO_NORM, 2) && REFUSED(frequencies(2, 17), LIMBATUE_REFUSED_NO_NORM, 2));
+    make_sheet(3, 2, 3, 0); /* no field */
+    EXPECT(REFUSED(frequencies(0, 0), LIMBATUE_REFUSED_NUMBER, 0));
+    for (kinds = 1; kinds <= 32; kinds++) { /* of every number of kinds and every size; the least entry that is refused is 65,780, for 22 kinds and 5 tokens */
+        make_chain(kinds);
+        for (size = 0, entry = 1; size <= LIMBATUE_TOKENS_MOST + 1; entry = entry * (kinds + size) / (size + 1), size++)
+            EXPECT(REFUSED(limbatue_frequencies(sheet, length, 0, size, common, 0), size > LIMBATUE_TOKENS_MOST ? LIMBATUE_REFUSED_SIZE : entry > 65536 ? LIMBATUE_REFUSED_ENTRY : LIMBATUE_REFUSED_TOO_SHORT, 0));
+    }
+    for (i = 0; i < LIMBATUE_FREQUENCIES_MOST + 1; i++)
+        EXPECT(common[i] == UINT32_MAX);
+}
+
 /* Kind 1 is held, and kinds 0 and 2, the latter without a line, are out; then all three are. */
 static void test_out(void)
 {
@@ -491,6 +606,10 @@ static void test_out(void)
     EXPECT(squads(1, 1) == LIMBATUE_DONE && answer[0] == 1 && counts[0] == 0 && counts[1] == 0 && counts[2] == 0);
     EXPECT(finer_form(1) == LIMBATUE_DONE && counts[0] == 0 && counts[1] == 2 && counts[2] == 0);
     EXPECT(finer(1, 0) == LIMBATUE_DONE && answered(LIMBATUE_DIFFERENT, 0, 1));
+    memset(common, 255, sizeof common);
+    EXPECT(frequencies(1, 2) == LIMBATUE_DONE && are_common(3, 1, 0, 0)); /* of each size one field is listed */
+    EXPECT(frequencies(0, LIMBATUE_TOKENS_MOST) == LIMBATUE_DONE && are_common(3, 0, 1, 0));
+    EXPECT(REFUSED(limbatue_frequencies(sheet, length, 1, 2, common, 4), LIMBATUE_REFUSED_TOO_SHORT, 0));
     EXPECT(limbatue_page(sheet, length, page, LIMBATUE_PAGE_MOST, answer, LIMBATUE_PAGE_ANSWER) == LIMBATUE_DONE && answer[0] == strlen(kinds) && memcmp(page, kinds, strlen(kinds)) == 0);
     put_count(1, 1, 0);
     memset(table, 255, sizeof table);
@@ -502,6 +621,8 @@ static void test_out(void)
     EXPECT(finer_form(1) == LIMBATUE_DONE && counts[0] == 0 && counts[1] == 0 && counts[2] == 0);
     EXPECT(shelf_field(0, 0) == LIMBATUE_DONE && shelved[0] == 0 && shelved[1] == 0 && shelved[2] == 0);
     EXPECT(REFUSED(shelf_field(1, 0), LIMBATUE_REFUSED_SHELF_NUMBER, 0));
+    EXPECT(frequencies(1, 0) == LIMBATUE_DONE && are_common(3, 1, 0, 0));
+    EXPECT(frequencies(1, 1) == LIMBATUE_DONE && are_common(3, 0, 0, 0)); /* no field is listed */
     EXPECT(limbatue_page(sheet, length, page, LIMBATUE_PAGE_MOST, answer, LIMBATUE_PAGE_ANSWER) == LIMBATUE_DONE && answer[0] == strlen(none) && memcmp(page, none, strlen(none)) == 0);
 }
 
@@ -521,6 +642,8 @@ int main(void)
     test_refused_squads();
     test_finer();
     test_refused_finer();
+    test_frequencies();
+    test_refused_frequencies();
     test_out();
     return failures != 0;
 }

@@ -1,11 +1,12 @@
-//! The library's times beside those of the independent implementation, in one run: settling the costly families, prime forms in the plain and the finer sense, walks, how time grows with kinds and lines, and what kinds that are out cost.
+//! The library's times beside those of the independent implementation, in one run: settling the costly families, prime forms in the plain and the finer sense, frequencies of as many fields as are listed, walks, how time grows with kinds and
+//! lines, and what kinds that are out cost.
 //!
 //! Each time is the least of the runs of a fifth of a second, over the same sheet and the same buffers, which are not cleared between the runs.
 
 use std::hint::black_box;
 use std::time::{Duration, Instant};
 
-use independent::generator::{COSTLY, Family, measured, side_by_side};
+use independent::generator::{COSTLY, Family, measured, measured_among, side_by_side};
 use independent::parts::bytes_of;
 use independent::reached::reached_kinds;
 use independent::sense::Sense;
@@ -106,6 +107,63 @@ fn reached_alone(sheet: &[u8]) -> Vec<u8> {
     alone
 }
 
+/// Frequencies of the last field of a sheet and a size: the library's time and the independent one's.
+fn frequencies_times(sheet: &[u8], size: usize) -> (Duration, Duration) {
+    let field = limbatue::numbers(sheet).expect("an accepted sheet").fields - 1;
+    let (mut counts, mut other) = ([0; 34], [0; 34]);
+    limbatue::frequencies_into(sheet, field, size, &mut counts).expect("fields that are listed");
+    assert_eq!(independent::frequencies::frequencies(sheet, field, size, &mut other), Ok(()));
+    assert!(counts == other, "the counts differ");
+    let library = least_time(|| {
+        black_box(limbatue::frequencies_into(black_box(sheet), field, size, &mut counts)).ok();
+    });
+    let independent = least_time(|| {
+        black_box(independent::frequencies::frequencies(black_box(sheet), field, size, &mut other)).ok();
+    });
+    (library, independent)
+}
+
+/// A sheet with one field more, of so many tokens of some of its reached kinds.
+fn with_tokens(sheet: &[u8], kinds: &[usize], tokens: u16) -> Vec<u8> {
+    let card = read(sheet).expect("a well-formed sheet");
+    let mut counts = vec![0; card.kinds];
+    kinds.iter().for_each(|&kind| counts[kind] = tokens);
+    card.with_field(sheet, &counts).expect("room for a field")
+}
+
+/// A sheet with one field more, of so many tokens of one kind: that for which counting the fields of as many tokens takes the independent implementation longest in a single run.
+fn with_costliest_field(sheet: &[u8], size: usize) -> Vec<u8> {
+    let single_run = |with_field: &Vec<u8>| {
+        let field = read(with_field).expect("a well-formed sheet").fields - 1;
+        let started = Instant::now();
+        independent::frequencies::frequencies(with_field, field, size, &mut [0; 34]).expect("fields that are listed");
+        started.elapsed()
+    };
+    let reached = reached_kinds(&read(sheet).expect("a well-formed sheet"));
+    let sheets = reached.into_iter().map(|kind| with_tokens(sheet, &[kind], size as u16));
+    sheets.max_by_key(single_run).expect("a reached kind")
+}
+
+/// Prints the times of Frequencies on a sheet of a family: of a field of the size, and of one of which each token of any field of the size can be taken away, at every stage.
+fn print_frequencies(family: Family, sheet: &[u8], size: usize) {
+    let reached = reached_kinds(&read(sheet).expect("a well-formed sheet"));
+    let given = [with_costliest_field(sheet, size), with_tokens(sheet, &reached, u16::MAX)];
+    let [(library, independent), (large_library, large_independent)] =
+        given.each_ref().map(|sheet| frequencies_times(sheet, size));
+    let stage = limbatue::settle(sheet).expect("an accepted sheet").stage();
+    println!(
+        "{:22} {:7} {size:4} {stage:7} {:12.3} {:15.3} {:6.2} {:13.3} {:15.3} {:6.2}",
+        format!("{family:?}"),
+        reached.len(),
+        milliseconds(library),
+        milliseconds(independent),
+        library.as_secs_f64() / independent.as_secs_f64(),
+        milliseconds(large_library),
+        milliseconds(large_independent),
+        large_library.as_secs_f64() / large_independent.as_secs_f64()
+    );
+}
+
 /// The library's time of a walk on a field against itself and the independent one's, and the pairs drawn.
 fn walk_times(sheet: &[u8]) -> (u32, Duration, Duration) {
     let (mut drawn, mut other) = (0, 0);
@@ -153,6 +211,17 @@ fn main() {
             finer.as_secs_f64() / plain.as_secs_f64(),
             independent_finer.as_secs_f64() / independent_plain.as_secs_f64()
         );
+    }
+    println!(
+        "\nfrequencies, 32 kinds: 52,360 fields of 4 tokens, 54,264 of 6 and of 15; the given field has the size, and then 65,535 tokens of each kind\n                       reached size  stages   library ms  independent ms  ratio    library ms  independent ms  ratio"
+    );
+    for (family, sheet) in &costly {
+        print_frequencies(*family, sheet, 4);
+    }
+    for (kinds, size) in [(16, 6), (7, 15)] {
+        for family in COSTLY {
+            print_frequencies(family, &measured_among(family, kinds, 256, SEED), size);
+        }
     }
     println!("\nsettle by kinds, 4 to 32, 8 lines each: library ms (ratio)");
     for family in COSTLY {

@@ -96,4 +96,12 @@ unsafe extern "C" {
         counts: *mut u64,
         counts_length: usize,
     ) -> u32;
+    pub fn limbatue_frequencies(
+        sheet: *const u8,
+        sheet_length: usize,
+        field: usize,
+        size: usize,
+        counts: *mut u32,
+        counts_length: usize,
+    ) -> u32;
 }

@@ -16,6 +16,7 @@
 //! | how often a field goes into another, and what remains | [`squads`], [`Squads`] | [`squads_into`] |
 //! | whether two fields are the same where the number of tokens counts too | [`finer_compare`] | |
 //! | a field's prime form where the number of tokens counts too | [`finer_prime_form`] | [`finer_prime_form_into`] |
+//! | of the fields of a size, how many are the same as a field, and how many part from it at each stage | [`frequencies`], [`Frequencies`] | [`frequencies_into`] |
 //!
 //! Every function may be given any bytes and any numbers. What it can not do it refuses: a [`Refusal`] says why and where, and whatever was lent is as it was.
 //! The functions keep no state, so any number of threads may call them. A call takes under 256 KB of stack (`include/limbatue.h` has each call's figure).
@@ -50,6 +51,7 @@ mod readme {}
 
 mod ffi;
 mod finer;
+mod frequencies;
 mod refusal;
 mod settled;
 mod shelf;
@@ -57,6 +59,7 @@ mod squads;
 mod walk;
 
 pub use finer::{finer_compare, finer_prime_form, finer_prime_form_into};
+pub use frequencies::{Frequencies, frequencies, frequencies_into};
 pub use refusal::{Reason, Refusal};
 pub use settled::Settled;
 pub use shelf::{ShelfNumber, shelf_field, shelf_field_into, shelf_number};
@@ -95,6 +98,17 @@ pub const TABLE_MOST: usize = 1024;
 /// # Ok::<(), Box<dyn std::error::Error>>(())
 /// ```
 pub const COUNTS_MOST: usize = 32;
+
+/// The counts of [`frequencies_into`] for any sheet: two more than there are kinds at most.
+///
+/// ```
+/// let mut counts = [0; limbatue::FREQUENCIES_MOST];
+/// let sheet = std::fs::read("testdata/chain32.sheet")?;
+/// limbatue::frequencies_into(&sheet, 0, 1, &mut counts)?;
+/// assert_eq!(counts.iter().sum::<u32>(), 32); // the fields of one token
+/// # Ok::<(), Box<dyn std::error::Error>>(())
+/// ```
+pub const FREQUENCIES_MOST: usize = 34;
 
 /// The bytes that no page passes.
 ///

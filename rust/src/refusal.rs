@@ -13,7 +13,7 @@ use std::fmt;
 /// // A library that is newer than this crate may know more reasons, so a `match` needs an arm for those.
 /// let is_about_the_call = match refusal.reason {
 ///     Reason::Desk | Reason::Number | Reason::RoundLimit => true,
-///     Reason::Size | Reason::ShelfNumber | Reason::EmptySquad | Reason::TooShort => true,
+///     Reason::Size | Reason::ShelfNumber | Reason::EmptySquad | Reason::Entry | Reason::TooShort => true,
 ///     _ => false,
 /// };
 /// assert!(!is_about_the_call);
@@ -53,6 +53,8 @@ pub enum Reason {
     ShelfNumber,
     /// 17: the squad is empty. The place is 1, that of the second number.
     EmptySquad,
+    /// 18: there are over 65,536 fields of this size.
+    Entry,
     /// 12: a buffer or table is too short.
     TooShort,
     /// A number that this crate does not know.
@@ -115,6 +117,7 @@ impl Refusal {
             Reason::ShelfNumber => 15,
             Reason::Desk => 16,
             Reason::EmptySquad => 17,
+            Reason::Entry => 18,
             Reason::Other(number) => number,
         }
     }
@@ -139,6 +142,7 @@ impl Refusal {
             15 => Reason::ShelfNumber,
             16 => Reason::Desk,
             17 => Reason::EmptySquad,
+            18 => Reason::Entry,
             number => Reason::Other(number),
         };
         Refusal { reason, place: returned / 256 }
@@ -170,6 +174,7 @@ impl fmt::Display for Refusal {
             (Reason::Size, _) => f.write_str("the field or the size is over 16 tokens"),
             (Reason::ShelfNumber, _) => f.write_str("no field of this size has so large a number"),
             (Reason::EmptySquad, _) => f.write_str("the squad is empty"),
+            (Reason::Entry, _) => f.write_str("there are over 65,536 fields of this size"),
             (Reason::TooShort, _) => f.write_str("a buffer or table is too short"),
             (Reason::Layout | Reason::Number | Reason::Other(_), _) => {
                 write!(f, "refusal {} at place {place}", self.number())

@@ -1,6 +1,6 @@
 //! The library against the independent implementation: every answer, every buffer, what stands before and past it, and every session after each of its walks; and what is promised of the desks
-//! of a session, over whole days, of squads, by Compare and Prime form, of sheets that use a part of their card, by the sheets of that part, and of the finer sense, by the plain one and the totals, on both. The
-//! comparison, the days, the squads, the parts and the finer sense are tried themselves too: they find each kind of difference, and each broken promise.
+//! of a session, over whole days, of squads, by Compare and Prime form, of sheets that use a part of their card, by the sheets of that part, of the finer sense, by the plain one and the totals, and of frequencies, by
+//! Shelf field and Compare, on both. The comparison, the days, the squads, the parts, the finer sense and the frequencies are tried themselves too: they find each kind of difference, and each broken promise.
 
 use std::collections::BTreeSet;
 use std::fmt::Debug;
@@ -10,9 +10,11 @@ use independent::calls::{
     Answer, Call, Comparison, Implementation, Lent, Margined, Walk, compare_implementations, independent,
     independent_walk, row_place,
 };
+use independent::counting::{Promise as Counting, try_counts};
 use independent::days::{Promise, play_days};
-use independent::filer::{Verdict, compare, prime_form};
+use independent::filer::{Verdict, bases, compare, parting_stage, prime_form};
 use independent::finer::{Promise as Finer, try_finer};
+use independent::frequencies::{MOST_LISTED, frequencies};
 use independent::generator::sample;
 use independent::joining::{Promise as Joining, try_squads};
 use independent::norm::accept;
@@ -21,7 +23,7 @@ use independent::parts::{Promise as Part, try_parts};
 use independent::reached::reached_kinds;
 use independent::sense::Sense;
 use independent::sheet::{Numbers, Refusal, read};
-use independent::shelf::{ShelfNumber, number_of, tokens_of};
+use independent::shelf::{Entries, MOST_TOKENS, ShelfNumber, field_of, number_of, tokens_of};
 use independent::squads::squads;
 use independent::walker::{Answer as Found, DESKS, Walked, walk_lent};
 
@@ -94,6 +96,10 @@ fn call_library(call: &Call, lent: &mut Lent, entries: usize) -> (u32, Margined<
                 let remainder = lent.counts.lent_mut();
                 ffi::limbatue_squads(sheet, bytes, whole, squad, remainder.as_mut_ptr(), remainder.len(), values, room)
             }
+            Call::Frequencies { field, size, .. } => {
+                let counts = lent.frequencies.lent_mut();
+                ffi::limbatue_frequencies(sheet, bytes, field, size, counts.as_mut_ptr(), counts.len())
+            }
         }
     };
     (code, array)
@@ -128,7 +134,7 @@ fn values_of(call: &Call) -> usize {
         Call::RowCheck { .. } | Call::Row { .. } | Call::ShelfNumber { .. } => 2,
         Call::Compare { .. } | Call::Day(_) => 3,
         Call::Numbers => 4,
-        Call::PrimeForm { .. } | Call::ShelfField { .. } => 0,
+        Call::PrimeForm { .. } | Call::ShelfField { .. } | Call::Frequencies { .. } => 0,
     }
 }
 
@@ -184,6 +190,7 @@ fn library(call: &Call, lent: &mut Lent) -> Answer {
         Call::ShelfNumber { .. } => Answer::ShelfNumber(ShelfNumber { size: values[0], number: values[1] }),
         Call::ShelfField { .. } => Answer::FieldWritten,
         Call::Squads { .. } => Answer::Squads { count: values[0] },
+        Call::Frequencies { .. } => Answer::FrequenciesWritten,
     }
 }
 
@@ -296,6 +303,10 @@ fn wrappers(call: &Call, lent: &mut Lent) -> Answer {
             .map_or_else(refused, |()| Answer::FieldWritten),
         Call::Squads { whole, squad, .. } => limbatue::squads_into(sheet, whole, squad, lent.counts.lent_mut())
             .map_or_else(refused, |count| Answer::Squads { count }),
+        Call::Frequencies { field, size, .. } => {
+            limbatue::frequencies_into(sheet, field, size, lent.frequencies.lent_mut())
+                .map_or_else(refused, |()| Answer::FrequenciesWritten)
+        }
     }
 }
 
@@ -333,6 +344,11 @@ fn owned_forms(call: &Call, lent: &mut Lent) -> Answer {
         Call::Squads { whole, squad, .. } => limbatue::squads(sheet, whole, squad).map_or_else(refused, |found| {
             written(&found.remainder, lent.counts.lent_mut(), Answer::Squads { count: found.count })
         }),
+        Call::Frequencies { field, size, .. } => {
+            limbatue::frequencies(sheet, field, size).map_or_else(refused, |limbatue::Frequencies { same, stages }| {
+                written(&[&[same], &stages[..]].concat(), lent.frequencies.lent_mut(), Answer::FrequenciesWritten)
+            })
+        }
         _ => wrappers(call, lent),
     }
 }
@@ -856,7 +872,7 @@ fn no_kind_is_out(call: &Call, lent: &mut Lent) -> Answer {
         Call::Compare { first, second, .. } | Call::Squads { whole: first, squad: second, .. } => {
             is_over(first) || is_over(second)
         }
-        Call::PrimeForm { field, .. } | Call::ShelfNumber { field } => is_over(field),
+        Call::PrimeForm { field, .. } | Call::ShelfNumber { field } | Call::Frequencies { field, .. } => is_over(field),
         _ => false,
     };
     if too_large {
@@ -1125,6 +1141,340 @@ fn a_broken_promise_of_the_finer_sense_is_found() {
         ("plain form", plain_form, &[Finer::Forms, Finer::OwnForm, Finer::OneToken]),
     ] {
         let tried = try_finer(SEED, 0..2_000, wrong);
+        println!("{name}: {tried:?}");
+        assert!(promises.iter().eq(tried.broken.keys()), "{name}: {tried:?}");
+    }
+}
+
+/// Makes a call of Frequencies on its sheet and a buffer.
+type Counter = fn(&[u8], usize, usize, &mut [u32]) -> Result<(), Refusal>;
+
+/// Makes the calls of Frequencies by a function, and all others on the independent side.
+fn with_counter(call: &Call, lent: &mut Lent, counter: Counter) -> Answer {
+    match *call {
+        Call::Frequencies { field, size, .. } => {
+            counter(lent.sheets[0].lent(), field, size, lent.frequencies.lent_mut())
+                .map_or_else(Answer::Refused, |()| Answer::FrequenciesWritten)
+        }
+        _ => independent(call, lent),
+    }
+}
+
+/// Does what is asked, and then something to the counts that were written, of an accepted sheet.
+fn with_counts(call: &Call, lent: &mut Lent, alter: fn(&mut [u32])) -> Answer {
+    let answer = independent(call, lent);
+    if let (Call::Frequencies { .. }, Answer::FrequenciesWritten) = (call, &answer) {
+        let kinds = read(lent.sheets[0].lent()).expect("an accepted sheet").kinds;
+        alter(&mut lent.frequencies.lent_mut()[..kinds + 2]);
+    }
+    answer
+}
+
+/// The fields of so many tokens of some kinds of a sheet.
+fn fields_of(sheet: &[u8], kinds: &[usize], tokens: u64) -> Vec<Vec<u64>> {
+    let all = read(sheet).expect("an accepted sheet").kinds;
+    let spread = |counts: Vec<u64>| {
+        let mut field = vec![0; all];
+        kinds.iter().zip(counts).for_each(|(&kind, count)| field[kind] = count);
+        field
+    };
+    (0..).map_while(|number| field_of(kinds.len(), tokens, number)).map(spread).collect()
+}
+
+/// Writes how many of some fields get each answer with a field of an accepted sheet.
+fn write_counted(sheet: &[u8], field: usize, others: Vec<Vec<u64>>, counts: &mut [u32]) {
+    let normed = accept(sheet).expect("an accepted sheet");
+    let bases = bases(&normed);
+    counts[..normed.card.kinds + 2].fill(0);
+    for other in others {
+        let stage = parting_stage(&normed, &bases, &[normed.card.field(field), other]);
+        counts[stage.map_or(0, |stage| stage as usize + 1)] += 1;
+    }
+}
+
+/// Writes those that are the same last.
+fn same_last(call: &Call, lent: &mut Lent) -> Answer {
+    with_counts(call, lent, |counts| counts.rotate_left(1))
+}
+
+/// Counts from stage 1 on, those of stage 0 there too, one stage late.
+fn a_stage_late(call: &Call, lent: &mut Lent) -> Answer {
+    with_counts(call, lent, |counts| counts[1..].rotate_right(1))
+}
+
+/// Tells of each stage how many fields it relates to the given one, and not how many it parts.
+fn related_ones(call: &Call, lent: &mut Lent) -> Answer {
+    with_counts(call, lent, |counts| {
+        let mut related: u32 = counts.iter().sum();
+        for count in &mut counts[1..] {
+            related -= *count;
+            *count = related;
+        }
+    })
+}
+
+/// Tells of each stage how many fields part there or before.
+fn parted_so_far(call: &Call, lent: &mut Lent) -> Answer {
+    with_counts(call, lent, |counts| (2..counts.len()).for_each(|place| counts[place] += counts[place - 1]))
+}
+
+/// Counts all that differ at stage 0.
+fn stages_not_told(call: &Call, lent: &mut Lent) -> Answer {
+    with_counts(call, lent, |counts| {
+        counts[1] = counts[1..].iter().sum();
+        counts[2..].fill(0);
+    })
+}
+
+/// Leaves the count of the last stage as it was.
+fn last_stage_not_written(call: &Call, lent: &mut Lent) -> Answer {
+    with_counter(call, lent, |sheet, field, size, counts| {
+        let before = counts.to_vec();
+        frequencies(sheet, field, size, counts)?;
+        let last = read(sheet).expect("an accepted sheet").kinds + 1;
+        counts[last] = before[last];
+        Ok(())
+    })
+}
+
+/// Lists the fields of all kinds, and not of the reached ones alone.
+fn listed_over_all(call: &Call, lent: &mut Lent) -> Answer {
+    with_counter(call, lent, |sheet, field, size, counts| {
+        frequencies(sheet, field, size, counts)?;
+        let kinds = read(sheet).expect("an accepted sheet").kinds;
+        if Entries::new(kinds, size as u64).of(kinds, size as u64) > MOST_LISTED {
+            return Err(Refusal { number: 18, place: 0 });
+        }
+        let all: Vec<usize> = (0..kinds).collect();
+        write_counted(sheet, field, fields_of(sheet, &all, size as u64), counts);
+        Ok(())
+    })
+}
+
+/// Lists the fields of fewer tokens too.
+fn fewer_tokens_too(call: &Call, lent: &mut Lent) -> Answer {
+    with_counter(call, lent, |sheet, field, size, counts| {
+        frequencies(sheet, field, size, counts)?;
+        let reached = accept(sheet).expect("an accepted sheet").reached;
+        let listed = (0..=size as u64).flat_map(|tokens| fields_of(sheet, &reached, tokens)).collect();
+        write_counted(sheet, field, listed, counts);
+        Ok(())
+    })
+}
+
+/// Leaves out the given field, where it has the size.
+fn given_left_out(call: &Call, lent: &mut Lent) -> Answer {
+    with_counter(call, lent, |sheet, field, size, counts| {
+        frequencies(sheet, field, size, counts)?;
+        let given = read(sheet).expect("an accepted sheet").field(field);
+        counts[0] -= u32::from(tokens_of(&given) == size as u64);
+        Ok(())
+    })
+}
+
+/// Calls no field the same but the given one, and parts all others that are at stage 1.
+fn counts_decide(call: &Call, lent: &mut Lent) -> Answer {
+    with_counter(call, lent, |sheet, field, size, counts| {
+        frequencies(sheet, field, size, counts)?;
+        let given = read(sheet).expect("an accepted sheet").field(field);
+        let same = u32::from(tokens_of(&given) == size as u64);
+        counts[2] += counts[0] - same;
+        counts[0] = same;
+        Ok(())
+    })
+}
+
+/// Parts fields of another number of tokens than the given one at stage 0, as the finer comparison does.
+fn totals_looked_at(call: &Call, lent: &mut Lent) -> Answer {
+    with_counter(call, lent, |sheet, field, size, counts| {
+        frequencies(sheet, field, size, counts)?;
+        let card = read(sheet).expect("an accepted sheet");
+        if tokens_of(&card.field(field)) != size as u64 {
+            let written = &mut counts[..card.kinds + 2];
+            written[1] = written.iter().sum();
+            written[0] = 0;
+            written[2..].fill(0);
+        }
+        Ok(())
+    })
+}
+
+/// Takes the given field for the next one.
+fn of_the_next_field(call: &Call, lent: &mut Lent) -> Answer {
+    with_counter(call, lent, |sheet, field, size, counts| {
+        frequencies(sheet, field, size, counts)?;
+        let fields = read(sheet).expect("an accepted sheet").fields;
+        frequencies(sheet, (field + 1) % fields, size, counts)
+    })
+}
+
+/// Refuses a given field of over 16 tokens.
+fn given_too_large(call: &Call, lent: &mut Lent) -> Answer {
+    with_counter(call, lent, |sheet, field, size, counts| match accept(sheet) {
+        Ok(normed) if field < normed.card.fields && tokens_of(&normed.card.field(field)) > MOST_TOKENS => {
+            Err(Refusal { number: 14, place: 0 })
+        }
+        _ => frequencies(sheet, field, size, counts),
+    })
+}
+
+/// Looks at the size before the number of the field.
+fn size_before_number(call: &Call, lent: &mut Lent) -> Answer {
+    with_counter(call, lent, |sheet, field, size, counts| {
+        frequencies(sheet, field, size, counts).map_err(|refusal| match refusal.number {
+            11 if size as u64 > MOST_TOKENS => Refusal { number: 14, place: 0 },
+            _ => refusal,
+        })
+    })
+}
+
+/// Refuses by the entry for all kinds, and not for the reached ones.
+fn entry_of_all_kinds(call: &Call, lent: &mut Lent) -> Answer {
+    with_counter(call, lent, |sheet, field, size, counts| match accept(sheet) {
+        Ok(normed) if field < normed.card.fields && size as u64 <= MOST_TOKENS => {
+            let kinds = normed.card.kinds;
+            if Entries::new(kinds, size as u64).of(kinds, size as u64) > MOST_LISTED {
+                return Err(Refusal { number: 18, place: 0 });
+            }
+            frequencies(sheet, field, size, counts)
+        }
+        _ => frequencies(sheet, field, size, counts),
+    })
+}
+
+/// Refuses from 50,000 fields on.
+fn lower_limit(call: &Call, lent: &mut Lent) -> Answer {
+    with_counter(call, lent, |sheet, field, size, counts| {
+        let mut tried = counts.to_vec();
+        frequencies(sheet, field, size, &mut tried)?;
+        let kinds = read(sheet).expect("an accepted sheet").kinds;
+        if tried[..kinds + 2].iter().sum::<u32>() > 50_000 {
+            return Err(Refusal { number: 18, place: 0 });
+        }
+        counts.copy_from_slice(&tried);
+        Ok(())
+    })
+}
+
+/// Refuses an entry that is too large as a size that is.
+fn entry_told_as_size(call: &Call, lent: &mut Lent) -> Answer {
+    with_counter(call, lent, |sheet, field, size, counts| {
+        frequencies(sheet, field, size, counts).map_err(|refusal| match refusal.number {
+            18 => Refusal { number: 14, place: 0 },
+            _ => refusal,
+        })
+    })
+}
+
+/// Looks at the buffer before the entry.
+fn room_before_entry(call: &Call, lent: &mut Lent) -> Answer {
+    with_counter(call, lent, |sheet, field, size, counts| {
+        frequencies(sheet, field, size, counts).map_err(|refusal| match read(sheet) {
+            Ok(card) if refusal.number == 18 && counts.len() < card.kinds + 2 => TOO_SHORT,
+            _ => refusal,
+        })
+    })
+}
+
+/// Takes a buffer that has room for a count of each kind, and writes as many counts as there is room for.
+fn room_for_kinds(call: &Call, lent: &mut Lent) -> Answer {
+    with_counter(call, lent, |sheet, field, size, counts| match frequencies(sheet, field, size, counts) {
+        Err(TOO_SHORT) if counts.len() >= read(sheet).expect("an accepted sheet").kinds => {
+            let mut longer = [0; 34];
+            frequencies(sheet, field, size, &mut longer)?;
+            counts.copy_from_slice(&longer[..counts.len()]);
+            Ok(())
+        }
+        other => other,
+    })
+}
+
+/// Clears the buffer where the entry is too large.
+fn clears_where_entry_is_refused(call: &Call, lent: &mut Lent) -> Answer {
+    with_counter(call, lent, |sheet, field, size, counts| {
+        let found = frequencies(sheet, field, size, counts);
+        if found.is_err_and(|refusal| refusal.number == 18) {
+            counts.fill(0);
+        }
+        found
+    })
+}
+
+/// Clears the buffer past the counts.
+fn clears_past_the_frequencies(call: &Call, lent: &mut Lent) -> Answer {
+    with_counter(call, lent, |sheet, field, size, counts| {
+        frequencies(sheet, field, size, counts)?;
+        let kinds = read(sheet).expect("an accepted sheet").kinds;
+        counts[kinds + 2..].fill(0);
+        Ok(())
+    })
+}
+
+#[test]
+fn other_frequencies_are_found() {
+    for (name, wrong) in [
+        ("same last", same_last as Implementation),
+        ("a stage late", a_stage_late),
+        ("related ones", related_ones),
+        ("parted so far", parted_so_far),
+        ("stages not told", stages_not_told),
+        ("last stage not written", last_stage_not_written),
+        ("listed over all", listed_over_all),
+        ("fewer tokens too", fewer_tokens_too),
+        ("given left out", given_left_out),
+        ("counts decide", counts_decide),
+        ("totals looked at", totals_looked_at),
+        ("of the next field", of_the_next_field),
+        ("given too large", given_too_large),
+        ("size before number", size_before_number),
+        ("entry of all kinds", entry_of_all_kinds),
+        ("lower limit", lower_limit),
+        ("entry told as size", entry_told_as_size),
+        ("room before entry", room_before_entry),
+        ("room for kinds", room_for_kinds),
+        ("clears where the entry is refused", clears_where_entry_is_refused),
+        ("clears past the frequencies", clears_past_the_frequencies),
+    ] {
+        let comparison = compare_implementations(SEED, 0..2_000, independent, wrong);
+        println!("{name}: {} of {} calls", comparison.differences.len(), comparison.calls);
+        assert!(!comparison.differences.is_empty(), "{name}");
+        for difference in &comparison.differences {
+            assert!(matches!(difference.call, Call::Frequencies { .. }), "{name}: {difference:?}");
+        }
+    }
+}
+
+#[test]
+fn the_promises_of_frequencies_are_kept() {
+    for (name, implementation) in
+        [("independent", independent as Implementation), ("library", library), ("wrappers", wrappers)]
+    {
+        let tried = try_counts(SEED, 0..5_000, implementation);
+        println!("{name}: {tried:?}");
+        assert!(tried.broken.is_empty(), "{name}: {tried:?}");
+        assert!(tried.answered > 4_000 && tried.of_large_fields > 500 && tried.alike > 100, "{name}: {tried:?}");
+        assert!(tried.judged > 3_000 && tried.fields > 30_000 && tried.same_unequal > 300, "{name}: {tried:?}");
+        assert!(tried.first > 500 && tried.later > 2_000, "{name}: {tried:?}");
+    }
+}
+
+#[test]
+fn a_broken_promise_of_frequencies_is_found() {
+    for (name, wrong, promises) in [
+        ("same last", same_last as Implementation, &[Counting::Judged, Counting::Settled][..]),
+        ("a stage late", a_stage_late, &[Counting::Judged, Counting::Settled]),
+        ("related ones", related_ones, &[Counting::Adds, Counting::Judged, Counting::Settled]),
+        ("parted so far", parted_so_far, &[Counting::Adds, Counting::Judged, Counting::Settled]),
+        ("stages not told", stages_not_told, &[Counting::Judged]),
+        ("last stage not written", last_stage_not_written, &[Counting::Adds, Counting::Judged, Counting::Settled]),
+        ("listed over all", listed_over_all, &[Counting::Adds, Counting::Judged]),
+        ("fewer tokens too", fewer_tokens_too, &[Counting::Adds, Counting::Judged]),
+        ("given left out", given_left_out, &[Counting::Adds, Counting::Judged, Counting::Alike]),
+        ("counts decide", counts_decide, &[Counting::Judged, Counting::Alike]),
+        ("totals looked at", totals_looked_at, &[Counting::Judged, Counting::Alike]),
+        ("of the next field", of_the_next_field, &[Counting::Judged, Counting::Alike]),
+    ] {
+        let tried = try_counts(SEED, 0..2_000, wrong);
         println!("{name}: {tried:?}");
         assert!(promises.iter().eq(tried.broken.keys()), "{name}: {tried:?}");
     }

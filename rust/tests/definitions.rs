@@ -6,6 +6,7 @@ use independent::definitions::{
     walk as walk_by_definition,
 };
 use independent::filer::{Verdict, compare};
+use independent::frequencies::frequencies;
 use independent::generator::{Draft, DraftLine, FAMILIES, Family, Size, draft, put_equal_totals, use_some};
 use independent::norm::{NORM_LIMIT, NormedCard, accept, kind_norms};
 use independent::random::Random;
@@ -372,6 +373,86 @@ fn divide(
     divided.with_rest += u64::from(count > 0 && remainder.iter().any(|&tokens| tokens > 0));
     divided.other_remainders += others.len() as u64;
     Ok(())
+}
+
+/// What was compared of Frequencies.
+#[derive(Default, Debug)]
+struct Counted {
+    cards: u64,
+    /// Cards given up because the search by definitions took too long.
+    too_large: u64,
+    /// Cards that have a kind that is out.
+    part_used: u64,
+    /// Fields and sizes.
+    calls: u64,
+    /// Fields that are listed and the same as the given one.
+    same: u64,
+    /// Fields that are listed and part from it, by stage.
+    parted: [u64; 5],
+}
+
+/// Frequencies by its definition: of each field of up to three tokens the verdict, by search, tells where it counts.
+#[test]
+fn frequencies_are_verdicts_counted() {
+    let mut counted = Counted::default();
+    for (number, bytes) in tiny_sheets() {
+        let Ok(normed) = accept(&bytes) else { continue };
+        if normed.norms.iter().any(|&norm| norm > MOST_NORM) || normed.gain() > 3 {
+            continue;
+        }
+        match count(number, &bytes, &normed, &mut counted) {
+            Ok(()) => counted.cards += 1,
+            Err(TooLarge) => counted.too_large += 1,
+        }
+    }
+    println!("{counted:?}");
+    assert!(counted.cards > 5_000 && counted.part_used > 1_000 && counted.calls > 50_000, "{counted:?}");
+    assert!(counted.same > 10_000 && counted.parted.iter().all(|&fields| fields > 100), "{counted:?}");
+}
+
+/// Compares Frequencies of the fields of one card.
+fn count(number: u64, bytes: &[u8], normed: &NormedCard, counted: &mut Counted) -> Result<(), TooLarge> {
+    let card = read(bytes).expect("an accepted sheet");
+    let mut definitions = Definitions::new(&card, Sense::Plain, MOST_NORM, 20_000).expect("norms within the search");
+    let settled = definitions.settled_stage()?;
+    for field in 0..card.fields {
+        for size in 0..=3 {
+            let expected = definitions.frequencies(settled, &card.field(field), size)?;
+            let mut counts = vec![7; card.kinds + 3];
+            let given = frequencies(bytes, field, size as usize, &mut counts);
+            let context = format!("sheet {number} field {field} size {size}");
+            assert_eq!((given, counts.pop()), (Ok(()), Some(7)), "{context}");
+            assert_eq!(counts, expected, "{context}");
+            counted.calls += 1;
+            counted.same += u64::from(counts[0]);
+            counted.parted.iter_mut().zip(&counts[1..]).for_each(|(sum, &fields)| *sum += u64::from(fields));
+        }
+    }
+    counted.part_used += u64::from(normed.reached.len() < card.kinds);
+    Ok(())
+}
+
+/// Of every number of kinds and every size: just the entries over 65,536 are refused, which is found before the buffer is.
+#[test]
+fn entries_over_the_limit_are_refused() {
+    let (mut listed, mut refused) = (Vec::new(), Vec::new());
+    for kinds in 1..=MOST_KINDS {
+        let sheet = sheet_of(kinds, &[]);
+        let mut entry = 1;
+        for size in 0..=MOST_TOKENS {
+            let refusal = frequencies(&sheet, 0, size as usize, &mut [7; 2]).expect_err("two counts are too few");
+            let number = if entry > 65_536 { 18 } else { 12 };
+            assert_eq!((refusal.number, refusal.place), (number, 0), "{kinds} kinds, {size} tokens");
+            if number == 12 {
+                listed.push(entry)
+            } else {
+                refused.push(entry)
+            }
+            entry = entry * (kinds as u64 + size) / (size + 1);
+        }
+        assert_eq!(frequencies(&sheet, 0, 17, &mut [7; 2]), Err(Refusal { number: 14, place: 0 }), "{kinds} kinds");
+    }
+    assert_eq!((listed.into_iter().max(), refused.into_iter().min()), (Some(54_264), Some(65_780)));
 }
 
 /// A walk by any desk is that of the definition on what this desk has left, whatever the others have.

@@ -84,6 +84,12 @@ fn table() -> Vec<Row> {
             refusal: limbatue::squads(&sheet("full00"), 0, 2).expect_err("a squad of no tokens"),
         },
         Row {
+            number: 18,
+            place: "0",
+            sentence: "there are over 65,536 fields of this size",
+            refusal: limbatue::frequencies(&sheet("chain32"), 0, 5).expect_err("376,992 fields of five tokens"),
+        },
+        Row {
             number: 12,
             place: "0",
             sentence: "a buffer or table is too short",
@@ -150,6 +156,7 @@ fn the_constants_are_the_header_s() {
     assert_eq!(limbatue::SHEET_MOST, defined("LIMBATUE_SHEET_MOST"));
     assert_eq!(limbatue::TABLE_MOST, defined("LIMBATUE_TABLE_MOST"));
     assert_eq!(limbatue::COUNTS_MOST, defined("LIMBATUE_COUNTS_MOST"));
+    assert_eq!(limbatue::FREQUENCIES_MOST, defined("LIMBATUE_FREQUENCIES_MOST"));
     assert_eq!(limbatue::PAGE_MOST, defined("LIMBATUE_PAGE_MOST"));
     assert_eq!(limbatue::TOKENS_MOST, defined("LIMBATUE_TOKENS_MOST"));
     assert_eq!(limbatue::DESKS, defined("LIMBATUE_DESKS"));

@@ -3,8 +3,10 @@
 use std::collections::{BTreeMap, BTreeSet};
 
 use independent::base::{Base, Refinement};
-use independent::calls::{Answer, Call, Lent, calls, compare_implementations, day, independent, sheets};
+use independent::calls::{Answer, Call, Lent, calls, compare_implementations, day, independent, make, sheets};
+use independent::counting::try_counts;
 use independent::finer::try_finer;
+use independent::frequencies::MOST_LISTED;
 use independent::generator::{COSTLY, Damage, FAMILIES, Family, Size, apply, draft, measured, sample, use_some};
 use independent::norm::{NORM_LIMIT, NormedCard, accept, kind_norms};
 use independent::page::page;
@@ -13,7 +15,7 @@ use independent::random::Random;
 use independent::reached::{kinds_left, lines_to, reached_kinds};
 use independent::sense::Sense;
 use independent::sheet::{Card, MOST_BYTES, MOST_KINDS, Refusal, read};
-use independent::shelf::{MOST_TOKENS, tokens_of};
+use independent::shelf::{Entries, MOST_TOKENS, tokens_of};
 use independent::walker::{Answer as Found, Walked};
 
 const SEED: u64 = 20_261_115;
@@ -60,7 +62,7 @@ fn every_refusal_and_every_answer_is_met() {
     }
     met("settle: stage 32");
     assert_eq!(comparison.differences.len(), 0);
-    // Of walks, of the two calls on shelf numbers and of squads each answer is met often.
+    // Of walks, of the two calls on shelf numbers, of squads and of frequencies each answer is met often.
     let often = |name: &str| assert!(comparison.answers.get(name).is_some_and(|&count| count > 100), "{name}");
     for name in ["apart", "together", "spent"] {
         often(&format!("walk: {name}"));
@@ -86,6 +88,12 @@ fn every_refusal_and_every_answer_is_met() {
     }
     for number in [1, 2, 3, 4, 5, 6, 7, 8, 9, 10, 11, 17, 12] {
         often(&format!("squads: refused {number}"));
+    }
+    for size in 0..=16 {
+        often(&format!("frequencies: size {size}"));
+    }
+    for number in [1, 2, 3, 4, 5, 6, 7, 8, 9, 10, 11, 14, 18, 12] {
+        often(&format!("frequencies: refused {number}"));
     }
     // In the finer sense each refusal is met often, and each stage.
     for number in [1, 2, 3, 4, 5, 6, 7, 8, 9, 10, 11] {
@@ -129,6 +137,7 @@ fn every_refusal_and_every_answer_is_met() {
         "shelf number",
         "shelf field",
         "squads",
+        "frequencies",
     ] {
         on_parts(&format!("{entry}: refused 9"));
         on_parts(&format!("{entry}: refused 10"));
@@ -136,9 +145,16 @@ fn every_refusal_and_every_answer_is_met() {
     for size in 0..=16 {
         on_parts(&format!("shelf number: size {size}"));
         on_parts(&format!("shelf field: size {size}"));
+        on_parts(&format!("frequencies: size {size}"));
     }
-    for name in ["shelf number: refused 14", "shelf field: refused 15", "shelf field: refused 12", "squads: refused 17"]
-    {
+    for name in [
+        "shelf number: refused 14",
+        "shelf field: refused 15",
+        "shelf field: refused 12",
+        "squads: refused 17",
+        "frequencies: refused 18",
+        "frequencies: refused 12",
+    ] {
         on_parts(name);
     }
 }
@@ -282,6 +298,99 @@ fn squads_of_every_sort() {
     }
     println!("{sorts:#?}");
     assert!(sorts.len() == 5 + 12 && sorts.values().all(|&count| count > 50), "{sorts:#?}");
+}
+
+/// The counts of Frequencies go with Shelf field, with Compare, with Settle and with each other, on sheets of any size.
+#[test]
+fn the_promises_of_frequencies_are_kept() {
+    let tried = try_counts(SEED, 0..20_000, independent);
+    println!("{tried:?}");
+    assert!(tried.broken.is_empty(), "{tried:?}");
+    assert!(tried.answered > 16_000 && tried.of_large_fields > 2_000 && tried.alike > 400, "{tried:?}");
+    assert!(tried.judged > 12_000 && tried.fields > 120_000 && tried.same_unequal > 1_200, "{tried:?}");
+    assert!(tried.first > 2_000 && tried.later > 8_000, "{tried:?}");
+}
+
+/// Of what sorts a call of Frequencies on an accepted sheet is that is refused by a number or a size.
+fn sorts_of_refused_frequencies(
+    normed: &NormedCard,
+    field: usize,
+    size: usize,
+    room: bool,
+) -> Option<BTreeSet<&'static str>> {
+    let tokens = size as u64;
+    let (number_over, size_over) = (field >= normed.card.fields, tokens > MOST_TOKENS);
+    let entry_over = |kinds: usize| !size_over && Entries::new(kinds, tokens).of(kinds, tokens) > MOST_LISTED;
+    let (kinds, entry_over_reached) = (normed.card.kinds, entry_over(normed.reached.len()));
+    let others = [
+        ("the number of the field is too large", number_over),
+        ("the number of the field and the size are too large", number_over && size_over),
+        ("the number of the field and the entry are too large", number_over && entry_over_reached),
+        ("the number of the field is too large, and the buffer too short", number_over && !room),
+        ("the size is over 16", !number_over && size_over),
+        ("the size is over 16, and the buffer too short", !number_over && size_over && !room),
+        ("the entry is too large", !number_over && entry_over_reached),
+        ("the entry is too large, and the buffer too short", !number_over && entry_over_reached && !room),
+        ("the entry for all kinds alone is too large", !number_over && !entry_over_reached && entry_over(kinds)),
+    ];
+    let refused = number_over || size_over || entry_over_reached || entry_over(kinds);
+    refused.then(|| others.into_iter().filter(|&(_, there)| there).map(|(name, _)| name).collect())
+}
+
+/// Of what sorts a call of Frequencies on an accepted sheet is, with the counts that are written.
+fn sorts_of_frequencies(sheet: &[u8], field: usize, size: usize, entries: usize) -> BTreeSet<&'static str> {
+    let Ok(normed) = accept(sheet) else { return BTreeSet::new() };
+    let kinds = normed.card.kinds;
+    if let Some(sorts) = sorts_of_refused_frequencies(&normed, field, size, entries >= kinds + 2) {
+        return sorts;
+    }
+    let (answer, lent) = make(independent, &Call::Frequencies { field, size, entries: kinds + 2 }, sheet);
+    assert_eq!(answer, Answer::FrequenciesWritten);
+    let (counts, tokens) = (lent.frequencies.lent(), tokens_of(&normed.card.field(field)));
+    let sum: u32 = counts.iter().sum();
+    let (same, of_size, nothing) = (counts[0], tokens == size as u64, normed.reached.is_empty());
+    let others = [
+        ("the buffer has no room for a count of each kind", entries < kinds),
+        ("the buffer has room for a count of each kind alone", entries == kinds),
+        ("the buffer is one count too short", entries == kinds + 1),
+        ("the buffer has room for the counts alone", entries == kinds + 2),
+        ("the given field has over 16 tokens", tokens > MOST_TOKENS),
+        ("the given field is of the size", of_size && size > 0),
+        ("no kind is reached, and the empty field is listed", nothing && size == 0),
+        ("no kind is reached, and nothing is listed", nothing && size > 0),
+        ("some kinds are out, and others are reached", !nothing && normed.reached.len() < kinds),
+        ("none is the same, and some are listed", same == 0 && sum > 0),
+        ("the given field alone is the same", of_size && same == 1 && sum > 1),
+        ("several are the same", same > 1),
+        ("some are the same, and the given field is of another size", !of_size && same > 0),
+        ("all are the same, several", same == sum && same > 1),
+        ("some part at stage 1", counts[2] > 0),
+        ("some part at stage 2", counts.get(3).is_some_and(|&count| count > 0)),
+        ("some part past stage 2", counts.iter().skip(4).any(|&count| count > 0)),
+        ("some part past stage 8", counts.iter().skip(10).any(|&count| count > 0)),
+        ("some part at the last stage that there may be", counts[kinds + 1] > 0 && kinds > 1),
+        ("some part at three stages or more", counts[1..].iter().filter(|&&count| count > 0).count() > 2),
+        ("over 20,000 are listed", sum > 20_000),
+        ("over 50,000 are listed", sum > 50_000),
+    ];
+    others.into_iter().filter(|&(_, there)| there).map(|(name, _)| name).collect()
+}
+
+/// What the comparison with the library meets of Frequencies.
+#[test]
+fn frequencies_of_every_sort() {
+    let mut sorts: BTreeMap<&str, u64> = BTreeMap::new();
+    for number in 0..20_000 {
+        let sheets = sheets(SEED, number);
+        for call in calls(&sheets, &mut Random::new(SEED.rotate_left(32) ^ number)) {
+            let Call::Frequencies { field, size, entries } = call else { continue };
+            for sort in sorts_of_frequencies(&sheets[0], field, size, entries) {
+                *sorts.entry(sort).or_default() += 1;
+            }
+        }
+    }
+    println!("{sorts:#?}");
+    assert!(sorts.len() == 9 + 22 && sorts.values().all(|&count| count > 20), "{sorts:#?}");
 }
 
 /// What comes up in a day, given the desk and the answer of each walk: refusals beside walks that are not refused, and what several desks are answered.

@@ -1,9 +1,10 @@
-//! The stored pages, walks, shelf numbers, squads and finer answers, and document 01's examples.
+//! The stored pages, walks, shelf numbers, squads, finer answers and frequencies, and document 01's examples, of the independent side; the stored frequencies are asked of the library too.
 
 use std::fs;
 use std::path::{Path, PathBuf};
 
 use independent::filer::{Verdict, compare, prime_form, row, settle};
+use independent::frequencies::frequencies;
 use independent::page::page;
 use independent::reached::reached_kinds;
 use independent::sense::Sense;
@@ -12,7 +13,7 @@ use independent::shelf::{shelf_field, shelf_number};
 use independent::squads::squads;
 use independent::walker::{Answer, DESKS, Session, walk, walk_lent};
 
-/// The folder of the stored sheets, pages, walks, shelf numbers, squads and finer answers.
+/// The folder of the stored sheets, pages, walks, shelf numbers, squads, finer answers and frequencies.
 fn stored() -> PathBuf {
     Path::new(env!("CARGO_MANIFEST_DIR")).join("testdata")
 }
@@ -111,17 +112,33 @@ fn walks_agree() {
     assert!(text.lines().count() > 100);
 }
 
-/// What a call answers and the counts that it writes, a count for each kind: an entry past them keeps its value, and all do where it is refused.
+/// What a call answers and the counts that it writes, a count for each kind and some more: an entry past them keeps its value, and all do where it is refused.
+fn written_and_more<T: Copy + From<u8> + PartialEq + ToString, A>(
+    sheet: &[u8],
+    more: usize,
+    write: impl FnOnce(&mut [T]) -> Result<A, Refusal>,
+) -> Result<(A, String), Refusal> {
+    let mut counts = [T::from(7); 35];
+    let answer = write(&mut counts);
+    let named = if answer.is_ok() { numbers(sheet)?.kinds + more } else { 0 };
+    let (counts, past) = counts.split_at(named);
+    assert!(past.iter().all(|&entry| entry == T::from(7)));
+    Ok((answer?, counts.iter().map(T::to_string).collect::<Vec<_>>().join(" ")))
+}
+
+/// What a call answers and the counts that it writes, a count for each kind.
 fn written<T: Copy + From<u8> + PartialEq + ToString, A>(
     sheet: &[u8],
     write: impl FnOnce(&mut [T]) -> Result<A, Refusal>,
 ) -> Result<(A, String), Refusal> {
-    let mut counts = [T::from(7); 33];
-    let answer = write(&mut counts);
-    let kinds = if answer.is_ok() { numbers(sheet)?.kinds } else { 0 };
-    let (counts, past) = counts.split_at(kinds);
-    assert!(past.iter().all(|&entry| entry == T::from(7)));
-    Ok((answer?, counts.iter().map(T::to_string).collect::<Vec<_>>().join(" ")))
+    written_and_more(sheet, 0, write)
+}
+
+/// The answer of Frequencies, as a line has it: the first of the counts that are written, and the others.
+fn common(sheet: &[u8], write: impl FnOnce(&mut [u32]) -> Result<(), Refusal>) -> Result<String, Refusal> {
+    let ((), counts) = written_and_more(sheet, 2, write)?;
+    let (same, stages) = counts.split_once(' ').expect("three counts or more");
+    Ok(format!("same {same} stages {stages}"))
 }
 
 /// The answer to a line's call, as the line has it.
@@ -142,12 +159,25 @@ fn answer(sheet: &[u8], verb: &str, given: &[u64]) -> Result<String, Refusal> {
             Verdict::Different { stage, rounds } => format!("different {stage} {rounds}"),
         }),
         ("finer-form", &[field]) => Ok(written(sheet, |counts| prime_form(Sense::Finer, sheet, field, counts))?.1),
+        ("common", &[field, size]) => common(sheet, |counts| frequencies(sheet, field, size, counts)),
         other => panic!("{other:?} is no call"),
     }
 }
 
-/// Asserts the lines of two stored files, each of at least so many: one of sheets that use all kinds, and one of sheets that have a kind that is out. Their calls are those of some verbs.
-fn assert_lines(files: [&str; 2], least: [usize; 2], verbs: &[&str]) {
+/// The library's answer to a line's call of Frequencies.
+fn library_answer(sheet: &[u8], verb: &str, given: &[u64]) -> Result<String, Refusal> {
+    let (&[field, size], "common") = (given, verb) else { panic!("{verb} {given:?} is no call of Frequencies") };
+    common(sheet, |counts| {
+        limbatue::frequencies_into(sheet, field as usize, size as usize, counts)
+            .map_err(|refusal| Refusal { number: refusal.number(), place: refusal.place })
+    })
+}
+
+/// Answers a call: a sheet, a verb and its numbers.
+type Answers = fn(&[u8], &str, &[u64]) -> Result<String, Refusal>;
+
+/// Asserts the lines of two stored files, each of at least so many: one of sheets that use all kinds, and one of sheets that have a kind that is out. Their calls are those of some verbs, answered by a function.
+fn assert_lines(files: [&str; 2], least: [usize; 2], verbs: &[&str], answer: Answers) {
     for (place, name) in files.into_iter().enumerate() {
         let text = fs::read_to_string(stored().join(name)).expect(name);
         assert!(text.lines().count() >= least[place], "{name}");
@@ -166,17 +196,24 @@ fn assert_lines(files: [&str; 2], least: [usize; 2], verbs: &[&str]) {
 
 #[test]
 fn shelf_numbers_agree() {
-    assert_lines(["shelf.txt", "shelf_part_used.txt"], [1_166, 303], &["number", "field"]);
+    assert_lines(["shelf.txt", "shelf_part_used.txt"], [1_166, 303], &["number", "field"], answer);
 }
 
 #[test]
 fn squads_agree() {
-    assert_lines(["squads.txt", "squads_part_used.txt"], [394, 137], &["squads"]);
+    assert_lines(["squads.txt", "squads_part_used.txt"], [394, 137], &["squads"], answer);
 }
 
 #[test]
 fn finer_answers_agree() {
-    assert_lines(["finer.txt", "finer_part_used.txt"], [750, 221], &["finer", "finer-form"]);
+    assert_lines(["finer.txt", "finer_part_used.txt"], [750, 221], &["finer", "finer-form"], answer);
+}
+
+#[test]
+fn frequencies_agree() {
+    for answer in [answer as Answers, library_answer] {
+        assert_lines(["frequencies.txt", "frequencies_part_used.txt"], [666, 266], &["common"], answer);
+    }
 }
 
 #[test]
@@ -219,6 +256,15 @@ fn refused_calls_alter_nothing() {
         assert_eq!(counts, [7; 1]);
     }
     assert_eq!(squads(&no_sheet, 0, 0, &mut []), Err(Refusal { number: 1, place: 0 }));
+    // 11 comes before 14, 14 before 18, and 18 before 12: 34 counts are needed, of 17 tokens there is no list, and of 5 tokens of 32 kinds there are 376,992 fields. Field 2 has over 16 tokens, and is taken.
+    for (field, size, refused) in
+        [(4, 17, 11), (4, usize::MAX, 11), (2, 17, 14), (2, usize::MAX, 14), (2, 16, 18), (2, 5, 18), (2, 4, 12)]
+    {
+        let mut counts = [7; 33];
+        let refusal = frequencies(&sheet("chain32"), field, size, &mut counts).expect_err("33 counts are too few");
+        assert_eq!((refusal.number, refusal.place, counts), (refused, 0, [7; 33]));
+    }
+    assert_eq!(frequencies(&no_sheet, 4, 17, &mut []), Err(Refusal { number: 1, place: 0 }));
     // 11 comes before 12, in either sense: two counts are needed.
     for sense in Sense::BOTH {
         for (field, refused) in [(7, (11, 0)), (6, (12, 0))] {

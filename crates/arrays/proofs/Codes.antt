@@ -13,8 +13,8 @@ use Rattle.model.specs.Norm.{kindNorm}
 use Rattle.model.specs.Limits.{normLimit}
 use Rattle.model.specs.Sheet.{u16At, kindCount, lineCount, lineOf, codeCount, cardOf}
 use Rattle.theory.specs.Widths.{Bytes}
-use Rattle.model.specs.Refusal.{Check, check, Finding, clear, refusal, firstOf, headerChecks, lineChecks, normChecks, sheetChecks, acceptChecks, settleChecks, compareChecks, formChecks, walkChecks, rowChecks, shelfNumberChecks, shelfFieldChecks, squadsChecks}
-use Rattle.model.specs.Answer.{Answer, refused, given, Lent, Session, Walked, rowCheckOf, settleOf, compareIn, formingIn, walkOf, shelfNumberOf, shelfFieldOf, squadsOf}
+use Rattle.model.specs.Refusal.{Check, check, Finding, clear, refusal, firstOf, headerChecks, lineChecks, normChecks, sheetChecks, acceptChecks, settleChecks, compareChecks, formChecks, walkChecks, rowChecks, shelfNumberChecks, shelfFieldChecks, squadsChecks, frequenciesChecks}
+use Rattle.model.specs.Answer.{Answer, refused, given, Lent, Session, Walked, rowCheckOf, settleOf, compareIn, formingIn, walkOf, shelfNumberOf, shelfFieldOf, squadsOf, frequenciesOf}
 use Rattle.theory.proofs.Sheets.{then, first-append}
 use Rattle.arrays.specs.Reply.{codeOf}
 
@@ -137,6 +137,13 @@ module _ (s : List ℕ) (bytes : Bytes s) where
       (small-cons 11 0 _ _ (omega arith) (omega arith)
       (small-cons 11 1 _ _ (omega arith) (omega arith) (small-cons 17 1 _ _ (omega arith) (omega arith) (small-last 12 0 _ (omega arith) (omega arith)))))
 
+  frequencies-small : (i t size : ℕ) → Small (firstOf (frequenciesChecks s i t size))
+  unfolding frequenciesChecks
+  frequencies-small i t size =
+      small-append (acceptChecks s) _ accept-small
+      (small-cons 11 0 _ _ (omega arith) (omega arith)
+      (small-cons 14 0 _ _ (omega arith) (omega arith) (small-cons 18 0 _ _ (omega arith) (omega arith) (small-last 12 0 _ (omega arith) (omega arith)))))
+
 -- What is refused is what the checks found.
 pub found-fits : (f : Finding) → Small f → (k p : ℕ) → f ≡ refusal k p → codeOf k p < 2 ^ 32
 found-fits clear h k p e = let z : _≡_ {A = ℕ} 0 1 = cc in absurd (omega arith)
@@ -180,6 +187,11 @@ module _ (s : List ℕ) (bytes : Bytes s) (k p : ℕ) where
   pub squads-fits : (i j : ℕ) (buffer : List ℕ) → squadsOf s i j buffer .answer ≡ refused k p → codeOf k p < 2 ^ 32
   unfolding squadsOf
   squads-fits i j buffer = refused-fits (λ (x : Lent ℕ). x .answer) _ _ _ refl (λ k p. refl) (firstOf (squadsChecks s i j (length buffer))) (squads-small s bytes i j (length buffer)) k p
+
+  pub frequencies-fits : (i t : ℕ) (buffer : List ℕ) → frequenciesOf s i t buffer .answer ≡ refused k p → codeOf k p < 2 ^ 32
+  unfolding frequenciesOf
+  frequencies-fits i t buffer =
+      refused-fits (λ (x : Lent (Unit {0})). x .answer) _ _ tt refl (λ k p. refl) (firstOf (frequenciesChecks s i t (length buffer))) (frequencies-small s bytes i t (length buffer)) k p
 
   pub walk-fits : (i j limit d : ℕ) (v : Session) → walkOf s i j limit d v .answer ≡ refused k p → codeOf k p < 2 ^ 32
   unfolding walkOf

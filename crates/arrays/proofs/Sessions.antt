@@ -1,12 +1,11 @@
--- Laws of a walk that is made where an array has no room, and of an array that is written as a whole.
-use mathlib.Core.List.{List, _++_, append-nil}
+-- Laws of a walk that is made where an array has no room.
+use mathlib.Core.List.{List}
 use mathlib.Core.Path.{_≡_, refl, sym, _∙_, ap}
 use Prim.Native.Nat.{ℕ}
 use native.Mathlib.Omega.{arith}
-use lib.ListN.{length, drop-of-length-le}
 use Rattle.model.specs.Walk.{WalkAnswer}
 use Rattle.model.specs.Refusal.{Finding, clear, refusal, firstOf, walkChecks}
-use Rattle.model.specs.Answer.{refused, given, written, Session, Walked, walkOf}
+use Rattle.model.specs.Answer.{refused, given, Session, Walked, walkOf}
 use Rattle.theory.proofs.Answers.{walk-clear, demand1}
 use Rattle.arrays.specs.Reply.{codeOf}
 use Rattle.arrays.specs.Session.{shortCodeBy, shortWalk}
@@ -36,8 +35,3 @@ module _ (s : List ℕ) (i j limit d : ℕ) (v : Session) where
 
   pub short-given : (a : WalkAnswer) → walkOf s i j limit d v .answer ≡ given a → 12 ≡ shortWalk s i j limit d
   short-given a h = sym (ap shortCodeBy (finds-none a h))
-
--- What is written to a buffer of its own length is the whole of it.
-pub written-whole : (xs buffer : List ℕ) → length xs ≡ length buffer → written xs buffer ≡ xs
-unfolding written
-written-whole xs buffer e = ap (λ (l : List ℕ). xs ++ l) (drop-of-length-le buffer {i = length xs} (omega arith)) ∙ append-nil xs

@@ -1,6 +1,6 @@
 // Numbers of 32 bits.
 ghost use mathlib.Core.Path.{_≡_};
-ghost use Prim.Native.Nat.{_≤_};
+ghost use Prim.Native.Nat.{_+_, _≤_};
 ghost use lib.ListN.{length, take};
 ghost use Rattle.model.specs.Limits.{mostKinds};
 ghost use Rattle.model.specs.Answer.{written};
@@ -17,12 +17,12 @@ pub fn write_u32(values: &[u32], buffer: &mut [u32])
     }
 }
 
-// The values as numbers of 64 bits, at most one for each kind of a sheet: they are the first of the array.
-pub fn widen_u32(values: &[u32]) -> [u64; 32]
-    requires { ⌜ length (now values) ≤ mostKinds ⌝ }
+// The values as numbers of 64 bits, at most two more than a sheet has kinds, as many as frequencies are: they are the first of the array.
+pub fn widen_u32(values: &[u32]) -> [u64; 34]
+    requires { ⌜ length (now values) ≤ mostKinds + 2 ⌝ }
     ensures { λ r. ⌜ take (length (now (values .entry))) r ≡ now (values .entry) ⌝ }
 {
-    let mut wide = [0u64; 32];
+    let mut wide = [0u64; 34];
     let mut i = 0;
     while i < values.len() {
         wide[i] = values[i] as u64;

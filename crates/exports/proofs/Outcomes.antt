@@ -9,15 +9,15 @@ use lib.ListN.{length}
 use Rattle.model.specs.Sense.{Sense}
 use Rattle.model.specs.Sheet.{kindCount, cardOf}
 use Rattle.model.specs.Base.{settledStage}
-use Rattle.model.specs.Refusal.{Finding, clear, refusal, check, firstOf, sheetChecks, acceptChecks, settleChecks, formChecks, shelfFieldChecks}
-use Rattle.model.specs.Answer.{Answer, refused, given, Lent, written, Verdict, Shelved, tableOf, primeFormIn, shelfCounts, rowCheckOf, settleOf, formingIn, shelfNumberOf, shelfFieldOf}
+use Rattle.model.specs.Refusal.{Finding, clear, refusal, check, firstOf, sheetChecks, acceptChecks, settleChecks, formChecks, shelfFieldChecks, frequenciesChecks}
+use Rattle.model.specs.Answer.{Answer, refused, given, Lent, written, Verdict, Shelved, tableOf, primeFormIn, shelfCounts, frequencies, rowCheckOf, settleOf, formingIn, shelfNumberOf, shelfFieldOf, frequenciesOf}
 use Rattle.theory.proofs.Checks.{first-left, first-right}
 use Rattle.sheet.specs.declared.reader.Card.{Card}
 use Rattle.sheet.specs.Reader.{Reads}
 use Rattle.arrays.specs.Reply.{codeOf, refusing, replyOf, laidOut, valuesReply}
 use Rattle.arrays.specs.Session.{shortCodeBy}
 use Rattle.arrays.specs.Values.{rowValues, cardValues, verdictValues, shelvedValues}
-use Rattle.exports.specs.Calls.{foundOr, rowCall, numberValues, numbersCall, stageValues, settleCall, shortCode, verdictCall, noValues, writingCall, writtenCode, shelfNumberCall, shelfFieldCall}
+use Rattle.exports.specs.Calls.{foundOr, rowCall, numberValues, numbersCall, stageValues, settleCall, shortCode, verdictCall, noValues, writingCall, writtenCode, shelfNumberCall, shelfFieldCall, frequenciesCall}
 use Rattle.arrays.proofs.Replies.{code-is, lent-is, reply-refuses, reply-short, reply-gives}
 
 -- A call that gives the same values wherever its checks find nothing.
@@ -124,6 +124,12 @@ module _ (buffer : List ℕ) (x : Lent (Unit {0})) where
   unfolding writingCall
   writing-gives e = reply-gives buffer (x .lent) [] [] _ (ap (laidOut noValues) e) (omega arith)
 
+  -- What is returned, and the buffer, which is as the call left it: a refusal leaves it as it was.
+  pub writing-called : ((k p : ℕ) → x .answer ≡ refused k p → x .lent ≡ buffer)
+      → (a : Answer (Unit {0})) → a ≡ x .answer → (writtenCode a ≡ writingCall buffer x .code) × (x .lent ≡ writingCall buffer x .lent)
+  writing-called left (given _) e = let w = writing-gives (sym e) in (code-is w, lent-is w)
+  writing-called left (refused k p) e = let w = writing-refuses k p (sym e) in (code-is w, left k p (sym e) ∙ lent-is w)
+
 -- Prime form and finer Prime form.
 module _ (sense : Sense) (s : List ℕ) (i : ℕ) (buffer : List ℕ) where
   abbrev x : Lent (Unit {0})
@@ -133,10 +139,8 @@ module _ (sense : Sense) (s : List ℕ) (i : ℕ) (buffer : List ℕ) where
   unfolding formingIn
   form-kept k p e = kept tt (written (primeFormIn sense s i) buffer) buffer (firstOf (formChecks s i (length buffer))) k p e
 
-  -- What is returned, and the buffer, which is as the filer left it.
   pub form-called : (a : Answer (Unit {0})) → a ≡ x .answer → (writtenCode a ≡ writingCall buffer x .code) × (x .lent ≡ writingCall buffer x .lent)
-  form-called (given _) e = let w = writing-gives buffer x (sym e) in (code-is w, lent-is w)
-  form-called (refused k p) e = let w = writing-refuses buffer x k p (sym e) in (code-is w, form-kept k p (sym e) ∙ lent-is w)
+  form-called = writing-called buffer x form-kept
 
 -- Shelf number.
 module _ (s : List ℕ) (i : ℕ) (array : List ℕ) where
@@ -160,3 +164,13 @@ module _ (s : List ℕ) (t x : ℕ) (buffer : List ℕ) where
   pub shelf-field-gives : shelfFieldOf s t x buffer .answer ≡ given tt
       → shelfFieldCall s t x buffer ≡ record { code = 0; lent = shelfFieldOf s t x buffer .lent; values = written [] [] }
   shelf-field-gives e = writing-gives buffer (shelfFieldOf s t x buffer) e
+
+-- Frequencies.
+module _ (s : List ℕ) (i t : ℕ) (buffer : List ℕ) where
+  frequencies-kept : (k p : ℕ) → frequenciesOf s i t buffer .answer ≡ refused k p → frequenciesOf s i t buffer .lent ≡ buffer
+  unfolding frequenciesOf
+  frequencies-kept k p e = kept tt (written (frequencies s i t) buffer) buffer (firstOf (frequenciesChecks s i t (length buffer))) k p e
+
+  pub frequencies-called : (a : Answer (Unit {0})) → a ≡ frequenciesOf s i t buffer .answer
+      → (writtenCode a ≡ frequenciesCall s i t buffer .code) × (frequenciesOf s i t buffer .lent ≡ frequenciesCall s i t buffer .lent)
+  frequencies-called = writing-called buffer (frequenciesOf s i t buffer) frequencies-kept

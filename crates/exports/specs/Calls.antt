@@ -7,7 +7,7 @@ use lib.ListN.{length, take}
 use Rattle.model.specs.Sheet.{kindCount, codeCount, lineCount, fieldCount}
 use Rattle.model.specs.Refusal.{Finding, clear, refusal, firstOf, sheetChecks, acceptChecks, squadsChecks}
 use Rattle.model.specs.Walk.{WalkAnswer, apart, together, spent}
-use Rattle.model.specs.Answer.{Answer, refused, given, Lent, Session, Verdict, written, rowCheckOf, walkOf, settleOf, compareOf, finerCompareOf, formOf, finerFormOf, shelfNumberOf, shelfFieldOf, squadsOf}
+use Rattle.model.specs.Answer.{Answer, refused, given, Lent, Session, Verdict, written, rowCheckOf, walkOf, settleOf, compareOf, finerCompareOf, formOf, finerFormOf, shelfNumberOf, shelfFieldOf, squadsOf, frequenciesOf}
 use Rattle.page.specs.Writing.{writePageOf}
 use Rattle.arrays.specs.Reply.{codeOf, Reply, replyOf, laidOut}
 use Rattle.arrays.specs.Session.{desks, shortCodeBy}
@@ -107,6 +107,10 @@ squadsCall s i j buffer array = let x = squadsOf s i j buffer in replyOf (laidOu
 -- What Squads returns where the answer array has no room: by its checks of a buffer that has none, which find a refusal of the other checks, or else that of a short buffer.
 abbrev pub shortSquads : List ℕ → ℕ → ℕ → ℕ
 shortSquads s i j = shortCodeBy (firstOf (squadsChecks s i j 0))
+
+-- Frequencies, of a field and a size: no values, and so no answer array. The buffer is lent.
+abbrev pub frequenciesCall : List ℕ → ℕ → ℕ → List ℕ → Reply (List ℕ)
+frequenciesCall s i t buffer = writingCall buffer (frequenciesOf s i t buffer)
 
 -- The page: its length. The buffer that it is written to is lent.
 abbrev pub lengthValues : ℕ → List ℕ

@@ -31,5 +31,8 @@ pub mod shelf_field;
 // Squads. (A module may not have the name of a crate.)
 pub mod squad_count;
 
+// Frequencies.
+pub mod frequency_counts;
+
 // The page.
 pub mod printing;

@@ -7,7 +7,7 @@ use Rattle.model.specs.Field.{at}
 use Rattle.model.specs.Base.{roundsFor}
 use Rattle.model.specs.Sheet.{byte, u32At, kindCount, codeCount, lineCount, fieldCount, counts}
 use Rattle.model.specs.Sense.{Sense}
-use Rattle.model.specs.Answer.{written, tableOf, primeFormIn, shelfCounts, remainderForm}
+use Rattle.model.specs.Answer.{written, tableOf, primeFormIn, shelfCounts, remainderForm, frequencies}
 
 -- "unsigned, low byte first": a number written as two bytes, and as four, the low half first.
 abbrev pub twoBytes : ℕ → List ℕ
@@ -52,6 +52,7 @@ pub record Plain : Type 0 where
   pub form-size : (m : Sense) (s : List ℕ) (i : ℕ) → length (primeFormIn m s i) ≡ kindCount s
   pub shelf-size : (s : List ℕ) (t x : ℕ) → length (shelfCounts s t x) ≡ kindCount s
   pub remainder-size : (s : List ℕ) (i j : ℕ) → length (remainderForm s i j) ≡ kindCount s
+  pub frequencies-size : (s : List ℕ) (i t : ℕ) → length (frequencies s i t) ≡ kindCount s + 2
   -- "N + 1 + (s - 1)(g + 1), or N + 1 if s is 0"
   pub rounds-none : (N g : ℕ) → roundsFor N g 0 ≡ N + 1
   pub rounds-some : (N g s : ℕ) → 0 < s → roundsFor N g s ≡ N + 1 + (s - 1) * (g + 1)

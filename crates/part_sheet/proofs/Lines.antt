@@ -12,7 +12,7 @@ use Rattle.model.specs.Finite.{keep, listFrom}
 use Rattle.model.specs.Field.{Field, at}
 use Rattle.model.specs.Card.{Line, reached, reachedLines}
 use Rattle.model.specs.Sheet.{linesOffset, byte, kindCount, lineCount, counts, lineOf, cardOf}
-use Rattle.theory.proofs.Lists.{from-append, is-true}
+use Rattle.theory.proofs.Lists.{from-append, from-same, is-true}
 use Rattle.theory.proofs.Sheets.{sheet-reaches}
 use Rattle.theory.proofs.Shelves.{keep-yes, keep-no, keep-append}
 use Rattle.sheet.specs.Reader.{Reads}
@@ -24,13 +24,8 @@ use Rattle.norms.proofs.Laws.{inReach, norm-positive, norm-reached}
 use Rattle.part_sheet.specs.Bytes.{Copied}
 use Rattle.part_sheet.specs.Part.{lineIn, LinesTaken}
 
--- The same list from functions that are the same on its numbers, and a list with one member more.
+-- A list with one member more.
 module _ {A : Type 0} where
-  pub from-same : (f g : ℕ → A) (i m : ℕ) → ((k : ℕ) → i ≤ k → k < i + m → f k ≡ g k) → listFrom f i m ≡ listFrom g i m
-  unfolding listFrom
-  from-same f g i zero h = refl
-  from-same f g i (suc m) h = ap₂ (λ (x : A) (xs : List A). x ∷ xs) (h i (omega arith) (omega arith)) (from-same f g (suc i) m (λ k l r. h k (omega arith) (omega arith)))
-
   from-last : (f : ℕ → A) (m : ℕ) → listFrom f 0 (m + 1) ≡ listFrom f 0 m ++ (f m ∷ [])
   unfolding listFrom
   from-last f m = from-append f 0 m 1 ∙ ap (λ k. listFrom f 0 m ++ (f k ∷ [])) (z m)

@@ -12,7 +12,7 @@ use Rattle.model.specs.Card as model
 use Rattle.model.specs.Plain.{HeaderRead}
 use Rattle.model.specs.Sheet.{linesOffset, byte, u16At, kindCount, codeCount, lineCount, fieldCount, fieldsOffset, totalOf, counts, lineOf, fieldOf, cardOf}
 use Rattle.theory.proofs.Limits.{WellFormed, formed-clear, clear-formed}
-use Rattle.theory.proofs.Lists.{from-mem}
+use Rattle.theory.proofs.Lists.{from-mem, from-same}
 use Rattle.theory.proofs.Sheets.{sheet-reaches}
 use Rattle.sheet.specs.Reader.{Reads}
 use Rattle.sheet.specs.declared.reader.Card.{Card}
@@ -20,7 +20,7 @@ use Rattle.sheet.proofs.Laws.{kinds-are, codes-are, lines-are, fields-are, kind
 use Rattle.part_sheet.specs.Bytes.{Copied}
 use Rattle.part_sheet.specs.Part.{withLines, sizeOf, lineIn, LinesTaken, HeaderSet, IsPart}
 use Rattle.part_sheet.proofs.Headers.{u16-same}
-use Rattle.part_sheet.proofs.Lines.{from-same, counts-same, lines-same, line-in}
+use Rattle.part_sheet.proofs.Lines.{counts-same, lines-same, line-in}
 
 -- The fields of the sheet end where it does, and those of the part before the buffer does.
 module _ {s : List ℕ} {c : Card} (R : Reads s c) where

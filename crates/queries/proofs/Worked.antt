@@ -15,9 +15,9 @@ use Rattle.model.specs.Walk.{tryReplies, tryChallenges, examine, walk}
 use Rattle.model.specs.Shelf.{entry, listed, agree, placeOf, shelfNumber, shelfField}
 use Rattle.model.specs.Squads.{goesIn, timesIn, remainder}
 use Rattle.model.specs.Sheet.{fieldsOffset, totalOf, counts, lineOf, cardOf, fieldOf}
-use Rattle.model.specs.Refusal.{firstOf, headerChecks, lineChecks, normChecks, sheetChecks, settleChecks, compareChecks, formChecks, walkChecks, rowChecks, shelfNumberChecks, shelfFieldChecks, squadsChecks}
+use Rattle.model.specs.Refusal.{firstOf, headerChecks, lineChecks, normChecks, sheetChecks, settleChecks, compareChecks, formChecks, walkChecks, rowChecks, shelfNumberChecks, shelfFieldChecks, squadsChecks, frequenciesChecks}
 use Rattle.model.specs.Page.{bytes, digits, number, newline, countsOf, wordOf, refusedLine}
-use Rattle.model.specs.Answer.{written, tableOf, settleOf, verdictIn, compareIn, primeFormIn, formingIn, within, fullWalk, walkOf, rowOf, rowCheckOf, shelfNumberOf, shelfCounts, shelfFieldOf, squadCount, remainderForm, squadsOf}
+use Rattle.model.specs.Answer.{written, tableOf, settleOf, verdictIn, compareIn, primeFormIn, formingIn, within, fullWalk, walkOf, rowOf, rowCheckOf, shelfNumberOf, shelfCounts, shelfFieldOf, squadCount, remainderForm, squadsOf, verdictPlace, judgedAt, frequencies, frequenciesOf}
 use Rattle.model.proofs.Worked.{sheetOf, page, chain}
 use Rattle.text.specs.Count.{countText, countTexts, countsLine}
 use Rattle.walk_text.specs.Line.{drawnText, foundText}
@@ -33,10 +33,12 @@ use Rattle.verbs.specs.Texts.{tableRoom, formRoom, stagesLine, rowLines, settle
 use Rattle.walk_verb.specs.Texts.{givenTo, walkText}
 use Rattle.shelf_verbs.specs.Texts.{shelfRoom, shelvedLine, shelvedText, numberText, fieldText}
 use Rattle.squads_verb.specs.Texts.{remainderRoom, squadsLine, squadsText}
+use Rattle.frequencies_verb.specs.Texts.{frequenciesRoom, commonLine, commonText}
 use Rattle.verbs.specs.Calls.{settleTold, rowTold, compareToldIn, formToldIn}
 use Rattle.walk_verb.specs.Calls.{allowanceTold, walkTold}
 use Rattle.shelf_verbs.specs.Calls.{numberTold, fieldTold}
 use Rattle.squads_verb.specs.Calls.{squadsTold}
+use Rattle.frequencies_verb.specs.Calls.{commonTold}
 use Rattle.queries.specs.Verb.{verbs, verbIn, verbOf}
 use Rattle.queries.specs.Query.{verbTold, saidTold, wordsTold, queryOf}
 
@@ -55,6 +57,10 @@ crowded = sheetOf 1 1 ((0 ∷ 0 ∷ 0 ∷ []) ∷ []) ((17 ∷ []) ∷ (16 ∷ [
 -- Two kinds, of which the first has no lines and is out: 1 a -> none, and a field of one token of kind 1.
 abbrev pub partUsed : List ℕ
 partUsed = sheetOf 2 1 ((1 ∷ 0 ∷ 0 ∷ 0 ∷ []) ∷ []) ((0 ∷ 1 ∷ []) ∷ [])
+
+-- Seven kinds, k a -> none for each of them, and a field of one token of each.
+abbrev pub many : List ℕ
+many = sheetOf 7 1 (listFrom (λ k. k ∷ 0 ∷ 0 ∷ 0 ∷ 0 ∷ 0 ∷ 0 ∷ 0 ∷ 0 ∷ []) 0 7) ((1 ∷ 1 ∷ 1 ∷ 1 ∷ 1 ∷ 1 ∷ 1 ∷ []) ∷ [])
 
 abbrev pub examples : List Example
 examples =
@@ -92,6 +98,16 @@ examples =
     ∷ asks page ("finer-form" ∷ "0" ∷ []) Answered "0 1\n"
     ∷ asks page ("finer-form" ∷ "1" ∷ []) Answered "2 0\n"
     ∷ asks page ("finer-form" ∷ "2" ∷ []) (Refused 11 0) "refused 11 0\n"
+    ∷ asks page ("common" ∷ "0" ∷ "2" ∷ []) Answered "same 1 stages 2 0 0\n"
+    ∷ asks page ("common" ∷ "1" ∷ "0" ∷ []) Answered "same 0 stages 1 0 0\n"
+    ∷ asks chain ("common" ∷ "0" ∷ "1" ∷ []) Answered "same 1 stages 0 0 1 1\n"
+    ∷ asks crowded ("common" ∷ "0" ∷ "16" ∷ []) Answered "same 0 stages 1 0\n"
+    ∷ asks crowded ("common" ∷ "2" ∷ "0" ∷ []) Answered "same 1 stages 0 0\n"
+    ∷ asks crowded ("common" ∷ "0" ∷ "17" ∷ []) (Refused 14 0) "refused 14 0\n"
+    ∷ asks crowded ("common" ∷ "3" ∷ "17" ∷ []) (Refused 11 0) "refused 11 0\n"
+    ∷ asks many ("common" ∷ "0" ∷ "16" ∷ []) (Refused 18 0) "refused 18 0\n"
+    ∷ asks many ("common" ∷ "0" ∷ "17" ∷ []) (Refused 14 0) "refused 14 0\n"
+    ∷ asks partUsed ("common" ∷ "0" ∷ "1" ∷ []) Answered "same 1 stages 0 0 0\n"
     ∷ asks partUsed ("settle" ∷ []) Answered "stages 1\n0 0\n0 1\n"
     ∷ asks partUsed ("row" ∷ "0" ∷ []) Answered "0 0\n"
     ∷ asks partUsed ("number" ∷ "0" ∷ []) Answered "size 1 number 0\n"
@@ -114,6 +130,8 @@ examples =
     ∷ asks [] ("finer-form" ∷ []) NoCall ""
     ∷ asks [] ("finer-form" ∷ "0" ∷ "1" ∷ []) NoCall ""
     ∷ asks [] ("finer-" ∷ "0" ∷ []) NoCall ""
+    ∷ asks [] ("common" ∷ "0" ∷ []) NoCall ""
+    ∷ asks [] ("common" ∷ "0" ∷ "0" ∷ "0" ∷ []) NoCall ""
     ∷ asks [] ("compare" ∷ "0" ∷ "" ∷ []) NoCall ""
     ∷ asks [] ("compare" ∷ "0" ∷ "18446744073709551616" ∷ []) NoCall ""
     ∷ asks [] ("compare" ∷ "0" ∷ "1" ∷ "2" ∷ "3" ∷ "4" ∷ []) NoCall ""
@@ -123,5 +141,5 @@ examples =
     ∷ []
 
 pub worked : map (λ (x : Example). queryOf (x .sheet) (ended (map bytes (x .words)))) examples ≡ map (λ (x : Example). x .told) examples
-unfolding any all keep pick concat listFrom below leastFrom greatestTo bit unit ℕ-discrete weigh reaches reached reachedKinds reachedLines ready best sweeps cardNorm kindNorm gainOf simulates expands lowering equalNorm equalNormAndTotal falling refined stageFrom stageIn fieldsOfNorm earlier earlierThan atom row passes firstSettled formAt partingStage roundsFor roundsAt tryReplies tryChallenges examine walk entry listed agree placeOf shelfNumber shelfField goesIn timesIn remainder fieldsOffset totalOf counts lineOf cardOf fieldOf firstOf headerChecks lineChecks normChecks sheetChecks settleChecks compareChecks formChecks walkChecks rowChecks shelfNumberChecks shelfFieldChecks squadsChecks bytes digits number newline countsOf wordOf refusedLine written tableOf settleOf verdictIn compareIn primeFormIn formingIn within fullWalk walkOf rowOf rowCheckOf shelfNumberOf shelfCounts shelfFieldOf squadCount remainderForm squadsOf countText countTexts countsLine drawnText foundText digitOf valueFrom some numberOf firstWord startedBy wordsOf sameWord saidAfter numbersOf ended told noCall withNone withOne withTwo withFourOrFive worded tableRoom formRoom shelfRoom stagesLine rowLines settleText rowIn rowAfter rowText verdictText compareTextIn lentText countsText formTextIn givenTo walkText shelvedLine shelvedText numberText fieldText remainderRoom squadsLine squadsText settleTold rowTold compareToldIn formToldIn allowanceTold walkTold numberTold fieldTold squadsTold verbs verbIn verbOf verbTold saidTold wordsTold queryOf
+unfolding any all keep pick concat listFrom below leastFrom greatestTo bit unit ℕ-discrete weigh reaches reached reachedKinds reachedLines ready best sweeps cardNorm kindNorm gainOf simulates expands lowering equalNorm equalNormAndTotal falling refined stageFrom stageIn fieldsOfNorm earlier earlierThan atom row passes firstSettled formAt partingStage roundsFor roundsAt tryReplies tryChallenges examine walk entry listed agree placeOf shelfNumber shelfField goesIn timesIn remainder fieldsOffset totalOf counts lineOf cardOf fieldOf firstOf headerChecks lineChecks normChecks sheetChecks settleChecks compareChecks formChecks walkChecks rowChecks shelfNumberChecks shelfFieldChecks squadsChecks frequenciesChecks bytes digits number newline countsOf wordOf refusedLine written tableOf settleOf verdictIn compareIn primeFormIn formingIn within fullWalk walkOf rowOf rowCheckOf shelfNumberOf shelfCounts shelfFieldOf squadCount remainderForm squadsOf verdictPlace judgedAt frequencies frequenciesOf countText countTexts countsLine drawnText foundText digitOf valueFrom some numberOf firstWord startedBy wordsOf sameWord saidAfter numbersOf ended told noCall withNone withOne withTwo withFourOrFive worded tableRoom formRoom shelfRoom stagesLine rowLines settleText rowIn rowAfter rowText verdictText compareTextIn lentText countsText formTextIn givenTo walkText shelvedLine shelvedText numberText fieldText remainderRoom squadsLine squadsText frequenciesRoom commonLine commonText settleTold rowTold compareToldIn formToldIn allowanceTold walkTold numberTold fieldTold squadsTold commonTold verbs verbIn verbOf verbTold saidTold wordsTold queryOf
 worked = refl

@@ -7,9 +7,10 @@ use Rattle.verbs.specs.Calls.{settleTold, rowTold, compareTold, formTold, finer
 use Rattle.walk_verb.specs.Calls.{walkTold}
 use Rattle.shelf_verbs.specs.Calls.{numberTold, fieldTold}
 use Rattle.squads_verb.specs.Calls.{squadsTold}
+use Rattle.frequencies_verb.specs.Calls.{commonTold}
 use Rattle.queries.specs.Verb.{verbOf}
 use Rattle.queries.specs.declared.table.Verb.{Verb}
-use Rattle.queries.specs.declared.table.Verb.the-variants.{Settle, Row, Compare, Form, Walk, Number, Field, Squads, Finer, FinerForm, Other}
+use Rattle.queries.specs.declared.table.Verb.the-variants.{Settle, Row, Compare, Form, Walk, Number, Field, Squads, Finer, FinerForm, Common, Other}
 
 -- What the call of each verb, with its numbers, comes to.
 unfoldable pub verbTold : List ℕ → Verb → List ℕ → Told
@@ -23,6 +24,7 @@ verbTold s Field = fieldTold s
 verbTold s Squads = squadsTold s
 verbTold s Finer = finerTold s
 verbTold s FinerForm = finerFormTold s
+verbTold s Common = commonTold s
 verbTold s Other = λ _. noCall
 
 -- What a verb and the words after it come to: its call, where these words say numbers; otherwise it is no call.

@@ -1,6 +1,7 @@
 // From the words to the text.
 use crate::table::Verb;
 use crate::table::verb_of;
+use frequencies_verb::common::common_answers;
 use replies::reply::Reply;
 use replies::reply::no_call;
 use shelf_verbs::field::numbered_field;
@@ -44,6 +45,7 @@ fn call(sheet: &[u8], verb: Verb, numbers: &[u64], out: &mut [u8]) -> Reply
         Verb::Squads => count_squads(sheet, numbers, out),
         Verb::Finer => finer_compare_fields(sheet, numbers, out),
         Verb::FinerForm => finer_field_form(sheet, numbers, out),
+        Verb::Common => common_answers(sheet, numbers, out),
         Verb::Other => no_call(),
     }
 }

@@ -15,6 +15,7 @@ pub enum Verb {
     Squads,
     Finer,
     FinerForm,
+    Common,
     Other,
 }
 
@@ -51,6 +52,9 @@ pub fn verb_of(word: &[u8]) -> Verb
     }
     if same_word(word, b"finer-form") {
         return Verb::FinerForm;
+    }
+    if same_word(word, b"common") {
+        return Verb::Common;
     }
     Verb::Other
 }

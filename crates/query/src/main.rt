@@ -8,7 +8,7 @@ use replies::Outcome;
 fn usage() {
     io::write_all(
         STDERR_FILENO,
-        b"usage: query settle | row K | compare I J | form I | walk I J LIMIT ALLOWANCE [DESK] | number I | field SIZE NUMBER | squads WHOLE SQUAD | finer I J | finer-form I < SHEET (numbers in decimal; ALLOWANCE of 32 bits, the others of 64)\n",
+        b"usage: query settle | row K | compare I J | form I | walk I J LIMIT ALLOWANCE [DESK] | number I | field SIZE NUMBER | squads WHOLE SQUAD | finer I J | finer-form I | common FIELD SIZE < SHEET (numbers in decimal; ALLOWANCE of 32 bits, the others of 64)\n",
     );
 }
 

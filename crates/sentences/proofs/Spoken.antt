@@ -11,7 +11,7 @@ use Rattle.model.specs.Card.{reached}
 use Rattle.model.specs.Limits.{normLimit}
 use Rattle.model.specs.Norm.{kindNorm}
 use Rattle.model.specs.Page.{bytes, newline}
-use Rattle.model.specs.Refusal.{Check, check, refusal, firstOf, headerChecks, lineChecks, normChecks, sheetChecks, acceptChecks, settleChecks, compareChecks, formChecks, walkChecks, rowChecks, shelfNumberChecks, shelfFieldChecks, squadsChecks}
+use Rattle.model.specs.Refusal.{Check, check, refusal, firstOf, headerChecks, lineChecks, normChecks, sheetChecks, acceptChecks, settleChecks, compareChecks, formChecks, walkChecks, rowChecks, shelfNumberChecks, shelfFieldChecks, squadsChecks, frequenciesChecks}
 use Rattle.model.specs.Sheet.{kindCount, cardOf}
 use Rattle.sentences.specs.Every.{Said, Every}
 use Rattle.sentences.specs.Sentence.{sentences, among, has, named, sentenceOf}
@@ -75,7 +75,7 @@ accept-each : (s : List ℕ) → Each (acceptChecks s)
 accept-each s = each-both (sheetChecks s) (normChecks s) (sheet-each s) (norm-each s)
 
 pub every : Every
-unfolding settleChecks rowChecks compareChecks formChecks walkChecks shelfNumberChecks shelfFieldChecks squadsChecks sentenceOf sentences pick has among named bytes newline
+unfolding settleChecks rowChecks compareChecks formChecks walkChecks shelfNumberChecks shelfFieldChecks squadsChecks frequenciesChecks sentenceOf sentences pick has among named bytes newline
 every =
     record {
       page = λ s. first-said (acceptChecks s) (accept-each s);
@@ -87,4 +87,5 @@ every =
       number = λ s i. first-said (shelfNumberChecks s i) (each-both (acceptChecks s) _ (accept-each s) (omega arith, (omega arith, tt)));
       field = λ s t x size. first-said (shelfFieldChecks s t x size) (each-both (acceptChecks s) _ (accept-each s) (omega arith, (omega arith, (omega arith, tt))));
       squads = λ s i j size. first-said (squadsChecks s i j size) (each-both (acceptChecks s) _ (accept-each s) (omega arith, (omega arith, (omega arith, (omega arith, tt)))));
+      frequencies = λ s i t size. first-said (frequenciesChecks s i t size) (each-both (acceptChecks s) _ (accept-each s) (omega arith, (omega arith, (omega arith, (omega arith, tt)))));
     }

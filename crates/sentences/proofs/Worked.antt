@@ -7,7 +7,7 @@ use Prim.Native.String.{String}
 use lib.Dec.{eqb, ltb}
 use lib.ListN.{length}
 use Rattle.model.specs.Finite.{both, pick}
-use Rattle.model.specs.Limits.{mostKinds, mostCodes, mostLines, mostFields, normLimit, mostRounds, mostTokens, lastDesk}
+use Rattle.model.specs.Limits.{mostKinds, mostCodes, mostLines, mostFields, normLimit, mostRounds, mostTokens, mostListed, lastDesk}
 use Rattle.model.specs.Page.{bytes, digits, number, newline}
 use Rattle.model.specs.Sheet.{linesOffset}
 use Rattle.sentences.specs.Sentence.{sentences, among, has, named, sentenceOf}
@@ -37,6 +37,7 @@ examples =
     ∷ at 15 0 "no field of this size has so large a number\n"
     ∷ at 16 0 "the desk is over 7\n"
     ∷ at 17 1 "the squad is empty\n"
+    ∷ at 18 0 "there are over 65,536 fields of this size\n"
     ∷ at 0 0 ""
     ∷ at 1 1 ""
     ∷ at 6 4 ""
@@ -44,6 +45,7 @@ examples =
     ∷ at 15 1 ""
     ∷ at 16 1 ""
     ∷ at 17 0 ""
+    ∷ at 18 1 ""
     ∷ []
 
 pub worked : map (λ (e : Example). sentenceOf (e .number) (e .place)) examples ≡ map (λ (e : Example). bytes (e .text)) examples
@@ -57,7 +59,7 @@ grouped (d ∷ ds) = d ∷ elim (both (ltb 0 (length ds)) (eqb (length ds % 3) 0
 
 -- Each limit in a sentence is the model's.
 pub limits-said
-    : map (λ (k : ℕ). sentenceOf k 0) (16 ∷ 1 ∷ 2 ∷ 3 ∷ 4 ∷ 5 ∷ 6 ∷ 10 ∷ 13 ∷ 14 ∷ [])
+    : map (λ (k : ℕ). sentenceOf k 0) (16 ∷ 1 ∷ 2 ∷ 3 ∷ 4 ∷ 5 ∷ 6 ∷ 10 ∷ 13 ∷ 14 ∷ 18 ∷ [])
     ≡ map (λ (t : List ℕ). t ++ newline) (
     (bytes "the desk is over " ++ number lastDesk)
     ∷ (bytes "the sheet has under " ++ number linesOffset ++ bytes " bytes")
@@ -69,6 +71,7 @@ pub limits-said
     ∷ (bytes "kind 0: its norm is over " ++ grouped (number normLimit))
     ∷ (bytes "the round limit is over " ++ number mostRounds)
     ∷ (bytes "the field or the size is over " ++ number mostTokens ++ bytes " tokens")
+    ∷ (bytes "there are over " ++ grouped (number mostListed) ++ bytes " fields of this size")
     ∷ []
     )
 unfolding sentenceOf sentences pick has among named grouped bytes digits number newline

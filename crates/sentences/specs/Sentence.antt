@@ -41,6 +41,7 @@ sentences =
     ∷ row 14 (Only 0) "the field or the size is over 16 tokens"
     ∷ row 15 (Only 0) "no field of this size has so large a number"
     ∷ row 17 (Only 1) "the squad is empty"
+    ∷ row 18 (Only 0) "there are over 65,536 fields of this size"
     ∷ row 12 (Only 0) "a buffer or table is too short"
     ∷ []
 

@@ -22,7 +22,7 @@ pub struct Row {
     pub words: [u8; 52],
 }
 
-const ROWS: usize = 21;
+const ROWS: usize = 22;
 
 const TABLE: [Row; ROWS] = [
     Row {
@@ -144,6 +144,12 @@ const TABLE: [Row; ROWS] = [
         places: Place::Only(1),
         count: 19,
         words: *b"the squad is empty\n                                 ",
+    },
+    Row {
+        number: 18,
+        places: Place::Only(0),
+        count: 42,
+        words: *b"there are over 65,536 fields of this size\n          ",
     },
     Row {
         number: 12,

@@ -21,13 +21,13 @@ module _ (kinds : List ℕ) where
   abbrev pub front : ℕ → List ℕ
   front i = reverse (take i kinds)
 
-  front-next : (i : ℕ) → i < length kinds → front (suc i) ≡ getD kinds i 0 ∷ front i
+  pub front-next : (i : ℕ) → i < length kinds → front (suc i) ≡ getD kinds i 0 ∷ front i
   front-next i h = ap reverse (take-suc kinds i 0 h) ∙ reverse-append (take i kinds) (getD kinds i 0 ∷ [])
 
   pub front-all : front (length kinds) ≡ reverse kinds
   front-all = ap reverse (take-length kinds)
 
-  front-many : (i : ℕ) → i ≤ length kinds → length (front i) ≡ i
+  pub front-many : (i : ℕ) → i ≤ length kinds → length (front i) ≡ i
   front-many i h = length-reverse (take i kinds) ∙ omega (arith, length-take i kinds)
 
   front-mem : (i : ℕ) → i ≤ length kinds → (k : ℕ) → List·Memᴰ k (front i) → (j : ℕ) × (j < i) × (k ≡ getD kinds j 0)

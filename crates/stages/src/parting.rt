@@ -5,6 +5,7 @@ use crate::settle::Settled;
 use sheet::Card;
 use tables::sense::Sense;
 use tables::table::form_of_field;
+use tables::table::same_counts;
 use weights::fields::field_norm;
 use weights::fields::field_tokens;
 ghost use mathlib.Core.Path.{_≡_};
@@ -40,23 +41,6 @@ pub fn field_form(sheet: &[u8], card: Card, rows: &[u32], field: usize) -> [u64;
     let mut form = [0u64; 32];
     form_of_field(&field[..kinds], rows, &mut form);
     form
-}
-
-// Whether two lists of counts are the same.
-fn same_counts(first: &[u64], second: &[u64]) -> bool
-    requires { ⌜ length (now second) ≡ length (now first) ⌝ }
-    ensures { λ r. ⌜ (r ≡ true) ↔ (at (now (first .entry)) ≡ at (now (second .entry))) ⌝ }
-{
-    let mut i = 0;
-    while i < first.len() {
-        let here = first[i];
-        let there = second[i];
-        if here != there {
-            return false;
-        }
-        i += 1;
-    }
-    true
 }
 
 // Whether two fields have one norm.

@@ -101,6 +101,23 @@ pub fn form_of(forms: &[u64], line: usize) -> &[u64]
     &forms[start..end]
 }
 
+// Whether two lists of counts are the same.
+pub fn same_counts(first: &[u64], second: &[u64]) -> bool
+    requires { ⌜ length (now second) ≡ length (now first) ⌝ }
+    ensures { λ r. ⌜ (r ≡ true) ↔ (at (now (first .entry)) ≡ at (now (second .entry))) ⌝ }
+{
+    let mut i = 0;
+    while i < first.len() {
+        let here = first[i];
+        let there = second[i];
+        if here != there {
+            return false;
+        }
+        i += 1;
+    }
+    true
+}
+
 // Sets every count to 0.
 pub fn clear(out: &mut [u64])
     ensures { λ _. ⌜ at (now (out .exit)) ≡ none ⌝ }

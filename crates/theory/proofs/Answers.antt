@@ -20,8 +20,8 @@ use Rattle.model.specs.Card.{reachedCount}
 use Rattle.model.specs.Shelf.{shelfField}
 use Rattle.model.specs.Walk.{WalkAnswer, spent, Walk}
 use Rattle.model.specs.Sheet.{kindCount, fieldCount, cardOf, fieldOf}
-use Rattle.model.specs.Refusal.{Finding, clear, refusal, firstOf, Accepted, settleChecks, compareChecks, formChecks, walkChecks, shelfNumberChecks, shelfFieldChecks, squadsChecks}
-use Rattle.model.specs.Answer.{tableOf, primeFormIn, refused, given, Session, Walked, same, different, settleOf, rowCheckOf, rowOf, verdictIn, compareIn, formingIn, drawing, within, fullWalk, walkOf, shelfNumberOf, shelfCounts, shelfFieldOf, squadCount, remainderForm, squadsOf}
+use Rattle.model.specs.Refusal.{Finding, clear, refusal, firstOf, Accepted, settleChecks, compareChecks, formChecks, walkChecks, shelfNumberChecks, shelfFieldChecks, squadsChecks, frequenciesChecks}
+use Rattle.model.specs.Answer.{tableOf, primeFormIn, refused, given, Session, Walked, same, different, settleOf, rowCheckOf, rowOf, verdictIn, compareIn, formingIn, drawing, within, fullWalk, walkOf, shelfNumberOf, shelfCounts, shelfFieldOf, squadCount, remainderForm, squadsOf, frequencies, frequenciesOf}
 use Rattle.theory.specs.Demands.{Demand1}
 use Rattle.theory.proofs.Senses.{settled, verdict-cases}
 use Rattle.model.proofs.Plain.{plain}
@@ -31,7 +31,7 @@ use Rattle.theory.proofs.Limits.{limits-accepted, accepted-limits}
 use Rattle.theory.proofs.Walks.{walk-not-spent}
 use Rattle.theory.proofs.Verdicts.{compare-is, L, field-tidy}
 use Rattle.theory.proofs.Calls.{call-clear, call-refused, kept, past}
-use Rattle.theory.proofs.Taken.{settle-taken, compare-taken, form-taken, row-taken, walk-taken, walk-desk, number-taken, shelf-taken, squads-taken}
+use Rattle.theory.proofs.Taken.{settle-taken, compare-taken, form-taken, row-taken, walk-taken, walk-desk, number-taken, shelf-taken, squads-taken, frequencies-taken}
 
 -- An entry of a list that is lowered; one that the list does not have is 0, and stays so.
 pub set-lowered : (xs : List ℕ) (d n : ℕ) → at (set xs d (at xs d - n)) d ≡ at xs d - n
@@ -188,7 +188,7 @@ module _ (s : List ℕ) where
   shelf-counts t x k h = let z : 0 + k ≡ k = omega arith in getD-from (shelfField (cardOf s) t x) 0 (kindCount s) k 0 h ∙ ap (shelfField (cardOf s) t x) z
 
   pub demand1 : Demand1 s
-  unfolding settleOf compareIn formingIn rowOf shelfNumberOf shelfFieldOf squadsOf
+  unfolding settleOf compareIn formingIn rowOf shelfNumberOf shelfFieldOf squadsOf frequenciesOf
   demand1 = record {
     accepted = (accepted-limits s, limits-accepted s);
     settle-taken = settle-taken s;
@@ -243,4 +243,12 @@ module _ (s : List ℕ) where
         kept (given (squadCount s i j)) (remainderForm s i j) buffer (firstOf (squadsChecks s i j (length buffer))) (λ e. omega (arith, plain .remainder-size s i j, squads-taken s i j (length buffer) .0 e .4));
     squads-past = λ i j buffer e h.
         past (given (squadCount s i j)) (remainderForm s i j) buffer (firstOf (squadsChecks s i j (length buffer))) e (omega (arith, plain .remainder-size s i j));
+    frequencies-taken = frequencies-taken s;
+    frequencies-given = λ i t buffer e. call-clear _ _ (firstOf (frequenciesChecks s i t (length buffer))) e;
+    frequencies-refused = λ i t buffer k p e. call-refused _ _ (firstOf (frequenciesChecks s i t (length buffer))) k p e;
+    frequencies-size = plain .frequencies-size s;
+    frequencies-length = λ i t buffer.
+        kept (given tt) (frequencies s i t) buffer (firstOf (frequenciesChecks s i t (length buffer))) (λ e. omega (arith, plain .frequencies-size s i t, frequencies-taken s i t (length buffer) .0 e .4));
+    frequencies-past = λ i t buffer e h.
+        past (given tt) (frequencies s i t) buffer (firstOf (frequenciesChecks s i t (length buffer))) e (omega (arith, plain .frequencies-size s i t));
   }

@@ -36,6 +36,8 @@ pub mod Shelves
 -- Squads: counts that go into counts, joined fields under a bisimulation.
 pub mod Quotients
 pub mod Remainders
+-- Frequencies: how many members of a list pass a test.
+pub mod Counting
 -- Pairs examined where an allowance may end the count: one part after another, and runs through lists.
 pub mod Counted
 pub mod Runs
@@ -61,6 +63,7 @@ pub mod Settling
 pub mod Program
 pub mod FinerRows
 pub mod Squads
+pub mod Frequencies
 pub mod Widths
 pub mod Decimals
 pub mod Pages

@@ -2,7 +2,7 @@
 use mathlib.Core.Bool.{Bool, true, false}
 use mathlib.Core.List.{List, [], _∷_, _++_, List·Memᴰ, List·Memᴰ·head, List·Memᴰ·tail}
 use mathlib.Core.Logic.{_⊎_, inl, inr}
-use mathlib.Core.Path.{_≡_, refl, _∙_, ap}
+use mathlib.Core.Path.{_≡_, refl, _∙_, ap, ap₂}
 use Prim.Native.Nat.{ℕ, zero, suc, _+_, _-_, _≤_, _<_}
 use native.Mathlib.Decide.{ℕ-discrete}
 use native.Mathlib.Omega.{arith}
@@ -48,6 +48,12 @@ module _ {A : Type 0} (f : ℕ → A) where
       ap (listFrom f i) e
       ∙ ap (λ (xs : List A). f i ∷ xs) (from-append (suc i) m n)
       ∙ ap (λ (j : ℕ). f i ∷ (listFrom f (suc i) m ++ listFrom f j n)) d
+
+-- The same list from functions that are the same on its numbers.
+pub from-same : {A : Type 0} (f g : ℕ → A) (i m : ℕ) → ((k : ℕ) → i ≤ k → k < i + m → f k ≡ g k) → listFrom f i m ≡ listFrom g i m
+unfolding listFrom
+from-same {A} f g i zero h = refl
+from-same {A} f g i (suc m) h = ap₂ (λ (x : A) (xs : List A). x ∷ xs) (h i (omega arith) (omega arith)) (from-same f g (suc i) m (λ k l r. h k (omega arith) (omega arith)))
 
 pub mem-below : (n k : ℕ) → List·Memᴰ k (below n) → k < n
 unfolding below

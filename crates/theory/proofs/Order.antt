@@ -5,12 +5,15 @@ use mathlib.Core.Logic.{_⊎_, inl, inr}
 use mathlib.Core.Path.{refl, sym, _∙_, ap}
 use Prim.Native.Nat.{ℕ, zero, suc, _<_}
 use native.Mathlib.Omega.{arith}
-use lib.Dec.{eqb}
+use lib.Dec.{T, eqb}
 use lib.ListN.{length, getD}
+use Rattle.model.specs.Finite.{keep}
 use Rattle.model.specs.Field.{Field, none, _⊕_, unit}
 use Rattle.model.specs.Shelf.{listed}
 use Rattle.theory.specs.Shelves.{Precedes}
 use Rattle.theory.proofs.Field.{unit-same}
+use Rattle.theory.proofs.Exec.{keep-on}
+use Rattle.theory.proofs.Reach.{tells-self}
 use Rattle.theory.proofs.Enumerate.{mem-map}
 use Rattle.theory.proofs.Listing.{more, listed-zero, listed-next, Once, none-over, listed-over}
 
@@ -56,6 +59,16 @@ rises-map : {A : Type 0} (R : A → A → Type 0) (g : A → A) (xs : List A) �
 unfolding Rises
 rises-map R g [] f r = tt
 rises-map R g (x ∷ xs) f r = ((λ y m. let u = mem-map g xs y m in rw (u .2) (f x (u .0) (r .0 (u .0) (u .1)))), rises-map R g xs f (r .1))
+
+-- What is kept of a list that rises does so.
+pub rises-keep : {A : Type 0} (R : A → A → Type 0) (p : A → Bool) (xs : List A) → Rises R xs → Rises R (keep p xs)
+unfolding Rises keep
+rises-keep R p [] r = tt
+rises-keep {A} R p (x ∷ xs) r = go (p x) (rises-keep R p xs (r .1))
+  where
+    go : (b : Bool) → Rises R (keep p xs) → Rises R (elim b as (λ _. List A) [ true ↦ x ∷ keep p xs | false ↦ keep p xs ])
+    go true k = ((λ y m. r .0 y (keep-on p (λ z. T (p z)) (λ z. tells-self (p z)) xs y m .0)), k)
+    go false k = k
 
 -- A field comes before another where the same tokens are added on both sides.
 precedes-plus : (ks : List ℕ) (a b c : Field) → Precedes ks a b → Precedes ks (a ⊕ c) (b ⊕ c)

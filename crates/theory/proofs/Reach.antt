@@ -52,12 +52,12 @@ unfolding one
 one-yes true t = refl
 one-yes false t = absurd t
 
-one-no : (b : Bool) → ¬ T b → one b ≡ 0
+pub one-no : (b : Bool) → ¬ T b → one b ≡ 0
 unfolding one
 one-no true n = absurd (n tt)
 one-no false n = refl
 
-one-most : (b : Bool) → one b ≤ 1
+pub one-most : (b : Bool) → one b ≤ 1
 unfolding one
 one-most true = omega arith
 one-most false = omega arith

@@ -39,7 +39,7 @@ weightOf finer = λ _. 1
 abbrev pub normedIn : (m : Sense) (c : Card) (w : ℕ → ℕ) → Found c w → Normed
 normedIn m c w F = normed c w (weightOf m) F
 
-weigh-zero : (n : ℕ) (a : Field) → weigh n (λ _. 0) a ≡ 0
+pub weigh-zero : (n : ℕ) (a : Field) → weigh n (λ _. 0) a ≡ 0
 unfolding weigh
 weigh-zero zero a = refl
 weigh-zero (suc n) a = omega (arith, weigh-zero n a)

@@ -2,15 +2,15 @@
 use mathlib.Core.List.{List, [], _++_}
 use mathlib.Core.Logic.{_↔_}
 use mathlib.Core.Path.{_≡_, sym, _∙_}
-use Prim.Native.Nat.{ℕ, _*_, _≤_, _<_}
+use Prim.Native.Nat.{ℕ, _+_, _*_, _≤_, _<_}
 use lib.Dec.{ltb}
 use lib.ListN.{length}
 use Rattle.model.specs.Field.{tokens}
 use Rattle.model.specs.Card.{reachedCount}
 use Rattle.model.specs.Shelf.{entry}
 use Rattle.model.specs.Sheet.{kindCount, fieldCount, cardOf, fieldOf}
-use Rattle.model.specs.Limits.{mostKinds, mostRounds, mostTokens, lastDesk, Limits}
-use Rattle.model.specs.Refusal.{Check, check, clear, refusal, firstOf, sheetChecks, acceptChecks, Accepted, settleChecks, compareChecks, formChecks, walkChecks, rowChecks, shelfNumberChecks, shelfFieldChecks, squadsChecks}
+use Rattle.model.specs.Limits.{mostKinds, mostRounds, mostTokens, mostListed, lastDesk, Limits}
+use Rattle.model.specs.Refusal.{Check, check, clear, refusal, firstOf, sheetChecks, acceptChecks, Accepted, settleChecks, compareChecks, formChecks, walkChecks, rowChecks, shelfNumberChecks, shelfFieldChecks, squadsChecks, frequenciesChecks}
 use Rattle.model.specs.Answer.{rowCheckOf}
 use Rattle.theory.proofs.Exec.{tells-lt}
 use Rattle.theory.proofs.Sheets.{first-append, then-clear, clear-cons, clear-nil, small, not-small, not-less, call-checks}
@@ -144,4 +144,22 @@ module _ (s : List ℕ) where
         ∙ clear-cons 11 0 _ _ (not-small i (fieldCount s) (p .1))
         (clear-cons 11 1 _ _ (not-small j (fieldCount s) (p .2))
         (clear-cons 17 1 _ _ (not-none (tokens (kindCount s) (fieldOf s j)) (p .3)) (clear-cons 12 0 _ [] (not-less size (kindCount s) (p .4)) clear-nil)))),
+  )
+
+  -- Frequencies takes a sheet within the limits, one of its fields, a size of few tokens whose entry is not too large and a buffer with room.
+  pub frequencies-taken : (i t size : ℕ) → (firstOf (frequenciesChecks s i t size) ≡ clear)
+      ↔ (Limits s × (i < fieldCount s) × (t ≤ mostTokens) × (entry (reachedCount (cardOf s)) t ≤ mostListed) × (kindCount s + 2 ≤ size))
+  unfolding frequenciesChecks
+  frequencies-taken i t size = (
+    (λ e.
+        let p = sheet-then _ e in
+        let a = cons-none 11 0 _ _ (p .1) in
+        let b = cons-none 14 0 _ _ (a .1) in
+        let c = cons-none 18 0 _ _ (b .1) in
+        let d = cons-none 12 0 _ _ (c .1) in
+        (p .0, small i (fieldCount s) (a .0), from-less mostTokens t (b .0), from-less mostListed (entry (reachedCount (cardOf s)) t) (c .0), from-less size (kindCount s + 2) (d .0))),
+    (λ p. call-checks s (limits-accepted s (p .0)) _
+        ∙ clear-cons 11 0 _ _ (not-small i (fieldCount s) (p .1))
+        (clear-cons 14 0 _ _ (not-less mostTokens t (p .2))
+        (clear-cons 18 0 _ _ (not-less mostListed (entry (reachedCount (cardOf s)) t) (p .3)) (clear-cons 12 0 _ [] (not-less size (kindCount s + 2) (p .4)) clear-nil)))),
   )

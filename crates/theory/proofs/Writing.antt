@@ -1,10 +1,10 @@
 -- A loop that stores the entries of a list to the front of a buffer, one by one; the entries that an array begins with.
-use mathlib.Core.List.{List}
+use mathlib.Core.List.{List, _++_, append-nil}
 use mathlib.Core.Path.{_≡_, refl, sym, _∙_, ap}
 use Prim.Native.Nat.{ℕ, suc, _+_, _≤_, _<_}
 use native.Mathlib.Numerals.{add-one}
 use native.Mathlib.Omega.{arith}
-use lib.ListN.{length, getD, set, take}
+use lib.ListN.{length, getD, set, take, drop-of-length-le}
 use lib.Seq.{paste, paste-zero, paste-suc, length-paste, take-length, ext-getD, length-take-le, getD-take}
 use Rattle.model.specs.Finite.{listFrom}
 use Rattle.model.specs.Field.{at}
@@ -49,3 +49,8 @@ first-counts xs n h = ext-getD 0 (take n xs) (listFrom (at xs) 0 n) (length-take
         let q : k < n = omega (arith, length-take-le n xs h) in
         let z : 0 + k ≡ k = omega arith in
         getD-take n xs k 0 q ∙ sym (getD-from (at xs) 0 n k 0 q ∙ ap (at xs) z)
+
+-- What is written to a buffer of its own length is the whole of it.
+pub written-whole : (xs buffer : List ℕ) → length xs ≡ length buffer → written xs buffer ≡ xs
+unfolding written
+written-whole xs buffer e = ap (λ (l : List ℕ). xs ++ l) (drop-of-length-le buffer {i = length xs} (omega arith)) ∙ append-nil xs

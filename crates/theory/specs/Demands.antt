@@ -16,10 +16,10 @@ use Rattle.theory.specs.FinerGame.{HoldsIn, AlwaysIn, PartingIn, PartedI
 use Rattle.model.specs.Shelf.{entry, shelfNumber, shelfField}
 use Rattle.model.specs.Walk.{spent}
 use Rattle.model.specs.Sheet.{kindCount, fieldCount, cardOf, fieldOf}
-use Rattle.model.specs.Limits.{mostKinds, mostRounds, mostTokens, lastDesk, Limits}
-use Rattle.model.specs.Refusal.{Accepted, clear, refusal, firstOf, sheetChecks, settleChecks, compareChecks, formChecks, walkChecks, shelfNumberChecks, shelfFieldChecks, squadsChecks}
+use Rattle.model.specs.Limits.{mostKinds, mostRounds, mostTokens, mostListed, lastDesk, Limits}
+use Rattle.model.specs.Refusal.{Accepted, clear, refusal, firstOf, sheetChecks, settleChecks, compareChecks, formChecks, walkChecks, shelfNumberChecks, shelfFieldChecks, squadsChecks, frequenciesChecks}
 use Rattle.theory.specs.Terms.{OfKinds, IsGain, StageIn, PrimeIn}
-use Rattle.model.specs.Answer.{refused, given, Session, same, different, settleOf, compareIn, formingIn, walkOf, rowOf, rowCheckOf, tableOf, primeFormIn, written, fullWalk, shelfNumberOf, shelfCounts, shelfFieldOf, squadCount, remainderForm, squadsOf}
+use Rattle.model.specs.Answer.{refused, given, Session, same, different, settleOf, compareIn, formingIn, walkOf, rowOf, rowCheckOf, tableOf, primeFormIn, written, fullWalk, shelfNumberOf, shelfCounts, shelfFieldOf, squadCount, remainderForm, squadsOf, frequencies, frequenciesOf}
 
 -- Demand 1.
 pub record Demand1 (s : List ℕ) : Type 0 where
@@ -109,6 +109,18 @@ pub record Demand1 (s : List ℕ) : Type 0 where
   pub remainder-size : (i j : ℕ) → length (remainderForm s i j) ≡ kindCount s
   pub squads-length : (i j : ℕ) (buffer : List ℕ) → length (squadsOf s i j buffer .lent) ≡ length buffer
   pub squads-past : (i j : ℕ) (buffer : List ℕ) (e : ℕ) → kindCount s ≤ e → at (squadsOf s i j buffer .lent) e ≡ at buffer e
+  -- Frequencies (request 8 of document 02), of a field i and a size t: not refused just when the sheet is within the limits and has the field, the size is at most 16, its entry at most 65,536,
+  -- and the buffer has room for n + 2 counts; then these are written.
+  pub frequencies-taken : (i t size : ℕ) → (firstOf (frequenciesChecks s i t size) ≡ clear)
+      ↔ (Limits s × (i < fieldCount s) × (t ≤ mostTokens) × (entry (reachedCount (cardOf s)) t ≤ mostListed) × (kindCount s + 2 ≤ size))
+  pub frequencies-given : (i t : ℕ) (buffer : List ℕ) → firstOf (frequenciesChecks s i t (length buffer)) ≡ clear
+      → frequenciesOf s i t buffer ≡ record { answer = given tt; lent = written (frequencies s i t) buffer }
+  pub frequencies-refused : (i t : ℕ) (buffer : List ℕ) (k p : ℕ) → firstOf (frequenciesChecks s i t (length buffer)) ≡ refusal k p
+      → frequenciesOf s i t buffer ≡ record { answer = refused k p; lent = buffer }
+  -- "n + 2 counts"; "Bytes of a lent buffer past those named keep their values", and it keeps its length.
+  pub frequencies-size : (i t : ℕ) → length (frequencies s i t) ≡ kindCount s + 2
+  pub frequencies-length : (i t : ℕ) (buffer : List ℕ) → length (frequenciesOf s i t buffer .lent) ≡ length buffer
+  pub frequencies-past : (i t : ℕ) (buffer : List ℕ) (e : ℕ) → kindCount s + 2 ≤ e → at (frequenciesOf s i t buffer .lent) e ≡ at buffer e
 
 -- Demand 2, of fields i and j of an accepted sheet, with bisimulations of every universe.
 pub record Demand2 {ℓ} (m : Sense) (s : List ℕ) (i j : ℕ) : Type (ℓ + 1) where

@@ -27,6 +27,7 @@ use Rattle.theory.specs.Widths.{Bytes, Widths}
 use Rattle.model.specs.Page.{bytes, number, newline, itself, wordsOf, kindLine, refusedLine, pageOf, printed}
 use Rattle.theory.specs.Shelves.{Shelves, EntriesFit}
 use Rattle.theory.specs.Squads.{Squads}
+use Rattle.theory.specs.Frequencies.{Frequencies}
 use Rattle.theory.specs.Finer.{Totals, Finer}
 use Rattle.theory.specs.Days.{Day}
 use Rattle.theory.specs.Terms.{IsGain, StageIn, BaseOf, Prime, PrimeIn, SettledIn, OnReached, OfKinds}
@@ -180,6 +181,7 @@ pub record Meanings {ℓ} : Type (ℓ + 1) where
   pub shelves : (s : List ℕ) (t : ℕ) → Shelves (cardOf s) t
   pub entries-fit : EntriesFit
   pub squads : (s : List ℕ) → Accepted s → (i j : ℕ) → Squads {ℓ} s i j
+  pub frequencies : (s : List ℕ) → Accepted s → (i t : ℕ) → Frequencies {ℓ} s i t
   -- The finer sense.
   pub totals : (c : Card) → Totals c
   pub finer : (s : List ℕ) → Finer s

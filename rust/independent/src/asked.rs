@@ -3,12 +3,13 @@
 use std::collections::BTreeMap;
 use std::ops::Range;
 
-use crate::calls::{Implementation, form_of, verdict_of};
+use crate::calls::{Answer, Call, Implementation, form_of, make, verdict_of};
 use crate::filer::Verdict;
 use crate::generator::sample;
 use crate::norm::{NormedCard, accept};
 use crate::random::Random;
 use crate::sense::Sense;
+use crate::sheet::Refusal;
 
 /// An accepted sheet, and who is asked.
 pub struct Asked<'a> {
@@ -26,6 +27,35 @@ impl Asked<'_> {
     /// The prime form of a field of a sheet of as many kinds.
     pub fn form(&self, sense: Sense, bytes: &[u8], field: usize) -> Vec<u64> {
         form_of(self.implementation, sense, bytes, field, self.normed.card.kinds)
+    }
+
+    /// The settled stage of the sheet.
+    pub fn settled_stage(&self) -> u32 {
+        let kinds = self.normed.card.kinds;
+        match make(self.implementation, &Call::Settle { entries: kinds * kinds }, self.bytes).0 {
+            Answer::Settled { stage } => stage,
+            other => panic!("{other:?} is no settled stage"),
+        }
+    }
+
+    /// The field of a size and a number, if there are so many.
+    pub fn shelf_field(&self, size: usize, number: u64) -> Option<Vec<u16>> {
+        let call = Call::ShelfField { size, number, entries: self.normed.card.kinds };
+        match make(self.implementation, &call, self.bytes) {
+            (Answer::FieldWritten, lent) => Some(lent.field.lent().to_vec()),
+            (Answer::Refused(Refusal { number: 15, place: 0 }), _) => None,
+            (other, _) => panic!("{other:?} is no field"),
+        }
+    }
+
+    /// The counts of Frequencies of a field and a size, or the refusal.
+    pub fn frequencies(&self, field: usize, size: usize) -> Result<Vec<u32>, Refusal> {
+        let call = Call::Frequencies { field, size, entries: self.normed.card.kinds + 2 };
+        match make(self.implementation, &call, self.bytes) {
+            (Answer::FrequenciesWritten, lent) => Ok(lent.frequencies.lent().to_vec()),
+            (Answer::Refused(refusal), _) => Err(refusal),
+            (other, _) => panic!("{other:?} is no answer of Frequencies"),
+        }
     }
 }
 

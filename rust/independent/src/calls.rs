@@ -10,13 +10,14 @@
 use std::collections::BTreeMap;
 
 use crate::filer::{Verdict, compare, prime_form, row, row_check, settle};
+use crate::frequencies::{MOST_LISTED, frequencies};
 use crate::generator::sample;
 use crate::page::{page, write_page};
 use crate::random::Random;
 use crate::reached::reached_kinds;
 use crate::sense::Sense;
-use crate::sheet::{MOST_KINDS, Numbers, Refusal, numbers, read};
-use crate::shelf::{Entries, MOST_TOKENS, ShelfNumber, shelf_field, shelf_number};
+use crate::sheet::{Card, MOST_KINDS, Numbers, Refusal, numbers, read};
+use crate::shelf::{Entries, MOST_TOKENS, ShelfNumber, shelf_field, shelf_number, tokens_of};
 use crate::squads::squads;
 use crate::walker::{self, DESKS, Walked, walk_lent};
 
@@ -37,6 +38,7 @@ pub enum Call {
     ShelfNumber { field: usize },
     ShelfField { size: usize, number: u64, entries: usize },
     Squads { whole: usize, squad: usize, entries: usize },
+    Frequencies { field: usize, size: usize, entries: usize },
 }
 
 /// A day: a session from its opening to its last walk.
@@ -115,6 +117,8 @@ pub enum Answer {
     Squads {
         count: u64,
     },
+    /// Frequencies.
+    FrequenciesWritten,
 }
 
 /// Entries before and past each buffer that must stay as they are.
@@ -157,6 +161,8 @@ pub struct Lent {
     pub page: Margined<u8>,
     /// The buffer of Shelf field.
     pub field: Margined<u16>,
+    /// The buffer of Frequencies.
+    pub frequencies: Margined<u32>,
     /// The session array of a day: what each desk has left, and entries that are nobody's.
     pub session: Margined<u32>,
 }
@@ -175,6 +181,7 @@ impl Lent {
         };
         let page = if let Call::Page { bytes } = *call { bytes } else { 0 };
         let field = if let Call::ShelfField { entries, .. } = *call { entries } else { 0 };
+        let frequencies = if let Call::Frequencies { entries, .. } = *call { entries } else { 0 };
         // The allowances that a short session array has no room for stand past it, where a call must not read them.
         let (read, session, allowances) = match call {
             Call::Day(day) => (sheets, day.entries, &day.allowances[..]),
@@ -186,6 +193,7 @@ impl Lent {
             counts: Margined::new(counts, |index| 0xa5a5_a5a5_0000_0000 + index as u64),
             page: Margined::new(page, |index| 0x80 | index as u8),
             field: Margined::new(field, |index| 0xa500 + index as u16),
+            frequencies: Margined::new(frequencies, |index| 0xa5a5_0000 + index as u32),
             session: Margined::new(session, or_else(allowances, |index| 0x5a5a_0000 + index as u32)),
         }
     }
@@ -216,6 +224,9 @@ pub fn independent(call: &Call, lent: &mut Lent) -> Answer {
         }
         Call::Squads { whole, squad, .. } => {
             squads(sheet, whole, squad, lent.counts.lent_mut()).map(|count| Answer::Squads { count })
+        }
+        Call::Frequencies { field, size, .. } => {
+            frequencies(sheet, field, size, lent.frequencies.lent_mut()).map(|()| Answer::FrequenciesWritten)
         }
     };
     answer.unwrap_or_else(Answer::Refused)
@@ -271,7 +282,8 @@ fn header(sheet: &[u8], place: usize) -> usize {
 pub fn calls(sheets: &[Vec<u8>], random: &mut Random) -> Vec<Call> {
     let sheet = &sheets[0];
     let (kinds, fields) = (header(sheet, 0).min(40), header(sheet, 6));
-    let reached = read(sheet).map_or(kinds, |card| reached_kinds(&card).len());
+    let card = read(sheet).ok();
+    let reached = card.as_ref().map_or(kinds, |card| reached_kinds(card).len());
     let mut calls = vec![Call::Settle { entries: around(kinds * kinds, random) }];
     for _ in 0..2 {
         let (kinds, kind) =
@@ -304,6 +316,13 @@ pub fn calls(sheets: &[Vec<u8>], random: &mut Random) -> Vec<Call> {
         calls.push(Call::Compare { sense: Sense::Finer, first, second });
     }
     calls.push(prime_form_near(Sense::Finer, kinds, fields, random));
+    for _ in 0..2 {
+        let (field, size) = match &card {
+            Some(card) => frequencies_near(card, reached, random),
+            None => (number_near(fields, random), listed_size_near(reached, random)),
+        };
+        calls.push(Call::Frequencies { field, size, entries: around(kinds + 2, random) });
+    }
     calls
 }
 
@@ -359,6 +378,42 @@ fn shelf_number_near(kinds: usize, size: usize, random: &mut Random) -> u64 {
         3..=5 => entry.saturating_sub(1 + random.below(3) as u64),
         _ => random.below(entry.max(1) as usize) as u64,
     }
+}
+
+/// So many fields of a size are few.
+const FEW_FIELDS: u64 = 600;
+
+/// The greatest size of which there are at most so many fields of some kinds.
+fn greatest_size(kinds: usize, most: u64) -> usize {
+    let entries = Entries::new(kinds.min(MOST_KINDS), MOST_TOKENS);
+    let sizes = (0..=MOST_TOKENS).filter(|&tokens| entries.of(kinds.min(MOST_KINDS), tokens) <= most);
+    sizes.max().expect("there is one field of no tokens") as usize
+}
+
+/// A size of which Frequencies lists the fields of so many kinds, in most cases one of which there are few; else the
+/// greatest of which it lists them, or one token more, or any, which may be over what is listed or over what is numbered.
+fn listed_size_near(kinds: usize, random: &mut Random) -> usize {
+    match random.below(64) {
+        0 => greatest_size(kinds, MOST_LISTED),
+        1..=4 => greatest_size(kinds, MOST_LISTED) + 1,
+        5..=8 => number_near(MOST_TOKENS as usize + 1, random),
+        _ => random.below(greatest_size(kinds, FEW_FIELDS) + 1),
+    }
+}
+
+/// A field of a card that reaches so many kinds, and a size for Frequencies. In half of the cases it is a field of a size
+/// of which there are few, at times of any that is listed, where there is one, and this size or one token more or less, so
+/// that some of those that are listed have its norm.
+pub fn frequencies_near(card: &Card, reached: usize, random: &mut Random) -> (usize, usize) {
+    let greatest = greatest_size(reached, if random.once_in(16) { MOST_LISTED } else { FEW_FIELDS });
+    let size_of = |field: usize| tokens_of(&card.field(field)) as usize;
+    let small: Vec<usize> = (0..card.fields).filter(|&field| size_of(field) <= greatest).collect();
+    if small.is_empty() || random.once_in(2) {
+        return (number_near(card.fields, random), listed_size_near(reached, random));
+    }
+    let field = random.choose(&small);
+    let size = size_of(field);
+    (field, random.choose(&[size, size, size + 1, size.saturating_sub(1)]))
 }
 
 /// A length: in most cases one that is long enough, by nothing or a little; else one too short.
@@ -459,8 +514,8 @@ pub fn compare_implementations(
     comparison
 }
 
-/// The name of a call's entry and of its answer, for a day those of each walk; of Shelf number and Shelf field
-/// the size is the answer, of Squads how often, from 2 on by its bits.
+/// The name of a call's entry and of its answer, for a day those of each walk; of Shelf number, Shelf field and
+/// Frequencies the size is the answer, of Squads how often, from 2 on by its bits.
 fn names(call: &Call, answer: &Answer) -> Vec<String> {
     let entry = match call {
         Call::Settle { .. } => "settle",
@@ -476,6 +531,7 @@ fn names(call: &Call, answer: &Answer) -> Vec<String> {
         Call::ShelfNumber { .. } => "shelf number",
         Call::ShelfField { .. } => "shelf field",
         Call::Squads { .. } => "squads",
+        Call::Frequencies { .. } => "frequencies",
     };
     let answer = match (answer, call) {
         (Answer::Day(made), _) => {
@@ -487,7 +543,8 @@ fn names(call: &Call, answer: &Answer) -> Vec<String> {
         (Answer::Verdict(Verdict::Same), _) => "same".to_string(),
         (Answer::Verdict(Verdict::Different { stage, .. }), _) => format!("different {stage}"),
         (Answer::ShelfNumber(ShelfNumber { size, .. }), _) => format!("size {size}"),
-        (Answer::FieldWritten, Call::ShelfField { size, .. }) => format!("size {size}"),
+        (Answer::FieldWritten, Call::ShelfField { size, .. })
+        | (Answer::FrequenciesWritten, Call::Frequencies { size, .. }) => format!("size {size}"),
         (Answer::Squads { count: count @ 0..=1 }, _) => format!("{count}"),
         (Answer::Squads { count }, _) if count >> 16 == 0 => "of 16 bits".to_string(),
         (Answer::Squads { count }, _) if count >> 32 == 0 => "of 32 bits".to_string(),
@@ -498,7 +555,8 @@ fn names(call: &Call, answer: &Answer) -> Vec<String> {
             | Answer::FormWritten
             | Answer::PageWritten { .. }
             | Answer::Numbers(_)
-            | Answer::FieldWritten,
+            | Answer::FieldWritten
+            | Answer::FrequenciesWritten,
             _,
         ) => "done".to_string(),
     };

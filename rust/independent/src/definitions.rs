@@ -1,7 +1,7 @@
-//! The reached kinds, norms, stages, rows, primes, the settled stage, squads, the round game, bisimilar fields, the walk
-//! and the list of the fields of a size straight from their definitions, by search, in the plain and the finer sense where
-//! there are two. Only for small cards: nothing here is meant to be fast, and nothing here uses `reached`, `base`, `filer`,
-//! `walker`, `shelf` or `squads`.
+//! The reached kinds, norms, stages, rows, primes, the settled stage, squads, how common each answer is, the round game,
+//! bisimilar fields, the walk and the list of the fields of a size straight from their definitions, by search, in the plain
+//! and the finer sense where there are two. Only for small cards: nothing here is meant to be fast, and nothing here uses
+//! `reached`, `base`, `filer`, `walker`, `shelf`, `squads` or `frequencies`.
 
 use std::cmp::Ordering;
 use std::collections::{BTreeSet, HashMap};
@@ -285,6 +285,20 @@ impl<'a> Definitions<'a> {
             }
         }
         unreachable!("no squads, and the whole itself as the remainder")
+    }
+
+    /// "How many of the fields of t tokens are the same as it and how many part from it at each stage from 0 to n": the
+    /// verdict on each of them, one after another.
+    pub fn frequencies(&mut self, settled: u32, field: &Field, tokens: u64) -> Result<Vec<u32>, TooLarge> {
+        let mut counts = vec![0; self.card.kinds + 2];
+        for listed in shelf_of(self.card, tokens) {
+            let place = match self.verdict(settled, field, &listed)? {
+                Verdict::Same => 0,
+                Verdict::Different { stage, .. } => 1 + stage as usize,
+            };
+            counts[place] += 1;
+        }
+        Ok(counts)
     }
 
     /// "A pair holds at 0 rounds. It holds at r + 1 rounds just when every challenge has a reply that

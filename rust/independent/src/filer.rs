@@ -90,6 +90,25 @@ pub fn different(normed: &NormedCard, pair: &[Vec<u64>; 2], stage: u32) -> Verdi
     Verdict::Different { stage, rounds: norm + 1 + later_stages * (normed.gain() + 1) }
 }
 
+/// The bases of the stages from 1 to the settled one, in the plain sense.
+pub fn bases(normed: &NormedCard) -> Vec<Base> {
+    let mut refinement = Refinement::first(normed, Sense::Plain);
+    let mut bases = vec![refinement.base().clone()];
+    while !refinement.is_settled() {
+        refinement.refine();
+        bases.push(refinement.base().clone());
+    }
+    bases
+}
+
+/// The least stage that does not relate two fields, from the bases of all stages; none where they are the same.
+pub fn parting_stage(normed: &NormedCard, bases: &[Base], pair: &[Vec<u64>; 2]) -> Option<u32> {
+    if !related_at_start(normed, Sense::Plain, pair) {
+        return Some(0);
+    }
+    bases.iter().position(|base| !related(base, pair)).map(|index| index as u32 + 1)
+}
+
 /// Prime form: "n counts of 64 bits to a lent buffer", in a sense.
 pub fn prime_form(sense: Sense, sheet: &[u8], field: usize, counts: &mut [u64]) -> Result<(), Refusal> {
     let normed = accept(sheet)?;

@@ -214,6 +214,25 @@ pub fn measured(family: Family, kinds: usize, lines: usize, seed: u64) -> Vec<u8
     draft.bytes()
 }
 
+/// A sheet of 32 kinds with two fields, for measuring: those of a sheet of a family that has fewer kinds, at even distances
+/// among the 32. No field and no line has any other kind, so that the others are out.
+pub fn measured_among(family: Family, kinds: usize, lines: usize, seed: u64) -> Vec<u8> {
+    let few = measured(family, kinds, lines, seed);
+    let card = read(&few).expect("a well-formed sheet");
+    let number = |kind: usize| MOST_KINDS / kinds * kind;
+    let mut draft = Draft::new(MOST_KINDS, card.codes);
+    for line in &card.lines {
+        let left: Vec<(usize, u8)> = line.left.iter().zip(0..).map(|(&count, kind)| (number(kind), count)).collect();
+        draft.add_line(number(line.kind), line.code, &left);
+    }
+    for field in 0..card.fields {
+        let mut counts = vec![0; MOST_KINDS];
+        card.field(field).iter().enumerate().for_each(|(kind, &count)| counts[number(kind)] = count as u16);
+        draft.fields.push(counts);
+    }
+    draft.bytes()
+}
+
 /// A sheet of 32 kinds with two fields, for measuring what kinds that are out cost: eight random cards of 4 kinds and so
 /// many lines each, up to 32, that lie side by side. A card has every eighth kind, and lines that leave these alone; the
 /// fields hold each kind of the fourth card, and no other. The lines are in the order of their kinds.

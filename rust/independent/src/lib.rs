@@ -1,5 +1,5 @@
 //! Document 01 ("Race cards, fields and their prime forms", the paper that asks for Limbatue), as
-//! requests 1, 2 and 4 to 7 of document 02 change it, implemented a second time, from that document's definitions
+//! requests 1, 2 and 4 to 8 of document 02 change it, implemented a second time, from that document's definitions
 //! and document 000 (Hirshfeld, Jerrum, Moller, 1996, the algorithm). It shares no code with the verified library. The tests hold the two against each other, and the measurements compare
 //! their times. Sentences in quotes are these documents' own.
 
@@ -9,6 +9,8 @@ pub mod asked;
 pub mod base;
 /// Calls as values, the buffers that they lend, and one call after another on two implementations.
 pub mod calls;
+/// What is promised of Frequencies, held against Shelf field and Compare.
+pub mod counting;
 /// What is promised of the desks of a session, over whole days.
 pub mod days;
 /// Stages, rows, primes and the round game straight from their definitions, for small cards.
@@ -17,6 +19,8 @@ pub mod definitions;
 pub mod filer;
 /// What is promised of the finer Compare and Prime form, held against the plain ones and the totals.
 pub mod finer;
+/// Frequencies.
+pub mod frequencies;
 /// Sheets from a seed: valid and damaged, small and at the limits.
 pub mod generator;
 /// What is promised of squads, held against Compare and Prime form.

@@ -2,10 +2,9 @@
 
 use std::fmt::Write;
 
-use crate::base::{Base, Refinement};
-use crate::filer::{Verdict, different, related, related_at_start};
+use crate::base::Base;
+use crate::filer::{Verdict, bases, different, parting_stage};
 use crate::norm::{NormedCard, accept};
-use crate::sense::Sense;
 use crate::sheet::{MOST_BYTES, Refusal, refused};
 
 /// "The filing program reads standard input, at most 12,821 bytes": one past the largest sheet.
@@ -67,26 +66,9 @@ fn push_kind(page: &mut String, kind: usize, normed: &NormedCard, settled: &Base
     }
 }
 
-/// The bases of the stages from 1 to the settled one.
-fn bases(normed: &NormedCard) -> Vec<Base> {
-    let mut refinement = Refinement::first(normed, Sense::Plain);
-    let mut bases = vec![refinement.base().clone()];
-    while !refinement.is_settled() {
-        refinement.refine();
-        bases.push(refinement.base().clone());
-    }
-    bases
-}
-
 /// The verdict on two fields from the bases of all stages.
 fn verdict(normed: &NormedCard, bases: &[Base], pair: &[Vec<u64>; 2]) -> Verdict {
-    if !related_at_start(normed, Sense::Plain, pair) {
-        return different(normed, pair, 0);
-    }
-    match bases.iter().position(|base| !related(base, pair)) {
-        Some(index) => different(normed, pair, index as u32 + 1),
-        None => Verdict::Same,
-    }
+    parting_stage(normed, bases, pair).map_or(Verdict::Same, |stage| different(normed, pair, stage))
 }
 
 /// Adds text to a page.

@@ -75,13 +75,14 @@ pub fn bytes_of(card: &Card, kinds: &[usize], of_lines: &[usize]) -> Vec<u8> {
     draft.bytes()
 }
 
-/// A call with as much room as a sheet of so many kinds needs; none for one that has no counts of kinds to answer.
+/// A call with as much room as a sheet of so many kinds needs; none for one that has no counts to answer.
 fn with_room(call: &Call, kinds: usize) -> Option<Call> {
     match *call {
         Call::Settle { .. } => Some(Call::Settle { entries: kinds * kinds }),
         Call::PrimeForm { sense, field, .. } => Some(Call::PrimeForm { sense, field, entries: kinds }),
         Call::ShelfField { size, number, .. } => Some(Call::ShelfField { size, number, entries: kinds }),
         Call::Squads { whole, squad, .. } => Some(Call::Squads { whole, squad, entries: kinds }),
+        Call::Frequencies { field, size, .. } => Some(Call::Frequencies { field, size, entries: kinds + 2 }),
         Call::Compare { .. } | Call::ShelfNumber { .. } => Some(call.clone()),
         Call::Page { .. } | Call::Numbers | Call::RowCheck { .. } | Call::Row { .. } | Call::Day(_) => None,
     }
@@ -93,6 +94,8 @@ struct Found {
     answer: Answer,
     /// The rows of Settle, else the counts of the form, of the remainder or of the field that was found.
     counts: Vec<Vec<u64>>,
+    /// The counts of Frequencies, which are of no kinds.
+    frequencies: Vec<u32>,
 }
 
 /// A part-used sheet, and who is asked.
@@ -146,15 +149,18 @@ impl Asked<'_> {
             Answer::FieldWritten => lent.field.lent().iter().map(|&count| count.into()).collect(),
             _ => Vec::new(),
         };
-        Found { answer, counts: written.chunks(kinds).map(<[u64]>::to_vec).collect() }
+        let frequencies =
+            if answer == Answer::FrequenciesWritten { lent.frequencies.lent().to_vec() } else { Vec::new() };
+        Found { answer, counts: written.chunks(kinds).map(<[u64]>::to_vec).collect(), frequencies }
     }
 
-    /// Makes a call on the sheet that has the reached kinds alone, and gives the kinds their numbers again.
+    /// Makes a call on the sheet that has the reached kinds alone, and gives the kinds their numbers again. No field
+    /// parts at a stage past the number of reached kinds.
     fn of_reached(&self, call: &Call) -> Found {
         let kinds = self.reached.len();
         let bytes = bytes_of(self.card, self.reached, self.reached);
         let call = with_room(call, kinds).expect("a call with room");
-        let Found { answer, counts } = self.found(&bytes, &call, kinds);
+        let Found { answer, counts, mut frequencies } = self.found(&bytes, &call, kinds);
         let answer = match answer {
             Answer::Refused(Refusal { number: number @ (9 | 10), place }) => {
                 Answer::Refused(Refusal { number, place: self.reached[place as usize] as u32 })
@@ -165,7 +171,10 @@ impl Asked<'_> {
         if let Answer::Settled { .. } = answer {
             rows = self.spread(&rows, vec![0; self.card.kinds]);
         }
-        Found { answer, counts: rows }
+        if answer == Answer::FrequenciesWritten {
+            frequencies.resize(self.card.kinds + 2, 0);
+        }
+        Found { answer, counts: rows, frequencies }
     }
 
     /// What the reached kinds have, in number order, and for any other kind something else.
@@ -184,22 +193,34 @@ impl Asked<'_> {
         let answer = match *call {
             Call::Compare { first, .. } | Call::Squads { whole: first, .. } if over(first) => refused(11, 0),
             Call::Compare { second, .. } | Call::Squads { squad: second, .. } if over(second) => refused(11, 1),
-            Call::PrimeForm { field, .. } | Call::ShelfNumber { field } if over(field) => refused(11, 0),
+            Call::PrimeForm { field, .. } | Call::ShelfNumber { field } | Call::Frequencies { field, .. }
+                if over(field) =>
+            {
+                refused(11, 0)
+            }
             Call::Settle { .. } => Answer::Settled { stage: 1 },
             Call::Compare { .. } => Answer::Verdict(Verdict::Same),
             Call::PrimeForm { .. } => Answer::FormWritten,
             Call::ShelfNumber { .. } => Answer::ShelfNumber(ShelfNumber { size: 0, number: 0 }),
             Call::ShelfField { size: 0, number: 0, .. } => Answer::FieldWritten,
-            Call::ShelfField { size, .. } if size > MOST_TOKENS as usize => refused(14, 0),
+            Call::ShelfField { size, .. } | Call::Frequencies { size, .. } if size > MOST_TOKENS as usize => {
+                refused(14, 0)
+            }
             Call::ShelfField { .. } => refused(15, 0),
             Call::Squads { .. } => refused(17, 1),
-            _ => panic!("{call:?} has no counts of kinds to answer"),
+            Call::Frequencies { .. } => Answer::FrequenciesWritten,
+            _ => panic!("{call:?} has no counts to answer"),
         };
         let rows = match answer {
             Answer::Settled { .. } => self.card.kinds,
             Answer::FormWritten | Answer::FieldWritten => 1,
             _ => 0,
         };
-        Found { answer, counts: vec![vec![0; self.card.kinds]; rows] }
+        let mut frequencies = Vec::new();
+        if let (Answer::FrequenciesWritten, Call::Frequencies { size, .. }) = (&answer, call) {
+            frequencies.resize(self.card.kinds + 2, 0);
+            frequencies[0] = u32::from(*size == 0);
+        }
+        Found { answer, counts: vec![vec![0; self.card.kinds]; rows], frequencies }
     }
 }

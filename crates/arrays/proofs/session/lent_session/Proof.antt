@@ -5,7 +5,7 @@ use native.Mathlib.Omega.{arith}
 use lib.ListN.{length, take}
 use lib.Seq.{length-take-le}
 use Rattle.arrays.specs.Session.{desks}
-use Rattle.arrays.proofs.Sessions.{written-whole}
+use Rattle.theory.proofs.Writing.{written-whole}
 use Rattle.arrays.proofs.session.lent_session.Statement.{statement}
 use Rattle.arrays.proofs.session.lent_session.Tie as tie
 

@@ -69,6 +69,12 @@ finer-field-form-requires c κs = search needs
 enum-told-11 : tie.Need-enum-told-11
 enum-told-11 c = search needs
 
+common-answers-requires : tie.Need-common-answers-requires
+common-answers-requires c κs = search needs
+
+enum-told-12 : tie.Need-enum-told-12
+enum-told-12 c = search needs
+
 no-call-requires : tie.Need-no-call-requires
 no-call-requires c κs = search needs
 
@@ -172,11 +178,21 @@ returns-10 c =
     let enum-told10 = c .before .before .before .before .enum-told10 in
     told-as _ (c .before .before .finer-field-form .ensures) (ap (λ v. verbTold (start .args .sheet .now) v (start .args .numbers .now)) (sym (enum-told10 .given .1)))
 
+same-length-11 : tie.Need-same-length-11
+same-length-11 c = search needs
+
 returns-11 : tie.Need-returns-11
 unfolding verbTold
 returns-11 c =
+    let start = c .before .before .before .before .before .before .before .before .before in
+    let enum-told11 = c .before .before .before .before .enum-told11 in
+    told-as _ (c .before .before .common-answers .ensures) (ap (λ v. verbTold (start .args .sheet .now) v (start .args .numbers .now)) (sym (enum-told11 .given .1)))
+
+returns-12 : tie.Need-returns-12
+unfolding verbTold
+returns-12 c =
     let start = c .before .before .before .before .before .before in
-    told-as _ (tells-nothing (start .args .out .now) (c .no-call .result) (c .no-call .ensures)) (ap (λ v. verbTold (start .args .sheet .now) v (start .args .numbers .now)) (sym (c .before .enum-told11 .given .1)))
+    told-as _ (tells-nothing (start .args .out .now) (c .no-call .result) (c .no-call .ensures)) (ap (λ v. verbTold (start .args .sheet .now) v (start .args .numbers .now)) (sym (c .before .enum-told12 .given .1)))
 
 pub call-spec : {M : Type 1} → statement M
 call-spec =
@@ -203,6 +219,8 @@ call-spec =
     enum-told-10
     finer-field-form-requires
     enum-told-11
+    common-answers-requires
+    enum-told-12
     no-call-requires
     same-length
     returns
@@ -224,4 +242,6 @@ call-spec =
     returns-9
     same-length-10
     returns-10
-    returns-11)
+    same-length-11
+    returns-11
+    returns-12)

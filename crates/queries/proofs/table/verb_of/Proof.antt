@@ -69,6 +69,12 @@ not-finer-form c =
     let start = c .before .before .before .before .before .before .before .before .before .before .before .before .before .before .before .before .before .before .before .before .before .before .before .before .before .before .before .before .before .before .before in
     verb-later _ _ (start .args .word .now) (sym (c .before .same-word10 .ensures) ∙ c .if10 .left) ∙ not-finer (c .before .before .before)
 
+not-common : (c : tie.Else11) → let start = c .before .before .before .before .before .before .before .before .before .before .before .before .before .before .before .before .before .before .before .before .before .before .before .before .before .before .before .before .before .before .before .before .before .before in verbIn (drop 11 verbs) (start .args .word .now) ≡ verbOf (start .args .word .now)
+unfolding verbs verbOf bytes
+not-common c =
+    let start = c .before .before .before .before .before .before .before .before .before .before .before .before .before .before .before .before .before .before .before .before .before .before .before .before .before .before .before .before .before .before .before .before .before .before in
+    verb-later _ _ (start .args .word .now) (sym (c .before .same-word11 .ensures) ∙ c .if11 .left) ∙ not-finer-form (c .before .before .before)
+
 slice-aggregate-same-word : tie.Need-slice-aggregate-same-word
 slice-aggregate-same-word c = search needs
 
@@ -189,11 +195,23 @@ returns-10 c =
     let start = c .before .before .before .before .before .before .before .before .before .before .before .before .before .before .before .before .before .before .before .before .before .before .before .before .before .before .before .before .before .before .before in
     verb-first _ _ (start .args .word .now) (sym (c .before .same-word10 .ensures) ∙ c .if10 .taken) ∙ not-finer (c .before .before .before)
 
+slice-aggregate-same-word-11 : tie.Need-slice-aggregate-same-word-11
+slice-aggregate-same-word-11 c = search needs
+
+same-word-requires-11 : tie.Need-same-word-requires-11
+same-word-requires-11 c κs = search needs
+
 returns-11 : tie.Need-returns-11
-unfolding verbs verbOf
+unfolding verbs verbOf bytes
 returns-11 c =
-    let start = c .before .before .before .before .before .before .before .before .before .before .before .before .before .before .before .before .before .before .before .before .before .before .before .before .before .before .before .before .before .before .before in
-    verb-none (start .args .word .now) ∙ not-finer-form c
+    let start = c .before .before .before .before .before .before .before .before .before .before .before .before .before .before .before .before .before .before .before .before .before .before .before .before .before .before .before .before .before .before .before .before .before .before in
+    verb-first _ _ (start .args .word .now) (sym (c .before .same-word11 .ensures) ∙ c .if11 .taken) ∙ not-finer-form (c .before .before .before)
+
+returns-12 : tie.Need-returns-12
+unfolding verbs verbOf
+returns-12 c =
+    let start = c .before .before .before .before .before .before .before .before .before .before .before .before .before .before .before .before .before .before .before .before .before .before .before .before .before .before .before .before .before .before .before .before .before .before in
+    verb-none (start .args .word .now) ∙ not-common c
 
 pub verb-of-spec : {M : Type 1} → statement M
 verb-of-spec =
@@ -229,4 +247,7 @@ verb-of-spec =
     slice-aggregate-same-word-10
     same-word-requires-10
     returns-10
-    returns-11)
+    slice-aggregate-same-word-11
+    same-word-requires-11
+    returns-11
+    returns-12)

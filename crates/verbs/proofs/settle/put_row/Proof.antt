@@ -21,7 +21,7 @@ row-requires : tie.Need-row-requires
 row-requires c κs = search needs
 
 widen-u32-requires : tie.Need-widen-u32-requires
-widen-u32-requires c κs = few c
+widen-u32-requires c κs = omega (arith, few c)
 
 array-share-prefix-counts : tie.Need-array-share-prefix-counts
 array-share-prefix-counts c = let short = few (c .before .before) in search needs

@@ -5,9 +5,9 @@ use mathlib.Core.Path.{_∙_, sym}
 use native.Mathlib.Omega.{arith}
 use lib.ListN.{length}
 use Rattle.model.specs.Field.{at}
 use Rattle.tables.proofs.Tables.{Agree, agree-none, agree-more, agree-all, tells-same, differ, past}
-use Rattle.stages.proofs.parting.same_counts.Statement.{statement}
-use Rattle.stages.proofs.parting.same_counts.Tie as tie
+use Rattle.tables.proofs.table.same_counts.Statement.{statement}
+use Rattle.tables.proofs.table.same_counts.Tie as tie
 
 abbrev Inv-loop : tie.InvT-loop
 Inv-loop a b i₀ i = (i ≤ length a) × Agree (at a) (at b) i

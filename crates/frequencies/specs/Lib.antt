@@ -1,0 +1,4 @@
+-- What the contracts cite, and what the answers mean.
+pub mod Answers
+pub mod Related
+pub mod Promises
