@@ -9,12 +9,12 @@ use lib.ListN.{length, set, replicate, getD-replicate}
 use lib.Seq.{getD-set-same, getD-set-other}
 use Rattle.model.specs.Sense.{plain}
 use Rattle.model.specs.Finite.{keep, below, listFrom}
-use Rattle.model.specs.Field.{Field, times, unit, at, weigh}
+use Rattle.model.specs.Field.{Field, times, unit, at, weigh, agree}
 use Rattle.model.specs.Card.{Reached, reachedKinds, reachedCount}
 use Rattle.model.specs.Norm.{norm}
 use Rattle.model.specs.Limits.{mostKinds}
 use Rattle.model.specs.Base.{stageRowIn, stageFormIn, settledStage}
-use Rattle.model.specs.Shelf.{entry, listed, agree, shelf}
+use Rattle.model.specs.Shelf.{entry, listed, shelf}
 use Rattle.model.specs.Sheet.{kindCount, cardOf, fieldOf}
 use Rattle.model.specs.Refusal.{Accepted}
 use Rattle.model.specs.Answer.{judgedAt, frequencies}
