@@ -13,7 +13,7 @@ use Rattle.model.specs.Norm.{Clears, IsNorm, cardNorm, kindNorm, norm}
 use Rattle.theory.specs.Expansion.{Bisimulation, StepBisimulation}
 use Rattle.theory.specs.Stages.{Lowers, StagesIn}
 use Rattle.model.specs.Sense.{Sense}
-use Rattle.model.specs.Base.{stageRowIn, settledStageIn, settledRow, settledRowIn, settledFormIn, gain}
+use Rattle.model.specs.Base.{stageRowIn, stageSinceIn, settledStageIn, settledRow, settledRowIn, settledFormIn, sinceIn, gain}
 use Rattle.theory.specs.Game.{Challenge, sideOf, Holds, Strategy}
 use Rattle.theory.specs.FinerGame.{HoldsIn, PartedIn, AnsweredIn}
 use Rattle.model.specs.Walk.{apart, together}
@@ -82,6 +82,8 @@ pub record Parts (c : Card) : Type 0 where
   pub stage : (m : Sense) → settledStageIn m (part c) ≡ settledStageIn m c
   pub stage-rows : (m : Sense) (s : ℕ) → stageRowIn m (part c) s ≡ stageRowIn m c s
   pub rows : (m : Sense) → settledRowIn m (part c) ≡ settledRowIn m c
+  pub stage-sinces : (m : Sense) (s : ℕ) → stageSinceIn m (part c) s ≡ stageSinceIn m c s
+  pub sinces : (m : Sense) → sinceIn m (part c) ≡ sinceIn m c
   pub forms : (m : Sense) → settledFormIn m (part c) ≡ settledFormIn m c
   pub verdicts : (m : Sense) (a b : Field) → verdictIn m (part c) (kindNorm (part c)) a b ≡ verdictIn m c (kindNorm c) a b
 
