@@ -11,10 +11,10 @@ use Rattle.model.specs.Base.{stageRowIn, stageSinceIn}
 use Rattle.model.specs.Sheet.{kindCount, cardOf}
 use Rattle.tables.specs.Table.{rowIn}
 
--- Kind k is kept: where the two tables have another row for it, it is marked with this stage, and its row before is kept; else its mark and what was kept are as they were.
-pub record AsKept (before after : List ℕ) (stage k : ℕ) (since rows newSince newRows : List ℕ) : Type 0 where
-  pub marked : ¬ (rowIn before k ≡ rowIn after k) → (at newSince k ≡ stage) × (rowIn newRows k ≡ rowIn before k)
-  pub left : rowIn before k ≡ rowIn after k → (at newSince k ≡ at since k) × (rowIn newRows k ≡ rowIn rows k)
+-- Kind k is kept: where the two tables have another row for it, it is marked with this stage, and its row before is kept; where they have the same, its mark and what was kept are as they were.
+pub data AsKept (before after : List ℕ) (stage k : ℕ) (since rows newSince newRows : List ℕ) : Type 0 where
+  marked : ¬ (rowIn before k ≡ rowIn after k) → at newSince k ≡ stage → rowIn newRows k ≡ rowIn before k → AsKept before after stage k since rows newSince newRows
+  left : rowIn before k ≡ rowIn after k → at newSince k ≡ at since k → rowIn newRows k ≡ rowIn rows k → AsKept before after stage k since rows newSince newRows
 
 -- Kind k is kept, and the marks and rows of all others are as they were.
 pub record KindKept (before after : List ℕ) (stage k : ℕ) (since rows newSince newRows : List ℕ) : Type 0 where
