@@ -34,7 +34,7 @@ pub past : {A : Type 0} (x : Answer A) (xs buffer : List ℕ) (f : Finding) (e :
 past x xs buffer clear e h = plain .written-to xs buffer .past e h
 past x xs buffer (refusal k p) e h = refl
 
--- The same of the table and the marks that a call leaves.
+-- A call over a lent table and lent marks, by what its checks find: the lengths that it leaves, and what stands past what it writes.
 module _ {A : Type 0} (x : Answer A) (xs table ys marks : List ℕ) where
   abbrev Marked : Finding → LentMarks A
   Marked f =

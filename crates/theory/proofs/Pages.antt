@@ -1,4 +1,4 @@
--- The page: what lies past the bytes that are read changes nothing; the rows and the word prime that it shows.
+-- The page: what lies past the bytes that are read changes nothing; the lines of the kinds, and the rows and the word prime that they show.
 use mathlib.Core.Bool.{Bool, true, false, not}
 use mathlib.Core.List.{List, [], _∷_, _++_}
 use mathlib.Core.Logic.{_↔_, _⊎_, inl, inr}
@@ -201,11 +201,7 @@ module _ (s : List ℕ) where
   line-is k = refl
 
   out-line : (k : ℕ) → ¬ Reached (cardOf s) k → kindLine s (tableOf s) (kindNorm (cardOf s)) k ≡ bytes "kind " ++ number k ++ bytes " out" ++ newline
-  out-line k n = line-is k ∙ go (reached (cardOf s) k) (sheet-reaches s .test-iff k .0)
-    where
-      go : (b : Bool) → (T b → Reached (cardOf s) k) → Words b k ≡ bytes "kind " ++ number k ++ bytes " out" ++ newline
-      go true f = absurd (n (f tt))
-      go false f = refl
+  out-line k n = line-is k ∙ ap (λ (b : Bool). Words b k) (is-false (reached (cardOf s) k) (λ t. n (sheet-reaches s .test-iff k .0 t)))
 
   -- Of a reached kind, by whether its row is shown as the kind itself.
   module _ (k : ℕ) (v : Reached (cardOf s) k) where

@@ -1,10 +1,10 @@
--- The marks of the base (request 9 of document 02): where two stages have the same row of a kind, so have all between them, so that the mark of a kind follows from the rows of one stage and the next.
-use mathlib.Core.Bool.{Bool, true, false}
+-- The marks of the base (request 9 of document 02). Where two stages have the same row of a kind, so have all between them; so the marks at a stage follow from those at the stage before and from which rows change.
+use mathlib.Core.Bool.{Bool}
 use mathlib.Core.List.{List, List·Memᴰ}
 use mathlib.Core.Logic.{_↔_, _⊎_, inl, inr}
 use mathlib.Core.Path.{_≡_, refl, sym, _∙_, ap, fun-ext}
-use Prim.Native.Nat.{ℕ, zero, suc, _+_, _-_, _≤_, _<_}
-use native.Mathlib.Decide.{decLt}
+use Prim.Native.Nat.{ℕ, zero, suc, _+_, _≤_, _<_}
+use native.Mathlib.Decide.{decLt, ℕ-discrete}
 use native.Mathlib.Omega.{arith}
 use lib.Dec.{T}
 use Rattle.model.specs.Finite.{below, leastFrom}
@@ -58,7 +58,7 @@ module _ (m : Sense) (c : Card) (F : Found c (kindNorm c)) where
   abbrev w : ℕ → ℕ
   w = kindNorm c
 
-  -- The row at stage q + 1, and its mark there.
+  -- The row of kind k at stage q + 1, and its mark there.
   abbrev rows : ℕ → ℕ → Field
   rows q k = stageRowIn m c (suc q) k
 
@@ -69,8 +69,8 @@ module _ (m : Sense) (c : Card) (F : Found c (kindNorm c)) where
   unfolding Stage
   level-less q u a b h p = stage-down (N m c F) (suc u) (suc q) a b (omega arith) p
 
-  -- The row of a stage is kept at the next just when the next still relates it to the kind.
-  pub kept-next : (q k : ℕ) → Reached c k → level (N m c F) (suc q) (unit k) (rows q k) → rows (suc q) k ≡ rows q k
+  -- The row of a stage is kept at the next where the next still relates it to the kind.
+  kept-next : (q k : ℕ) → Reached c k → level (N m c F) (suc q) (unit k) (rows q k) → rows (suc q) k ≡ rows q k
   kept-next q k v p =
       let h = under c w F k v in
       row-of m c F (suc q) k v
@@ -79,13 +79,13 @@ module _ (m : Sense) (c : Card) (F : Found c (kindNorm c)) where
       (level-base (N m c F) (fin m c F) q) (level-base (N m c F) (fin m c F) (suc q)) k h (F .positive k v) (past-whole (N m c F) (fin m c F) k h) (rw (row-of m c F q k v) at p)
       ∙ sym (row-of m c F q k v)
 
-  pub row-related : (q k : ℕ) → Reached c k → level (N m c F) q (unit k) (rows q k)
+  row-related : (q k : ℕ) → Reached c k → level (N m c F) q (unit k) (rows q k)
   row-related q k v =
       let h = under c w F k v in
       rw (row-of m c F q k v) (level-base (N m c F) (fin m c F) q .rel k h (F .positive k v) (past-whole (N m c F) (fin m c F) k h))
 
   -- The row of a reached kind has the kind's norm: it is not zeros.
-  pub row-some : (u k : ℕ) → Reached c k → ¬ (rows u k ≡ none)
+  pub row-some : (u k : ℕ) → Reached c k → ¬ (stageRowIn m c (suc u) k ≡ none)
   row-some u k v e =
       let h = under c w F k v in
       omega (
@@ -96,29 +96,23 @@ module _ (m : Sense) (c : Card) (F : Found c (kindNorm c)) where
         weigh-none (c .kinds) w,
       )
 
-  -- Where two stages have the same row, so have all between them.
-  between : (k : ℕ) → Reached c k → (p u : ℕ) → rows p k ≡ rows u k → (d : ℕ) → p + d ≤ u → rows (p + d) k ≡ rows u k
-  between k v p u e zero i = let z : p + 0 ≡ p = omega arith in rw z e
-  between k v p u e (suc d) i =
-      let z : p + suc d ≡ suc (p + d) = omega arith in
-      let r = between k v p u e d (omega arith) in
-      rw z (kept-next (p + d) k v (rw r (level-less (suc (p + d)) u (unit k) (rows u k) (omega arith) (row-related u k v))) ∙ r)
+  -- A row stays the same while each next stage still relates it to the kind.
+  row-along : (k : ℕ) → Reached c k → (p : ℕ) (x : Field) → rows p k ≡ x → (q : ℕ) → p ≤ q → ((i : ℕ) → i < q → level (N m c F) (suc i) (unit k) x) → rows q k ≡ x
+  row-along k v p x e zero h f = let z : p ≡ 0 = omega arith in rw z at e
+  row-along k v p x e (suc q) h f = go (ℕ-discrete p (suc q)) (row-along k v p x e q)
+    where
+      go : Dec (p ≡ suc q) → (p ≤ q → ((i : ℕ) → i < q → level (N m c F) (suc i) (unit k) x) → rows q k ≡ x) → rows (suc q) k ≡ x
+      go (yes z) along = rw z at e
+      go (no n) along = let r = along (omega arith) (λ i l. f i (omega arith)) in kept-next q k v (rw r (f q (omega arith))) ∙ r
 
-  pub row-between : (k : ℕ) → Reached c k → (p u : ℕ) → rows p k ≡ rows u k → (q : ℕ) → p ≤ q → q ≤ u → rows q k ≡ rows u k
-  row-between k v p u e q h i = let z : p + (q - p) ≡ q = omega arith in rw z at (between k v p u e (q - p) (omega arith))
+  -- So where two stages have the same row, so have all between them; and where the second is settled, all later ones.
+  pub row-between : (k : ℕ) → Reached c k → (p u : ℕ) → stageRowIn m c (suc p) k ≡ stageRowIn m c (suc u) k → (q : ℕ) → p ≤ q → q ≤ u → stageRowIn m c (suc q) k ≡ stageRowIn m c (suc u) k
+  row-between k v p u e q h i = row-along k v p (rows u k) e q h (λ j l. level-less (suc j) u (unit k) (rows u k) (omega arith) (row-related u k v))
 
-  -- And from a settled stage on, at every stage.
-  forever : (u : ℕ) → Settled (N m c F) (suc u) → (k : ℕ) → Reached c k → (p : ℕ) → rows p k ≡ rows u k → (d : ℕ) → rows (p + d) k ≡ rows u k
+  row-after : (k : ℕ) → Reached c k → (p u : ℕ) → rows p k ≡ rows u k → Settled (N m c F) (suc u) → (q : ℕ) → p ≤ q → rows q k ≡ rows u k
   unfolding Stage
-  forever u S k v p e zero = let z : p + 0 ≡ p = omega arith in rw z e
-  forever u S k v p e (suc d) =
-      let z : p + suc d ≡ suc (p + d) = omega arith in
-      let r = forever u S k v p e d in
-      rw z (kept-next (p + d) k v (rw r (settled-stays (N m c F) (suc u) S (suc (suc (p + d))) (unit k) (rows u k)
-      (λ j i. rw (unit-some k j i) (live c w F k v)) (tidy m c w F (rows u k) (row-kinds m c F u k v)) (row-related u k v))) ∙ r)
-
-  row-forever : (u : ℕ) → Settled (N m c F) (suc u) → (k : ℕ) → Reached c k → (p : ℕ) → rows p k ≡ rows u k → (q : ℕ) → p ≤ q → rows q k ≡ rows u k
-  row-forever u S k v p e q h = let z : p + (q - p) ≡ q = omega arith in rw z at (forever u S k v p e (q - p))
+  row-after k v p u e S q h = row-along k v p (rows u k) e q h (λ j _.
+      settled-stays (N m c F) (suc u) S (suc (suc j)) (unit k) (rows u k) (λ l i. rw (unit-some k l i) (live c w F k v)) (tidy m c w F (rows u k) (row-kinds m c F u k v)) (row-related u k v))
 
   -- Rows are equal where they agree on the card's kinds.
   tells-row : (k : ℕ) → Reached c k → (q u : ℕ) → Tells (agree (below (c .kinds)) (rows q k) (rows u k)) (rows q k ≡ rows u k)
@@ -204,8 +198,9 @@ module _ (m : Sense) (c : Card) (F : Found c (kindNorm c)) where
               order (yes l) = absurd (n (sym (row-between k v p (suc u) (x .same) u (omega arith) (omega arith))))
               order (no l) = omega (arith, x .is, x .most)
 
+  -- From stage u + 1 to stage u + 2.
   module _ (u : ℕ) where
-    -- The row of a reached kind changes from stage u + 1 to stage u + 2.
+    -- The kind is reached and its row changes.
     abbrev Changes : ℕ → Type 0
     Changes k = Reached c k × (¬ (rows (suc u) k ≡ rows u k))
 
@@ -271,7 +266,7 @@ module _ (m : Sense) (s : List ℕ) (ok : Accepted s) where
 
   stays : (k : ℕ) → Reached c k → (q : ℕ) → sinceIn m c k ≤ q → stageRowIn m c q k ≡ settledRowIn m c k
   stays k v zero l = absurd (omega (arith, is k v))
-  stays k v (suc q) l = row-forever m c F u (rw (L m s ok .is) at (L m s ok .settled)) k v (found k v .0) (found k v .1 .same) q (omega (arith, is k v)) ∙ sym (final k)
+  stays k v (suc q) l = row-after m c F k v (found k v .0) u (found k v .1 .same) (rw (L m s ok .is) at (L m s ok .settled)) q (omega (arith, is k v)) ∙ sym (final k)
 
   first : (k : ℕ) → Reached c k → (q : ℕ) → 1 ≤ q → q < sinceIn m c k → ¬ (stageRowIn m c q k ≡ settledRowIn m c k)
   first k v zero l i e = omega arith
