@@ -5,10 +5,10 @@ use mathlib.Core.Path.{_≡_, refl}
 use Prim.Native.Nat.{ℕ}
 use native.Mathlib.Decide.{ℕ-discrete}
 use lib.ListN.{replicate}
-use Rattle.model.specs.Finite.{any, all, keep, pick, concat, listFrom, below, leastFrom}
+use Rattle.model.specs.Finite.{any, all, keep, pick, concat, listFrom, below, leastFrom, greatestTo}
 use Rattle.model.specs.Field.{bit, unit, weigh, agree}
 use Rattle.model.specs.Card.{reaches, reached, reachedKinds, reachedLines}
-use Rattle.model.specs.Norm.{ready, best, sweeps, cardNorm, kindNorm, gainOf}
+use Rattle.model.specs.Norm.{ready, best, sweeps, cardNorm, kindNorm}
 use Rattle.model.specs.Expansion.{simulates, expands}
 use Rattle.model.specs.Sense.{plain, finer}
 use Rattle.model.specs.Stage.{lowering, equalNorm, equalNormAndTotal, falling, refined, stageFrom, stageIn}
@@ -68,9 +68,13 @@ abbrev moving : List ℕ
 moving =
     sheetOf 3 2 ((0 ∷ 0 ∷ 0 ∷ 0 ∷ 1 ∷ []) ∷ (1 ∷ 0 ∷ 0 ∷ 0 ∷ 0 ∷ []) ∷ (1 ∷ 1 ∷ 0 ∷ 1 ∷ 0 ∷ []) ∷ (2 ∷ 0 ∷ 0 ∷ 0 ∷ 0 ∷ []) ∷ []) ((1 ∷ 1 ∷ 0 ∷ []) ∷ [])
 
--- 0 a -> none; 1 a -> 0; 1 b -> 1. At stage 1 kind 1 is two of kind 0, at stage 2 it is prime; in the finer sense it is prime at stage 1.
+-- 2 a -> none; 2 b -> 2; 3 a -> none. At stage 1 kind 3 is kind 2, at stage 2 it is prime; kinds 0 and 1 are out.
+abbrev behind : List ℕ
+behind = sheetOf 4 2 ((2 ∷ 0 ∷ 0 ∷ 0 ∷ 0 ∷ 0 ∷ []) ∷ (2 ∷ 1 ∷ 0 ∷ 0 ∷ 1 ∷ 0 ∷ []) ∷ (3 ∷ 0 ∷ 0 ∷ 0 ∷ 0 ∷ 0 ∷ []) ∷ []) ((0 ∷ 0 ∷ 1 ∷ 1 ∷ []) ∷ [])
+
+-- 0 a -> 1; 0 b -> 0; 1 a -> none. At stage 1 kind 0 is two of kind 1, at stage 2 it is prime; in the finer sense it is prime at stage 1.
 abbrev step : List ℕ
-step = sheetOf 2 2 ((0 ∷ 0 ∷ 0 ∷ 0 ∷ []) ∷ (1 ∷ 0 ∷ 1 ∷ 0 ∷ []) ∷ (1 ∷ 1 ∷ 0 ∷ 1 ∷ []) ∷ []) ((0 ∷ 1 ∷ []) ∷ [])
+step = sheetOf 2 2 ((0 ∷ 0 ∷ 0 ∷ 1 ∷ []) ∷ (0 ∷ 1 ∷ 1 ∷ 0 ∷ []) ∷ (1 ∷ 0 ∷ 0 ∷ 0 ∷ []) ∷ []) ((1 ∷ 0 ∷ []) ∷ [])
 
 -- 0 a -> none; 1 a -> 1; 1 a -> 0; 2 a -> 0. Kind 2 is two of kind 0 at both stages; at stage 1 kind 1 is too, at stage 2 it is prime. In the finer sense kind 1 is prime at both stages; at stage 1
 -- kind 2 is kind 1, at stage 2 it is prime.
@@ -96,20 +100,22 @@ nines n = replicate n 9
 
 abbrev pub examples : List Example
 examples =
-    -- rows that become final at different stages, kind 2's after a change at each
-    example chain (atStage 3) (marks (1 ∷ 2 ∷ 3 ∷ []))
+    -- rows that become final at different stages, kind 2's after a change at each; the marks of the stage before
+    example chain (atStage 3) (marks (1 ∷ 2 ∷ 3 ∷ [])) ∷ example chain (atStage 2) (marks (1 ∷ 2 ∷ 2 ∷ []))
     -- a row that is the same at stages 1 and 2, and final at stage 3; a kind that is never an atom, and whose row changes before the settled stage
     ∷ example waiting (atStage 3) (marks (1 ∷ 2 ∷ 3 ∷ 2 ∷ []))
     -- a row that changes in its counts of kinds of higher number alone
-    ∷ example moving (atStage 2) (marks (2 ∷ 1 ∷ 2 ∷ []))
+    ∷ example moving (atStage 2) (marks (2 ∷ 1 ∷ 2 ∷ [])) ∷ example moving (line 0) (prints (bytes "kind 0 norm 2 since 2 = 0 0 2\n"))
+    -- a row that changes in its counts of kinds 2 and 3 alone, where two kinds are reached
+    ∷ example behind (atStage 2) (marks (0 ∷ 0 ∷ 1 ∷ 2 ∷ []))
     -- the finer base, which settles at stage 2, where the plain one settles at stage 1
     ∷ example circling finerMarks (marks (1 ∷ 1 ∷ 2 ∷ []))
     -- "A kind that is out has no such mark"
     ∷ example between marksOnly (marks (1 ∷ 0 ∷ 2 ∷ [])) ∷ example between (line 1) (prints (bytes "kind 1 out\n"))
     -- a kind that is not prime, whose mark is below the settled stage
     ∷ example later (line 2) (prints (bytes "kind 2 norm 2 since 1 = 2 0 0\n"))
-    -- Settle with the marks: what stands past n × n counts, and past n marks, keeps its value and its place
-    ∷ marked step (nines 4) (nines 2) 2 (1 ∷ 0 ∷ 0 ∷ 1 ∷ []) (1 ∷ 2 ∷ [])
+    -- Settle with the marks: in kind number; what stands past n × n counts, and past n marks, keeps its value and its place
+    ∷ marked step (nines 4) (nines 2) 2 (1 ∷ 0 ∷ 0 ∷ 1 ∷ []) (2 ∷ 1 ∷ [])
     ∷ marked page (nines 4 ++ (7 ∷ 8 ∷ [])) (nines 2 ++ (5 ∷ 6 ∷ [])) 1 (1 ∷ 0 ∷ 2 ∷ 0 ∷ 7 ∷ 8 ∷ []) (1 ∷ 1 ∷ 5 ∷ 6 ∷ [])
     ∷ marked partUsed (nines 4) (nines 2) 1 (1 ∷ 0 ∷ 0 ∷ 0 ∷ []) (1 ∷ 0 ∷ [])
     -- no kind is reached: stage 1, a row of zeros, no mark
@@ -122,6 +128,7 @@ examples =
     ∷ unmarked [] [] [] 1 0 ∷ unmarked bare [] [] 9 0 ∷ unmarked bare (9 ∷ []) (9 ∷ []) 9 0
     ∷ []
 
+-- (`greatestTo` is not used: with it a wrong definition that answers the greatest mark computes too.)
 pub since-worked : map (λ x. run (x .sheet) (x .call)) examples ≡ map (λ x. x .outcome) examples
-unfolding any all keep pick concat listFrom below leastFrom bit unit ℕ-discrete weigh agree reaches reached reachedKinds reachedLines ready best sweeps cardNorm kindNorm simulates expands lowering equalNorm equalNormAndTotal falling refined stageFrom stageIn fieldsOfNorm earlier earlierThan atom row passes firstSettled sinceAt fieldsOffset totalOf counts lineOf cardOf fieldOf firstOf headerChecks lineChecks normChecks sheetChecks settleSinceChecks rowChecks bytes digits number newline countsOf wordsOf kindLine itself written tableOf marksOf settleSinceOf rowOf rowCheckOf
+unfolding any all keep pick concat listFrom below leastFrom greatestTo bit unit ℕ-discrete weigh agree reaches reached reachedKinds reachedLines ready best sweeps cardNorm kindNorm simulates expands lowering equalNorm equalNormAndTotal falling refined stageFrom stageIn fieldsOfNorm earlier earlierThan atom row passes firstSettled sinceAt fieldsOffset totalOf counts lineOf cardOf fieldOf firstOf headerChecks lineChecks normChecks sheetChecks settleSinceChecks rowChecks bytes digits number newline countsOf wordsOf kindLine itself written tableOf marksOf settleSinceOf rowOf rowCheckOf
 since-worked = refl
