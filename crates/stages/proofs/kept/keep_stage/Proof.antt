@@ -4,7 +4,6 @@ use mathlib.Core.Path.{_≡_, refl, _∙_}
 use Prim.Native.Nat.{_-_, _≤_}
 use lib.ListN.{length}
 use native.Mathlib.Omega.{arith}
-use Rattle.model.specs.Limits.{mostKinds}
 use Rattle.stages.specs.Kept.{KeptFrom}
 use Rattle.stages.proofs.Keeping.{kept-none, kept-more}
 use Rattle.stages.proofs.kept.keep_stage.Statement.{statement}
