@@ -25,20 +25,21 @@ pub data Call : Type 0 where
   finerMarks : Call
   marksOnly : Call
   settle : List ℕ → List ℕ → Call
-  line : ℕ → Call
+  line : List ℕ → ℕ → Call
 
 pub data Outcome : Type 0 where
   marks : List ℕ → Outcome
   settles : LentMarks ℕ → Outcome
   prints : List ℕ → Outcome
 
--- The marks of the base at a stage; those of the final base, in the finer sense and plainly; Settle with the marks, of a lent table and a lent buffer; the line of a kind on the page.
+-- The marks of the base at a stage; those of the final base, in the finer sense and plainly; Settle with the marks, of a lent table and a lent buffer; the line of a kind on the page,
+-- with the table of its sheet.
 abbrev pub run : List ℕ → Call → Outcome
 run s (atStage q) = marks (listFrom (stageSinceIn plain (cardOf s) q) 0 (kindCount s))
 run s finerMarks = marks (listFrom (sinceIn finer (cardOf s)) 0 (kindCount s))
 run s marksOnly = marks (marksOf s)
 run s (settle table buffer) = settles (settleSinceOf s table buffer)
-run s (line k) = prints (kindLine s (tableOf s) (kindNorm (cardOf s)) k)
+run s (line table k) = prints (kindLine s table (kindNorm (cardOf s)) k)
 
 pub record Example : Type 0 where
   pub sheet : List ℕ
@@ -100,20 +101,20 @@ nines n = replicate n 9
 
 abbrev pub examples : List Example
 examples =
-    -- rows that become final at different stages, kind 2's after a change at each; the marks of the stage before
-    example chain (atStage 3) (marks (1 ∷ 2 ∷ 3 ∷ [])) ∷ example chain (atStage 2) (marks (1 ∷ 2 ∷ 2 ∷ []))
+    -- rows that become final at different stages, kind 2's after a change at each
+    example chain (atStage 3) (marks (1 ∷ 2 ∷ 3 ∷ []))
     -- a row that is the same at stages 1 and 2, and final at stage 3; a kind that is never an atom, and whose row changes before the settled stage
     ∷ example waiting (atStage 3) (marks (1 ∷ 2 ∷ 3 ∷ 2 ∷ []))
     -- a row that changes in its counts of kinds of higher number alone
-    ∷ example moving (atStage 2) (marks (2 ∷ 1 ∷ 2 ∷ [])) ∷ example moving (line 0) (prints (bytes "kind 0 norm 2 since 2 = 0 0 2\n"))
+    ∷ example moving (line (0 ∷ 0 ∷ 2 ∷ 0 ∷ 1 ∷ 0 ∷ 0 ∷ 0 ∷ 1 ∷ []) 0) (prints (bytes "kind 0 norm 2 since 2 = 0 0 2\n"))
     -- a row that changes in its counts of kinds 2 and 3 alone, where two kinds are reached
     ∷ example behind (atStage 2) (marks (0 ∷ 0 ∷ 1 ∷ 2 ∷ []))
     -- the finer base, which settles at stage 2, where the plain one settles at stage 1
     ∷ example circling finerMarks (marks (1 ∷ 1 ∷ 2 ∷ []))
     -- "A kind that is out has no such mark"
-    ∷ example between marksOnly (marks (1 ∷ 0 ∷ 2 ∷ [])) ∷ example between (line 1) (prints (bytes "kind 1 out\n"))
+    ∷ example between marksOnly (marks (1 ∷ 0 ∷ 2 ∷ [])) ∷ example between (line (1 ∷ 0 ∷ 0 ∷ 0 ∷ 0 ∷ 0 ∷ 0 ∷ 0 ∷ 1 ∷ []) 1) (prints (bytes "kind 1 out\n"))
     -- a kind that is not prime, whose mark is below the settled stage
-    ∷ example later (line 2) (prints (bytes "kind 2 norm 2 since 1 = 2 0 0\n"))
+    ∷ example later (line (1 ∷ 0 ∷ 0 ∷ 0 ∷ 1 ∷ 0 ∷ 2 ∷ 0 ∷ 0 ∷ []) 2) (prints (bytes "kind 2 norm 2 since 1 = 2 0 0\n"))
     -- Settle with the marks: in kind number; what stands past n × n counts, and past n marks, keeps its value and its place
     ∷ marked step (nines 4) (nines 2) 2 (1 ∷ 0 ∷ 0 ∷ 1 ∷ []) (2 ∷ 1 ∷ [])
     ∷ marked page (nines 4 ++ (7 ∷ 8 ∷ [])) (nines 2 ++ (5 ∷ 6 ∷ [])) 1 (1 ∷ 0 ∷ 2 ∷ 0 ∷ 7 ∷ 8 ∷ []) (1 ∷ 1 ∷ 5 ∷ 6 ∷ [])
