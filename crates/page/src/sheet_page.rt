@@ -31,7 +31,7 @@ ghost use Rattle.page.specs.Writing.{writingOf, writePageOf};
 pub const INPUT: usize = 12821;
 
 // No page is longer: mostPage of specs/Lengths.antt, to which `blank` holds it.
-pub const PAGE: usize = 73319;
+pub const PAGE: usize = 74183;
 
 // What the page function answers. specs/Writing.antt gives the cases their numbers and values.
 pub enum Writing {
