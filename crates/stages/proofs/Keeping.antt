@@ -144,11 +144,11 @@ module _ (sense : Sense) (s : List ℕ) (ok : Accepted s) where
   F = certified s ok
 
   -- One stage more. Before stage 1 all rows are empty.
-  module _ (t : ℕ) {before after since rows newSince newRows : List ℕ} (K : KeptTo sense s t since rows) (B : BaseAt sense s (suc t) after)
+  module _ (t : ℕ) {kinds : ℕ} {before after since rows newSince newRows : List ℕ} (K : KeptTo sense s t since rows) (B : BaseAt sense s (suc t) after)
       (P : (q : ℕ) → t ≡ suc q → BaseAt sense s (suc q) before) (Z : t ≡ 0 → (k : ℕ) → rowIn before k ≡ none)
-      (X : KeptFrom before after (suc t) mostKinds since rows newSince newRows) where
-    pub kept-stage : kindCount s ≤ mostKinds → KeptTo sense s (suc t) newSince newRows
-    kept-stage few = record {
+      (X : KeptFrom before after (suc t) kinds since rows newSince newRows) where
+    pub kept-stage : kindCount s ≡ kinds → KeptTo sense s (suc t) newSince newRows
+    kept-stage all = record {
       marks = λ k h _. mark k h t refl (is k h) (dec-tells _ (tells-reached s ok k));
       none = λ e. absurd (omega arith);
       before = λ k q h e. row-before k q h e (is k h);

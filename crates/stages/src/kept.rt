@@ -5,7 +5,7 @@ use tables::table::row_of;
 use tables::table::same_row;
 use tables::table::set_row;
 ghost use mathlib.Core.Path.{_≡_};
-ghost use Prim.Native.Nat.{ℕ, _+_, _*_, _^_, _<_};
+ghost use Prim.Native.Nat.{ℕ, _+_, _*_, _^_, _≤_, _<_};
 ghost use lib.ListN.{length};
 ghost use Rattle.model.specs.Field.{_⊕_, times, at};
 ghost use Rattle.model.specs.Limits.{mostKinds};
@@ -32,8 +32,9 @@ fn keep_kind(
     set_row(rows, kind, old);
 }
 
-// Keeps what is new at a stage, by its rows and those of the stage before.
+// Keeps what is new at a stage, of so many kinds, by its rows and those of the stage before.
 pub fn keep_stage(
+    kinds: usize,
     before: &[u32],
     after: &[u32],
     stage: usize,
@@ -41,10 +42,11 @@ pub fn keep_stage(
     rows: &mut [u32],
 )
     requires { ⌜ (length (now before) ≡ 1024) × (length (now after) ≡ 1024) × (length (now rows) ≡ 1024) × (length (now since) ≡ mostKinds) ⌝ }
-    ensures { λ _. ⌜ KeptFrom (now (before .entry)) (now (after .entry)) stage mostKinds (now (since .entry)) (now (rows .entry)) (now (since .exit)) (now (rows .exit)) ⌝ }
+    requires { ⌜ kinds ≤ mostKinds ⌝ }
+    ensures { λ _. ⌜ KeptFrom (now (before .entry)) (now (after .entry)) stage kinds (now (since .entry)) (now (rows .entry)) (now (since .exit)) (now (rows .exit)) ⌝ }
 {
     let mut kind = 0;
-    while kind < 32 {
+    while kind < kinds {
         keep_kind(before, after, stage, kind, since, rows);
         kind += 1;
     }

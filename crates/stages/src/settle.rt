@@ -72,7 +72,7 @@ fn settle_lines(
         let next = stage_rows(sense, sheet, card, norms, lines, &rows, &classes, forms);
         classes = line_classes(sheet, card, lines, &next, &classes, forms);
         stage += 1;
-        keep_stage(&rows, &next, stage, &mut since, &mut before);
+        keep_stage(card.kinds, &rows, &next, stage, &mut since, &mut before);
         if rows_expand(lines, &classes, &next, &norms, card.kinds) {
             let base = Base { rows: next, since };
             return Settled {

@@ -1,6 +1,6 @@
 -- The loop has reached the stage, and none up to it is settled. The measure is what is left of the kinds.
 use borrow.Author.Needs.{needs}
-use mathlib.Core.Path.{_≡_, refl, _∙_}
+use mathlib.Core.Path.{_≡_, refl, sym, _∙_}
 use mathlib.Core.List.{List}
 use Prim.Native.Nat.{ℕ, suc, _-_}
 use lib.ListN.{length}
@@ -88,8 +88,9 @@ slice-aggregate-keep-stage-4 c = search needs
 
 keep-stage-requires : tie.Need-keep-stage-requires Inv-loop μ-loop
 keep-stage-requires c κs =
+    let start = c .before .before .before .before .before .before .before .before .before .before .before .before .before .before .before .before .before .before .before .before in
     let reached = c .before .before .before .before .before .before .before .before .before .before .before .before .before .before .before .before .loop .inv in
-    (reached .rows-long, search needs, reached .before-long, reached .since-long)
+    ((reached .rows-long, search needs, reached .before-long, reached .since-long), kinds-most (start .pre .0 .reads))
 
 slice-aggregate-rows-expand : tie.Need-slice-aggregate-rows-expand Inv-loop μ-loop
 slice-aggregate-rows-expand c = search needs
@@ -146,11 +147,11 @@ base c =
 told : (c : tie.After-rows-expand Inv-loop μ-loop) → Classes (sense c) (start c .args .sheet .now) (stage c) (classes c) × BoundsAt (sense c) (start c .args .sheet .now) (stage c) (classes c)
 told c = c .before .before .before .before .before .before .before .before .before .before .before .before .before .line-classes .ensures .0 (sense c) (stage c) (base c)
 
-kept : (c : tie.After-rows-expand Inv-loop μ-loop) → let keep = c .before .before .before .before .before .before .keep-stage .last in KeptTo (sense c) (start c .args .sheet .now) (suc (stage c)) (keep .1 .1 .1 .0) (keep .1 .1 .1 .1 .0)
+kept : (c : tie.After-rows-expand Inv-loop μ-loop) → let keep = c .before .before .before .before .before .before .keep-stage .last in KeptTo (sense c) (start c .args .sheet .now) (suc (stage c)) (keep .1 .1 .1 .1 .0) (keep .1 .1 .1 .1 .1 .0)
 kept c =
     let reached = c .before .before .before .before .before .before .before .before .before .before .before .before .before .before .before .before .before .before .before .before .before .before .before .loop .inv in
     let keep = c .before .before .before .before .before .before .keep-stage in
-    kept-stage (sense c) (start c .args .sheet .now) (start c .pre .0 .accepted) (stage c) (reached .kept) (base c) (reached .held .rows-are .follows) (reached .held .no-rows) (rw (add-one (stage c)) at (keep .ensures)) (few-kinds (start c .pre .0 .reads))
+    kept-stage (sense c) (start c .args .sheet .now) (start c .pre .0 .accepted) (stage c) (reached .kept) (base c) (reached .held .rows-are .follows) (reached .held .no-rows) (rw (add-one (stage c)) at (keep .ensures)) (sym (kinds-are (start c .pre .0 .reads)))
 
 same-length : tie.Need-same-length Inv-loop μ-loop
 same-length c = omega (arith, c .before .before .before .before .before .before .before .before .before .before .before .before .before .before .line-classes .ensures .1 .long, start (c .before) .pre .1 .1 .long)
@@ -185,8 +186,8 @@ loop-again c =
       kept = kept tested;
       rows-long = all-rows (c .before .before .before .before .before .before .before .before .before .before .before .before .before .before .before .before .before .before .before .before);
       classes-long = all-classes (c .before .before .before .before .before .before .before .before .before .before .before .before .before .before);
-      since-long = keep .kept .1 .1 .1 .0 ∙ reached .since-long;
-      before-long = keep .kept .1 .1 .1 .1 .0 ∙ reached .before-long;
+      since-long = keep .kept .1 .1 .1 .1 .0 ∙ reached .since-long;
+      before-long = keep .kept .1 .1 .1 .1 .1 .0 ∙ reached .before-long;
     })
 
 pub settle-lines-spec : {M : Type 1} → statement M
