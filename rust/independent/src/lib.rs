@@ -25,6 +25,8 @@ pub mod frequencies;
 pub mod generator;
 /// What is promised of squads, held against Compare and Prime form.
 pub mod joining;
+/// What is promised of the marks, held against Settle, Compare and the page.
+pub mod marks;
 /// Norms of the reached kinds, their order, g, and refusals 9 and 10.
 pub mod norm;
 /// The printed page.
