@@ -217,7 +217,7 @@ module _ {s : List ℕ} {i size last : ℕ} where
 module _ (s : List ℕ) (ok : Accepted s) (r : Settled) (S : IsSettled plain s r) (i : ℕ) where
   -- Its reached kinds, their rows and the form of the field at the settled stage, and what is kept of the stages.
   pub rows-settled : Bytes s → kindCount s ≤ mostKinds → {kinds : List ℕ} → kinds ≡ reachedKinds (cardOf s) → InOrder kinds → (rows form : List ℕ) → rows ≡ r .base .rows
-      → at form ≡ formIn (kindCount s) (r .base .rows) (fieldOf s i) → RowsAt s i (r .stage) kinds (r .kept .since) (r .kept .rows) rows form
+      → at form ≡ formIn (kindCount s) (r .base .rows) (fieldOf s i) → RowsAt s i (r .stage) kinds (r .base .since) (r .before) rows form
   rows-settled bytes few all sorted rows form e d = rw (S .stage-is, e) (record {
     accepted = ok;
     bytes = bytes;
