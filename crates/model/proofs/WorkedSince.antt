@@ -5,7 +5,7 @@ use mathlib.Core.Path.{_≡_, refl}
 use Prim.Native.Nat.{ℕ}
 use native.Mathlib.Decide.{ℕ-discrete}
 use lib.ListN.{replicate}
-use Rattle.model.specs.Finite.{any, all, keep, pick, concat, listFrom, below, leastFrom, greatestTo}
+use Rattle.model.specs.Finite.{any, all, keep, pick, concat, listFrom, below, leastFrom}
 use Rattle.model.specs.Field.{bit, unit, weigh, agree}
 use Rattle.model.specs.Card.{reaches, reached, reachedKinds, reachedLines}
 use Rattle.model.specs.Norm.{ready, best, sweeps, cardNorm, kindNorm}
@@ -129,7 +129,6 @@ examples =
     ∷ unmarked [] [] [] 1 0 ∷ unmarked bare [] [] 9 0 ∷ unmarked bare (9 ∷ []) (9 ∷ []) 9 0
     ∷ []
 
--- (`greatestTo` is not used: with it a wrong definition that answers the greatest mark computes too.)
 pub since-worked : map (λ x. run (x .sheet) (x .call)) examples ≡ map (λ x. x .outcome) examples
-unfolding any all keep pick concat listFrom below leastFrom greatestTo bit unit ℕ-discrete weigh agree reaches reached reachedKinds reachedLines ready best sweeps cardNorm kindNorm simulates expands lowering equalNorm equalNormAndTotal falling refined stageFrom stageIn fieldsOfNorm earlier earlierThan atom row passes firstSettled sinceAt fieldsOffset totalOf counts lineOf cardOf fieldOf firstOf headerChecks lineChecks normChecks sheetChecks settleSinceChecks rowChecks bytes digits number newline countsOf wordsOf kindLine itself written tableOf marksOf settleSinceOf rowOf rowCheckOf
+unfolding any all keep pick concat listFrom below leastFrom bit unit ℕ-discrete weigh agree reaches reached reachedKinds reachedLines ready best sweeps cardNorm kindNorm simulates expands lowering equalNorm equalNormAndTotal falling refined stageFrom stageIn fieldsOfNorm earlier earlierThan atom row passes firstSettled sinceAt fieldsOffset totalOf counts lineOf cardOf fieldOf firstOf headerChecks lineChecks normChecks sheetChecks settleSinceChecks rowChecks bytes digits number newline countsOf wordsOf kindLine itself written tableOf marksOf settleSinceOf rowOf rowCheckOf
 since-worked = refl
