@@ -1,4 +1,4 @@
-/* limbatue.h: race cards, fields and their prime forms. The verified library, version 0.9.0, for C99, C++11 and whatever calls C.
+/* limbatue.h: race cards, fields and their prime forms. The verified library, version 0.10.0, for C99, C++11 and whatever calls C.
  *
  * Link liblimbatue.a. Where it is installed, `pkg-config --cflags --libs limbatue` prints the options; in the repository, tools/archive proves it and writes
  * target/lib/liblimbatue.a. It is for Linux on x86-64, for programs and shared libraries alike. docs/SHEET.md tells what the bytes of a sheet are.
@@ -15,8 +15,8 @@
  * below.
  *
  * REACHED KINDS. A kind is reached where some field of the sheet holds it, or a line of a reached kind leaves it; every other kind is out. Norms, rows, stages,
- * the rounds of Compare and shelf numbers go by the reached kinds alone, in the finer sense too. The row of a kind that is out is all 0, and its count in every
- * prime form and shelf field is 0. The walk goes by the lines as they stand.
+ * the rounds of Compare and shelf numbers go by the reached kinds alone, in the finer sense too. The row of a kind that is out is all 0, its mark is 0, and its
+ * count in every prime form and shelf field is 0. The walk goes by the lines as they stand.
  *
  * REFUSALS. The checks run in this order, and the first that applies is returned; 7 and 8 line by line; 9 and 10 of reached kinds, 9 for all before 10 for any.
  * P is the place.
@@ -57,8 +57,8 @@ extern "C" {
 #endif
 
 /* The version: 10000 x major + 100 x minor + patch. */
-#define LIMBATUE_VERSION 900
-#define LIMBATUE_VERSION_TEXT "0.9.0"
+#define LIMBATUE_VERSION 1000
+#define LIMBATUE_VERSION_TEXT "0.10.0"
 
 /* Of what a call returned. */
 #define LIMBATUE_NUMBER(returned) ((returned) & 255u)
@@ -94,11 +94,11 @@ enum { LIMBATUE_TOGETHER = 0, LIMBATUE_APART = 1, LIMBATUE_SPENT = 2 };
 /* Bytes of the longest sheet. Who reads a sheet from a stream reads one byte more, so that a longer one is refused and not cut. */
 #define LIMBATUE_SHEET_MOST 12820
 
-/* Elements that any sheet's table, any field's counts and the counts of Frequencies have at most; bytes that no page passes. */
+/* Elements that any sheet's table, any field's counts or any sheet's marks, and the counts of Frequencies have at most; bytes that no page passes. */
 #define LIMBATUE_TABLE_MOST 1024
 #define LIMBATUE_COUNTS_MOST 32
 #define LIMBATUE_FREQUENCIES_MOST 34
-#define LIMBATUE_PAGE_MOST 73319
+#define LIMBATUE_PAGE_MOST 74183
 
 /* Tokens of the largest fields that have shelf numbers. */
 #define LIMBATUE_TOKENS_MOST 16
@@ -109,6 +109,7 @@ enum { LIMBATUE_TOGETHER = 0, LIMBATUE_APART = 1, LIMBATUE_SPENT = 2 };
 /* Elements that each call writes to its answer array; a shorter array is refused. */
 #define LIMBATUE_NUMBERS_ANSWER 4
 #define LIMBATUE_SETTLE_ANSWER 1
+#define LIMBATUE_SETTLE_SINCE_ANSWER 1
 #define LIMBATUE_ROW_CHECK_ANSWER 2
 #define LIMBATUE_COMPARE_ANSWER 3
 #define LIMBATUE_WALK_ANSWER 3
@@ -117,13 +118,14 @@ enum { LIMBATUE_TOGETHER = 0, LIMBATUE_APART = 1, LIMBATUE_SPENT = 2 };
 #define LIMBATUE_SQUADS_ANSWER 1
 #define LIMBATUE_FINER_COMPARE_ANSWER 3
 
-/* Bytes of stack that must be left where a call is made. Taken are, as measured: settle 131,208, compare and finer compare 140,328, prime form and finer prime form
- * 127,288, walk 81,220 at most, page 213,416, shelf number 6,824, shelf field 9,728, squads 131,496, frequencies 150,344, the others under 256. Stated is each with
- * 4,096 more, for memcpy, memset and the loader, which may be asked for them at a first call, and rounded up to pages of 4,096. In the repository ./stack measures the
- * archive again, and fails where under 4,096 are left. */
+/* Bytes of stack that must be left where a call is made. Taken are, as measured: settle 131,480, settle with the marks 131,752, compare and finer compare 140,344,
+ * prime form 127,560, finer prime form 127,544, walk 81,220 at most, page 214,392, shelf number 6,824, shelf field 9,728, squads 127,896, frequencies 150,360, the
+ * others under 256. Stated is each with 4,096 more, for memcpy, memset and the loader, which may be asked for them at a first call, and rounded up to pages of 4,096.
+ * In the repository ./stack measures the archive again, and fails where under 4,096 are left. */
 #define LIMBATUE_VERSION_STACK 8192
 #define LIMBATUE_NUMBERS_STACK 8192
 #define LIMBATUE_SETTLE_STACK 139264
+#define LIMBATUE_SETTLE_SINCE_STACK 139264
 #define LIMBATUE_ROW_CHECK_STACK 8192
 #define LIMBATUE_COMPARE_STACK 147456
 #define LIMBATUE_PRIME_FORM_STACK 135168
@@ -131,7 +133,7 @@ enum { LIMBATUE_TOGETHER = 0, LIMBATUE_APART = 1, LIMBATUE_SPENT = 2 };
 #define LIMBATUE_PAGE_STACK 221184
 #define LIMBATUE_SHELF_NUMBER_STACK 12288
 #define LIMBATUE_SHELF_FIELD_STACK 16384
-#define LIMBATUE_SQUADS_STACK 139264
+#define LIMBATUE_SQUADS_STACK 135168
 #define LIMBATUE_FINER_COMPARE_STACK 147456
 #define LIMBATUE_FINER_PRIME_FORM_STACK 135168
 #define LIMBATUE_FREQUENCIES_STACK 155648
@@ -148,6 +150,12 @@ uint32_t limbatue_numbers(const uint8_t *sheet, size_t sheet_length, uint64_t *a
  * is out is all 0.
  * answer[0]: the settled stage. Refuses 1 to 10, and 12. */
 uint32_t limbatue_settle(const uint8_t *sheet, size_t sheet_length, uint32_t *table, size_t table_length, uint64_t *answer, size_t answer_length);
+
+/* Settle with the marks. Reads the sheet. Writes the table that Settle writes, and to `since` n marks, in kind number: for each kind the first stage, from 1 up, at
+ * which its row became the one that is settled. From that stage on its row is this one at every stage; the mark of a prime kind tells since when it is prime. A mark is
+ * at most the settled stage, and 0 for a kind that is out.
+ * answer[0]: the settled stage. Refuses 1 to 10, and 12. */
+uint32_t limbatue_settle_since(const uint8_t *sheet, size_t sheet_length, uint32_t *table, size_t table_length, uint32_t *since, size_t since_length, uint64_t *answer, size_t answer_length);
 
 /* Row's check. Reads the table's length alone, and judges no table. Writes nothing but the answer.
  * answer[0]: where the row of the kind starts in the table; answer[1]: its entries. Refuses 2, 11 and 12. */

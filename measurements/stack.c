@@ -21,7 +21,7 @@ static uint8_t with_squad[LIMBATUE_SHEET_MOST + 1];
 /* The sheet with one kind alone in its last field, the first that was there, whose tokens are counted at `tokens`: where these are as many as the size asked for the field has its own norm, the
  * sheet is settled, and the kind's row goes into what is left of the form up to the last token. */
 static uint8_t with_tokens[LIMBATUE_SHEET_MOST + 1], *tokens;
-static uint32_t table[LIMBATUE_TABLE_MOST], session[LIMBATUE_DESKS], returned;
+static uint32_t table[LIMBATUE_TABLE_MOST], since[LIMBATUE_COUNTS_MOST], session[LIMBATUE_DESKS], returned;
 static uint64_t counts[LIMBATUE_COUNTS_MOST], answer[4];
 static uint16_t field[LIMBATUE_COUNTS_MOST];
 static uint32_t common[LIMBATUE_FREQUENCIES_MOST];
@@ -30,6 +30,7 @@ static size_t length, last;
 static void version(void) { returned = limbatue_version() == LIMBATUE_VERSION ? 0 : 1; }
 static void numbers(void) { returned = limbatue_numbers(sheet, length, answer, LIMBATUE_NUMBERS_ANSWER); }
 static void settle(void) { returned = limbatue_settle(sheet, length, table, LIMBATUE_TABLE_MOST, answer, LIMBATUE_SETTLE_ANSWER); }
+static void settle_since(void) { returned = limbatue_settle_since(sheet, length, table, LIMBATUE_TABLE_MOST, since, LIMBATUE_COUNTS_MOST, answer, LIMBATUE_SETTLE_SINCE_ANSWER); }
 static void row_check(void) { returned = limbatue_row_check(table, LIMBATUE_TABLE_MOST, 32, 31, answer, LIMBATUE_ROW_CHECK_ANSWER); }
 static void compare(void) { returned = limbatue_compare(sheet, length, 0, last, answer, LIMBATUE_COMPARE_ANSWER); }
 static void prime_form(void) { returned = limbatue_prime_form(sheet, length, last, counts, LIMBATUE_COUNTS_MOST); }
@@ -60,6 +61,7 @@ static struct {
     { "version", version, LIMBATUE_VERSION_STACK, 0, 0 },
     { "numbers", numbers, LIMBATUE_NUMBERS_STACK, 0, 0 },
     { "settle", settle, LIMBATUE_SETTLE_STACK, 0, 0 },
+    { "settle_since", settle_since, LIMBATUE_SETTLE_SINCE_STACK, 0, 0 },
     { "row_check", row_check, LIMBATUE_ROW_CHECK_STACK, 0, 0 },
     { "compare", compare, LIMBATUE_COMPARE_STACK, 0, 0 },
     { "prime_form", prime_form, LIMBATUE_PRIME_FORM_STACK, 0, 0 },

@@ -9,7 +9,7 @@ static int failures = 0;
 #define REFUSED(returned, number, place) (LIMBATUE_NUMBER(returned) == (number) && LIMBATUE_PLACE(returned) == (place))
 
 static uint8_t sheet[LIMBATUE_SHEET_MOST + 1], page[LIMBATUE_PAGE_MOST];
-static uint32_t table[LIMBATUE_TABLE_MOST], session[LIMBATUE_DESKS + 1];
+static uint32_t table[LIMBATUE_TABLE_MOST + 1], since[LIMBATUE_COUNTS_MOST + 1], session[LIMBATUE_DESKS + 1];
 static uint64_t counts[LIMBATUE_COUNTS_MOST], answer[4];
 static uint16_t shelved[LIMBATUE_COUNTS_MOST + 1];
 static uint32_t common[LIMBATUE_FREQUENCIES_MOST + 1];
@@ -46,6 +46,7 @@ static void put_count(size_t field, size_t kind, size_t count)
 
 static uint32_t numbers(void) { return limbatue_numbers(sheet, length, answer, LIMBATUE_NUMBERS_ANSWER); }
 static uint32_t settle(void) { return limbatue_settle(sheet, length, table, LIMBATUE_TABLE_MOST, answer, LIMBATUE_SETTLE_ANSWER); }
+static uint32_t settle_since(void) { return limbatue_settle_since(sheet, length, table, LIMBATUE_TABLE_MOST, since, LIMBATUE_COUNTS_MOST, answer, LIMBATUE_SETTLE_SINCE_ANSWER); }
 static uint32_t compare(size_t first, size_t second) { return limbatue_compare(sheet, length, first, second, answer, LIMBATUE_COMPARE_ANSWER); }
 static uint32_t walk(size_t first, size_t second, size_t desk) { return limbatue_walk(sheet, length, first, second, 8, desk, session, LIMBATUE_DESKS, answer, LIMBATUE_WALK_ANSWER); }
 static uint32_t shelf_number(size_t field) { return limbatue_shelf_number(sheet, length, field, answer, LIMBATUE_SHELF_NUMBER_ANSWER); }
@@ -587,15 +588,80 @@ static void test_refused_frequencies(void)
         EXPECT(common[i] == UINT32_MAX);
 }
 
+/* In a chain of kinds all of norm 1 each kind is the same as the one before it up to the stage of its number, and prime from the next stage on. A kind that is the same as one of them, or as a field of several, has its row since the
+ * last of these is prime. The table, the stage and what is past them are those of Settle. */
+static void test_since(void)
+{
+    size_t kinds, kind, at;
+    for (kinds = 1; kinds <= 32; kinds++) {
+        make_chain(kinds);
+        memset(table, 255, sizeof table);
+        memset(since, 255, sizeof since);
+        EXPECT(settle_since() == LIMBATUE_DONE && answer[0] == kinds);
+        for (kind = 0; kind < kinds; kind++) {
+            EXPECT(since[kind] == kind + 1);
+            for (at = 0; at < kinds; at++)
+                EXPECT(table[kind * kinds + at] == (at == kind));
+        }
+        EXPECT(since[kinds] == UINT32_MAX && table[kinds * kinds] == UINT32_MAX);
+    }
+    make_fields(); /* every kind is one of kind 0 */
+    EXPECT(settle_since() == LIMBATUE_DONE && answer[0] == 1);
+    for (kind = 0; kind < 32; kind++)
+        EXPECT(since[kind] == 1 && table[kind * 32] == 1);
+    make_chain(5); /* kind 3 does what kind 2 does, and is one of kind 2 since that is prime, at stage 3; kind 4, which leaves kind 3, is told from both at stage 4 */
+    at = 20 + (4 + 3) * 7;
+    EXPECT(sheet[at] == 3 && sheet[at + 1] == 1 && sheet[at + 2 + 2] == 1);
+    sheet[at + 2 + 2] = 0;
+    sheet[at + 2 + 1] = 1;
+    memset(since, 255, sizeof since);
+    EXPECT(settle_since() == LIMBATUE_DONE && answer[0] == 4);
+    EXPECT(since[0] == 1 && since[1] == 2 && since[2] == 3 && since[3] == 3 && since[4] == 4 && since[5] == UINT32_MAX);
+    EXPECT(table[3 * 5 + 2] == 1 && table[3 * 5 + 3] == 0 && table[4 * 5 + 4] == 1);
+    /* with room for just what is written, and with one element more of the answer array */
+    memset(table, 255, sizeof table);
+    memset(since, 255, sizeof since);
+    memset(answer, 7, sizeof answer);
+    EXPECT(limbatue_settle_since(sheet, length, table, 25, since, 5, answer, LIMBATUE_SETTLE_SINCE_ANSWER + 1) == LIMBATUE_DONE && answer[0] == 4 && answer[1] % 256 == 7);
+    EXPECT(since[4] == 4 && since[5] == UINT32_MAX && table[24] == 1 && table[25] == UINT32_MAX);
+}
+
+/* Each refusal before the next, with all that the later ones refuse given too; nothing changes. */
+static void test_refused_since(void)
+{
+    size_t i;
+    make_chain(32);
+    memset(table, 255, sizeof table);
+    memset(since, 255, sizeof since);
+    memset(answer, 7, sizeof answer);
+    EXPECT(REFUSED(limbatue_settle_since(sheet, 0, table, 0, since, 0, answer, 0), LIMBATUE_REFUSED_NO_HEADER, 0));
+    EXPECT(REFUSED(limbatue_settle_since(sheet, length - 1, table, 0, since, 0, answer, 0), LIMBATUE_REFUSED_LAYOUT, 3));
+    EXPECT(REFUSED(limbatue_settle_since(sheet, length, table, LIMBATUE_TABLE_MOST - 1, since, LIMBATUE_COUNTS_MOST, answer, LIMBATUE_SETTLE_SINCE_ANSWER), LIMBATUE_REFUSED_TOO_SHORT, 0));
+    EXPECT(REFUSED(limbatue_settle_since(sheet, length, table, LIMBATUE_TABLE_MOST, since, LIMBATUE_COUNTS_MOST - 1, answer, LIMBATUE_SETTLE_SINCE_ANSWER), LIMBATUE_REFUSED_TOO_SHORT, 0));
+    EXPECT(REFUSED(limbatue_settle_since(sheet, length, table, LIMBATUE_TABLE_MOST, since, LIMBATUE_COUNTS_MOST, answer, LIMBATUE_SETTLE_SINCE_ANSWER - 1), LIMBATUE_REFUSED_TOO_SHORT, 0));
+    EXPECT(REFUSED(limbatue_settle_since(sheet, length, table, 0, since, 0, answer, 0), LIMBATUE_REFUSED_TOO_SHORT, 0));
+    make_no_norm();
+    EXPECT(REFUSED(limbatue_settle_since(sheet, length, table, 0, since, 0, answer, 0), LIMBATUE_REFUSED_NO_NORM, 2) && REFUSED(settle_since(), LIMBATUE_REFUSED_NO_NORM, 2));
+    for (i = 0; i < LIMBATUE_TABLE_MOST + 1; i++)
+        EXPECT(table[i] == UINT32_MAX);
+    for (i = 0; i < LIMBATUE_COUNTS_MOST + 1; i++)
+        EXPECT(since[i] == UINT32_MAX);
+    EXPECT(answered(answer[3], answer[3], answer[3]) && answer[3] % 256 == 7);
+}
+
 /* Kind 1 is held, and kinds 0 and 2, the latter without a line, are out; then all three are. */
 static void test_out(void)
 {
-    const char *kinds = "kinds 3 stages 1\nkind 0 out\nkind 1 norm 1 prime\nkind 2 out\nfield 0 = 0 0 0\nfield 1 = 0 2 0\npair 0 1 different 0 1\n", *none = "kinds 3 stages 1\nkind 0 out\nkind 1 out\nkind 2 out\nfield 0 = 0 0 0\nfield 1 = 0 0 0\npair 0 1 same\n";
+    const char *kinds = "kinds 3 stages 1\nkind 0 out\nkind 1 norm 1 since 1 prime\nkind 2 out\nfield 0 = 0 0 0\nfield 1 = 0 2 0\npair 0 1 different 0 1\n", *none = "kinds 3 stages 1\nkind 0 out\nkind 1 out\nkind 2 out\nfield 0 = 0 0 0\nfield 1 = 0 0 0\npair 0 1 same\n";
     size_t i;
     make_sheet(3, 2, 2, 2);
     put_count(1, 1, 2);
     memset(table, 255, sizeof table);
     EXPECT(settle() == LIMBATUE_DONE && answer[0] == 1 && table[9] == UINT32_MAX);
+    for (i = 0; i < 9; i++)
+        EXPECT(table[i] == (i == 4));
+    memset(since, 255, sizeof since);
+    EXPECT(settle_since() == LIMBATUE_DONE && answer[0] == 1 && since[0] == 0 && since[1] == 1 && since[2] == 0 && since[3] == UINT32_MAX);
     for (i = 0; i < 9; i++)
         EXPECT(table[i] == (i == 4));
     EXPECT(limbatue_prime_form(sheet, length, 1, counts, 3) == LIMBATUE_DONE && counts[0] == 0 && counts[1] == 2 && counts[2] == 0);
@@ -616,6 +682,8 @@ static void test_out(void)
     EXPECT(settle() == LIMBATUE_DONE && answer[0] == 1 && table[9] == UINT32_MAX);
     for (i = 0; i < 9; i++)
         EXPECT(table[i] == 0);
+    memset(since, 255, sizeof since);
+    EXPECT(settle_since() == LIMBATUE_DONE && answer[0] == 1 && since[0] == 0 && since[1] == 0 && since[2] == 0 && since[3] == UINT32_MAX);
     EXPECT(compare(0, 1) == LIMBATUE_DONE && answer[0] == LIMBATUE_SAME);
     EXPECT(finer(0, 1) == LIMBATUE_DONE && answer[0] == LIMBATUE_SAME);
     EXPECT(finer_form(1) == LIMBATUE_DONE && counts[0] == 0 && counts[1] == 0 && counts[2] == 0);
@@ -644,6 +712,8 @@ int main(void)
     test_refused_finer();
     test_frequencies();
     test_refused_frequencies();
+    test_since();
+    test_refused_since();
     test_out();
     return failures != 0;
 }

@@ -10,8 +10,8 @@ enum { SHEETS = 16, TIMES = 50 };
 
 /* Everything that the calls answer and write, on one sheet. The field asked for has 16 tokens and the number 16, which there is with two kinds or more; frequencies are asked of the fields of 2 tokens. */
 struct outcome {
-    uint32_t returned[12], table[LIMBATUE_TABLE_MOST], session[LIMBATUE_DESKS], frequencies[LIMBATUE_FREQUENCIES_MOST];
-    uint64_t numbers[LIMBATUE_NUMBERS_ANSWER], stage[LIMBATUE_SETTLE_ANSWER], verdict[LIMBATUE_COMPARE_ANSWER], counts[LIMBATUE_COUNTS_MOST], walked[LIMBATUE_WALK_ANSWER], length[LIMBATUE_PAGE_ANSWER], shelved[LIMBATUE_SHELF_NUMBER_ANSWER], squads[LIMBATUE_SQUADS_ANSWER], remainder[LIMBATUE_COUNTS_MOST], finer_verdict[LIMBATUE_FINER_COMPARE_ANSWER], finer_counts[LIMBATUE_COUNTS_MOST];
+    uint32_t returned[13], table[LIMBATUE_TABLE_MOST], table_since[LIMBATUE_TABLE_MOST], since[LIMBATUE_COUNTS_MOST], session[LIMBATUE_DESKS], frequencies[LIMBATUE_FREQUENCIES_MOST];
+    uint64_t numbers[LIMBATUE_NUMBERS_ANSWER], stage[LIMBATUE_SETTLE_ANSWER], stage_since[LIMBATUE_SETTLE_SINCE_ANSWER], verdict[LIMBATUE_COMPARE_ANSWER], counts[LIMBATUE_COUNTS_MOST], walked[LIMBATUE_WALK_ANSWER], length[LIMBATUE_PAGE_ANSWER], shelved[LIMBATUE_SHELF_NUMBER_ANSWER], squads[LIMBATUE_SQUADS_ANSWER], remainder[LIMBATUE_COUNTS_MOST], finer_verdict[LIMBATUE_FINER_COMPARE_ANSWER], finer_counts[LIMBATUE_COUNTS_MOST];
     uint16_t field[LIMBATUE_COUNTS_MOST];
     uint8_t page[LIMBATUE_PAGE_MOST];
 };
@@ -39,6 +39,7 @@ static void call_all(const uint8_t *sheet, size_t length, struct outcome *o)
     o->returned[9] = limbatue_finer_compare(sheet, length, 0, 1, o->finer_verdict, LIMBATUE_FINER_COMPARE_ANSWER);
     o->returned[10] = limbatue_finer_prime_form(sheet, length, 1, o->finer_counts, LIMBATUE_COUNTS_MOST);
     o->returned[11] = limbatue_frequencies(sheet, length, 1, 2, o->frequencies, LIMBATUE_FREQUENCIES_MOST);
+    o->returned[12] = limbatue_settle_since(sheet, length, o->table_since, LIMBATUE_TABLE_MOST, o->since, LIMBATUE_COUNTS_MOST, o->stage_since, LIMBATUE_SETTLE_SINCE_ANSWER);
 }
 
 /* Answers NULL where every outcome was that of the calls alone. The two threads go through the sheets in opposite directions. */

@@ -1,4 +1,4 @@
-//! The library's times beside those of the independent implementation, in one run: settling the costly families, prime forms in the plain and the finer sense, frequencies of as many fields as are listed, walks, how time grows with kinds and
+//! The library's times beside those of the independent implementation, in one run: settling the costly families, alone and with the marks, prime forms in the plain and the finer sense, frequencies of as many fields as are listed, walks, how time grows with kinds and
 //! lines, and what kinds that are out cost.
 //!
 //! Each time is the least of the runs of a fifth of a second, over the same sheet and the same buffers, which are not cleared between the runs.
@@ -49,6 +49,21 @@ fn settle_times(sheet: &[u8]) -> (u32, Duration, Duration) {
         black_box(independent::filer::settle(black_box(sheet), &mut other)).ok();
     });
     (stage, library, independent)
+}
+
+/// Settling a sheet with the marks: the library's time and the independent one's.
+fn since_times(sheet: &[u8]) -> (Duration, Duration) {
+    let ((mut table, mut other), (mut since, mut other_since)) = (([0; 1024], [0; 1024]), ([0; 32], [0; 32]));
+    let stage = limbatue::settle_since_into(sheet, &mut table, &mut since).expect("an accepted sheet");
+    assert_eq!(independent::filer::settle_since(sheet, &mut other, &mut other_since), Ok(stage));
+    assert!(table == other && since == other_since, "the tables or the marks differ");
+    let library = least_time(|| {
+        black_box(limbatue::settle_since_into(black_box(sheet), &mut table, &mut since)).ok();
+    });
+    let independent = least_time(|| {
+        black_box(independent::filer::settle_since(black_box(sheet), &mut other, &mut other_since)).ok();
+    });
+    (library, independent)
 }
 
 /// The prime form of the first field in a sense, which settles the sheet: the library's time and the independent one's.
@@ -195,6 +210,21 @@ fn main() {
             milliseconds(library),
             milliseconds(independent),
             library.as_secs_f64() / independent.as_secs_f64()
+        );
+    }
+    println!(
+        "\nsettle alone and with the marks, the same sheets\n                           alone ms   with marks  ratio  independent ratio"
+    );
+    for (family, sheet) in &costly {
+        let (_, alone, independent_alone) = settle_times(sheet);
+        let (marked, independent_marked) = since_times(sheet);
+        println!(
+            "{:22} {:12.3} {:12.3} {:6.2} {:18.2}",
+            format!("{family:?}"),
+            milliseconds(alone),
+            milliseconds(marked),
+            marked.as_secs_f64() / alone.as_secs_f64(),
+            independent_marked.as_secs_f64() / independent_alone.as_secs_f64()
         );
     }
     println!(

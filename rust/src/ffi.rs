@@ -13,6 +13,16 @@ unsafe extern "C" {
         answer: *mut u64,
         answer_length: usize,
     ) -> u32;
+    pub fn limbatue_settle_since(
+        sheet: *const u8,
+        sheet_length: usize,
+        table: *mut u32,
+        table_length: usize,
+        since: *mut u32,
+        since_length: usize,
+        answer: *mut u64,
+        answer_length: usize,
+    ) -> u32;
     pub fn limbatue_row_check(
         table: *const u32,
         table_length: usize,

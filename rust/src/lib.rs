@@ -7,6 +7,7 @@
 //! |---|---|---|
 //! | a sheet's numbers of kinds, codes, lines and fields | [`numbers`] | |
 //! | its settled stage, and each kind as a product of prime kinds | [`settle`], [`Settled`] | [`settle_into`], [`row`] |
+//! | since what stage each kind is that product | [`settle`], [`Settled::since`] | [`settle_since_into`] |
 //! | whether two fields are the same | [`compare`] | |
 //! | a field's prime form | [`prime_form`] | [`prime_form_into`] |
 //! | the page, all of this as text | [`page`] | [`page_into`] |
@@ -89,7 +90,7 @@ pub const SHEET_MOST: usize = 12_820;
 /// ```
 pub const TABLE_MOST: usize = 1024;
 
-/// The counts of a prime form, plain or finer, of a field found by its number, or of what remains beside squads, for any sheet.
+/// The counts of a prime form, plain or finer, of a field found by its number, or of what remains beside squads, and the marks of [`settle_since_into`], for any sheet.
 ///
 /// ```
 /// let mut counts = [0; limbatue::COUNTS_MOST];
@@ -118,7 +119,7 @@ pub const FREQUENCIES_MOST: usize = 34;
 /// assert_eq!(page[..length], *b"refused 1 0\n");
 /// # Ok::<(), limbatue::Refusal>(())
 /// ```
-pub const PAGE_MOST: usize = 73_319;
+pub const PAGE_MOST: usize = 74_183;
 
 /// The tokens of the largest fields that have shelf numbers.
 ///
@@ -244,13 +245,15 @@ pub fn numbers(sheet: &[u8]) -> Result<Numbers, Refusal> {
     Ok(Numbers { kinds, codes, lines, fields })
 }
 
-/// Settles a sheet: the settled stage, and for each kind its row. Refused are 1 to 10. A kind that no field holds and that no line leads to from those that are held is out: it needs no norm, and its row is zeros.
+/// Settles a sheet: the settled stage, and for each kind its row and since what stage it has this row. Refused are 1 to 10. A kind that no field holds and that no line leads to from those that are held is out: it
+/// needs no norm, its row is zeros, and there is no such stage.
 ///
 /// ```
 /// let sheet = std::fs::read("testdata/page36.sheet")?;
 /// let settled = limbatue::settle(&sheet)?;
 /// assert_eq!(settled.stage(), 1);
 /// assert_eq!(settled.row(1)?, [2, 0]);
+/// assert_eq!(settled.since(1)?, Some(1));
 ///
 /// let sheet = std::fs::read("testdata/billion_and_one.sheet")?;
 /// let refusal = limbatue::settle(&sheet).unwrap_err();
@@ -259,9 +262,9 @@ pub fn numbers(sheet: &[u8]) -> Result<Numbers, Refusal> {
 /// ```
 pub fn settle(sheet: &[u8]) -> Result<Settled, Refusal> {
     let kinds = numbers(sheet)?.kinds;
-    let mut table = vec![0; kinds * kinds];
-    let stage = settle_into(sheet, &mut table)?;
-    Ok(Settled::new(stage, kinds, table))
+    let (mut table, mut since) = (vec![0; kinds * kinds], vec![0; kinds]);
+    let stage = settle_since_into(sheet, &mut table, &mut since)?;
+    Ok(Settled::new(stage, kinds, table, since))
 }
 
 /// Settles a sheet into a lent table: writes the rows one after another, kinds × kinds counts, and answers the settled stage. Entries past those keep their values. Refused are 1 to 10, and 12 where the
@@ -283,6 +286,36 @@ pub fn settle_into(sheet: &[u8], table: &mut [u32]) -> Result<u32, Refusal> {
             sheet.len(),
             table.as_mut_ptr(),
             table.len(),
+            answer.as_mut_ptr(),
+            answer.len(),
+        )
+    })?;
+    Ok(answer[0] as u32)
+}
+
+/// Settles a sheet into a lent table and lent marks: writes what [`settle_into`] writes, and for each kind in number order its mark: the first stage, from 1 up, at which its row became the one that is settled, and
+/// is at every later stage; 0 for a kind that is out. Answers the settled stage, which no mark passes. Entries past those keep their values. Refused are 1 to 10, and 12 where the table or the buffer of the marks is
+/// too short; [`TABLE_MOST`] and [`COUNTS_MOST`] entries always suffice.
+///
+/// ```
+/// let sheet = std::fs::read("testdata/row_changes_not_prime.sheet")?;
+/// let (mut table, mut since) = ([0; 9], [7; 4]);
+/// assert_eq!(limbatue::settle_since_into(&sheet, &mut table, &mut since)?, 2);
+/// assert_eq!(table, [1, 0, 0, 0, 1, 0, 0, 1, 0]);
+/// assert_eq!(since, [1, 2, 2, 7]); // kind 1 is prime since stage 2, and kind 2 is the same as it since then
+/// # Ok::<(), Box<dyn std::error::Error>>(())
+/// ```
+pub fn settle_since_into(sheet: &[u8], table: &mut [u32], since: &mut [u32]) -> Result<u32, Refusal> {
+    let mut answer = [0; 1];
+    // SAFETY: four slices, none of which overlaps one that is written.
+    done(unsafe {
+        ffi::limbatue_settle_since(
+            sheet.as_ptr(),
+            sheet.len(),
+            table.as_mut_ptr(),
+            table.len(),
+            since.as_mut_ptr(),
+            since.len(),
             answer.as_mut_ptr(),
             answer.len(),
         )
@@ -361,7 +394,7 @@ pub fn prime_form_into(sheet: &[u8], field: usize, counts: &mut [u64]) -> Result
 ///
 /// ```
 /// let sheet = std::fs::read("testdata/page36.sheet")?;
-/// let page = "kinds 2 stages 1\nkind 0 norm 1 prime\nkind 1 norm 2 = 2 0\nfield 0 = 2 0\nfield 1 = 2 0\npair 0 1 same\n";
+/// let page = "kinds 2 stages 1\nkind 0 norm 1 since 1 prime\nkind 1 norm 2 since 1 = 2 0\nfield 0 = 2 0\nfield 1 = 2 0\npair 0 1 same\n";
 /// assert_eq!(limbatue::page(&sheet), page);
 /// assert_eq!(limbatue::page(b"no sheet"), "refused 1 0\n");
 /// # Ok::<(), std::io::Error>(())

@@ -4,7 +4,7 @@ use std::slice::ChunksExact;
 
 use crate::{Refusal, row};
 
-/// A settled sheet: the settled stage, and for each kind its row of counts. [`settle`](crate::settle) gives it.
+/// A settled sheet: the settled stage, and for each kind its row of counts and since what stage it has this row. [`settle`](crate::settle) gives it.
 ///
 /// A kind is reached where some field of the sheet holds it, or where a line of a reached kind leaves it. Any other kind is out: its row is zeros, and nothing else depends on it.
 ///
@@ -22,12 +22,13 @@ pub struct Settled {
     stage: u32,
     kinds: usize,
     table: Vec<u32>,
+    since: Vec<u32>,
 }
 
 impl Settled {
-    /// What [`settle_into`](crate::settle_into) answered and wrote: the stage, and a table of `kinds` × `kinds` counts.
-    pub(crate) fn new(stage: u32, kinds: usize, table: Vec<u32>) -> Settled {
-        Settled { stage, kinds, table }
+    /// What [`settle_since_into`](crate::settle_since_into) answered and wrote: the stage, a table of `kinds` × `kinds` counts, and `kinds` marks.
+    pub(crate) fn new(stage: u32, kinds: usize, table: Vec<u32>, since: Vec<u32>) -> Settled {
+        Settled { stage, kinds, table, since }
     }
 
     /// The settled stage: the least, from 1 up, that relates no two fields of reached kinds but those that are the same. The page has it after `stages`.
@@ -97,6 +98,26 @@ impl Settled {
     /// ```
     pub fn is_prime(&self, kind: usize) -> Result<bool, Refusal> {
         Ok(self.row(kind)?[kind] == 1)
+    }
+
+    /// The first stage, from 1 up, at which the row of a kind became the one that is settled, and is at every later stage: of a prime kind, since when it is prime. The page has it after `since`. It is at most the settled
+    /// stage. Nothing for a kind that is out. Refused (11) is a number that is not under the number of kinds.
+    ///
+    /// ```
+    /// let sheet = std::fs::read("testdata/stage3.sheet")?;
+    /// let settled = limbatue::settle(&sheet)?;
+    /// assert_eq!(settled.since(0)?, Some(1));
+    /// assert_eq!(settled.since(1)?, Some(2)); // stage 1 does not tell it from kind 0
+    /// assert_eq!(settled.since(2)?, Some(3)); // stage 2 does not tell it from kind 1
+    /// assert!(settled.since(3).is_err());
+    ///
+    /// let sheet = std::fs::read("testdata/part_used.sheet")?; // kind 0 is out
+    /// assert_eq!(limbatue::settle(&sheet)?.since(0)?, None);
+    /// # Ok::<(), Box<dyn std::error::Error>>(())
+    /// ```
+    pub fn since(&self, kind: usize) -> Result<Option<u32>, Refusal> {
+        self.row(kind)?;
+        Ok(Some(self.since[kind]).filter(|&mark| mark > 0))
     }
 
     /// Whether a kind is out: no field of the sheet holds it, and no line leads to it from those that are held. The page has `out` for it. Refused (11) is a number that is not under the number of kinds.

@@ -1,6 +1,7 @@
 //! The library against the independent implementation: every answer, every buffer, what stands before and past it, and every session after each of its walks; and what is promised of the desks
-//! of a session, over whole days, of squads, by Compare and Prime form, of sheets that use a part of their card, by the sheets of that part, of the finer sense, by the plain one and the totals, and of frequencies, by
-//! Shelf field and Compare, on both. The comparison, the days, the squads, the parts, the finer sense and the frequencies are tried themselves too: they find each kind of difference, and each broken promise.
+//! of a session, over whole days, of squads, by Compare and Prime form, of sheets that use a part of their card, by the sheets of that part, of the finer sense, by the plain one and the totals, of frequencies, by
+//! Shelf field and Compare, and of the marks, by the rows, Compare and the page, on both. The comparison, the days, the squads, the parts, the finer sense, the frequencies and the marks are tried themselves too: they
+//! find each kind of difference, and each broken promise.
 
 use std::collections::BTreeSet;
 use std::fmt::Debug;
@@ -12,11 +13,12 @@ use independent::calls::{
 };
 use independent::counting::{Promise as Counting, try_counts};
 use independent::days::{Promise, play_days};
-use independent::filer::{Verdict, bases, compare, parting_stage, prime_form};
+use independent::filer::{Verdict, bases, compare, parting_stage, prime_form, settle_since};
 use independent::finer::{Promise as Finer, try_finer};
 use independent::frequencies::{MOST_LISTED, frequencies};
 use independent::generator::sample;
 use independent::joining::{Promise as Joining, try_squads};
+use independent::marks::{Promise as Marked, try_marks};
 use independent::norm::accept;
 use independent::page::page;
 use independent::parts::{Promise as Part, try_parts};
@@ -63,6 +65,11 @@ fn call_library(call: &Call, lent: &mut Lent, entries: usize) -> (u32, Margined<
             Call::Settle { .. } => {
                 let table = lent.table.lent_mut();
                 ffi::limbatue_settle(sheet, bytes, table.as_mut_ptr(), table.len(), values, room)
+            }
+            Call::SettleSince { .. } => {
+                let (table, since) = (lent.table.lent_mut(), lent.since.lent_mut());
+                let (rows, marks) = (table.as_mut_ptr(), since.as_mut_ptr());
+                ffi::limbatue_settle_since(sheet, bytes, rows, table.len(), marks, since.len(), values, room)
             }
             Call::RowCheck { kinds, kind, .. } | Call::Row { kinds, kind, .. } => {
                 let table = lent.table.lent();
@@ -130,7 +137,7 @@ fn call_walk(walk: &Walk, lent: &mut Lent, entries: usize) -> (u32, Margined<u64
 /// How many values the answer of a call has; of a day, that of each walk.
 fn values_of(call: &Call) -> usize {
     match call {
-        Call::Settle { .. } | Call::Page { .. } | Call::Squads { .. } => 1,
+        Call::Settle { .. } | Call::SettleSince { .. } | Call::Page { .. } | Call::Squads { .. } => 1,
         Call::RowCheck { .. } | Call::Row { .. } | Call::ShelfNumber { .. } => 2,
         Call::Compare { .. } | Call::Day(_) => 3,
         Call::Numbers => 4,
@@ -176,7 +183,7 @@ fn library(call: &Call, lent: &mut Lent) -> Answer {
         Call::Row { .. } if code != 0 => row_place(lent.table.lent(), &[]),
         _ if code != 0 => Answer::Refused(refusal(code)),
         Call::Day(_) => panic!("a day is several calls"),
-        Call::Settle { .. } => Answer::Settled { stage: values[0] as u32 },
+        Call::Settle { .. } | Call::SettleSince { .. } => Answer::Settled { stage: values[0] as u32 },
         Call::RowCheck { .. } => Answer::RowThere,
         Call::Row { .. } => Answer::Row { start: values[0] as usize, entries: values[1] as usize },
         Call::Compare { .. } if values[..3] == [0, 0, 0] => Answer::Verdict(Verdict::Same),
@@ -262,6 +269,8 @@ fn wrappers(call: &Call, lent: &mut Lent) -> Answer {
         Call::Settle { .. } => {
             limbatue::settle_into(sheet, lent.table.lent_mut()).map_or_else(refused, |stage| Answer::Settled { stage })
         }
+        Call::SettleSince { .. } => limbatue::settle_since_into(sheet, lent.table.lent_mut(), lent.since.lent_mut())
+            .map_or_else(refused, |stage| Answer::Settled { stage }),
         Call::RowCheck { kinds, kind, .. } => {
             limbatue::row(lent.table.lent(), kinds, kind).map_or_else(refused, |_| Answer::RowThere)
         }
@@ -328,6 +337,18 @@ fn owned_forms(call: &Call, lent: &mut Lent) -> Answer {
         Call::Settle { .. } => limbatue::settle(sheet).map_or_else(refused, |settled| {
             written(settled.table(), lent.table.lent_mut(), Answer::Settled { stage: settled.stage() })
         }),
+        Call::SettleSince { .. } => limbatue::settle(sheet).map_or_else(refused, |settled| {
+            let mark = |kind| settled.since(kind).expect("a kind").unwrap_or(0);
+            let marks: Vec<u32> = (0..settled.kinds()).map(mark).collect();
+            let answer = Answer::Settled { stage: settled.stage() };
+            if lent.since.lent().len() < marks.len() {
+                return Answer::Refused(TOO_SHORT);
+            }
+            match written(settled.table(), lent.table.lent_mut(), answer) {
+                refused @ Answer::Refused(_) => refused,
+                answer => written(&marks, lent.since.lent_mut(), answer),
+            }
+        }),
         Call::PrimeForm { sense, field, .. } => {
             let form = match sense {
                 Sense::Plain => limbatue::prime_form(sheet, field),
@@ -392,18 +413,21 @@ fn the_owned_forms_do_not_differ() {
 fn said_of(settled: &limbatue::Settled, kind: usize) -> String {
     if settled.is_out(kind).expect("a kind") {
         assert!(!settled.is_prime(kind).expect("a kind"));
+        assert_eq!(settled.since(kind), Ok(None));
         return "out".to_string();
     }
+    let since = settled.since(kind).expect("a kind").expect("a mark of a reached kind");
+    assert!(since >= 1 && since <= settled.stage());
     if settled.is_prime(kind).expect("a kind") {
-        return "prime".to_string();
+        return format!("since {since} prime");
     }
     let counts: Vec<String> = settled.row(kind).expect("a kind").iter().map(u32::to_string).collect();
-    format!("= {}", counts.join(" "))
+    format!("since {since} = {}", counts.join(" "))
 }
 
 #[test]
 fn a_settled_sheet_says_what_its_page_says() {
-    let (mut primes, mut products, mut out) = (0, 0, 0);
+    let (mut primes, mut products, mut out, mut later) = (0, 0, 0, 0);
     for number in 0..3_000 {
         let sheet = sample(SEED + 3, number).bytes;
         let Ok(settled) = limbatue::settle(&sheet) else { continue };
@@ -420,17 +444,19 @@ fn a_settled_sheet_says_what_its_page_says() {
             };
             assert_eq!(said, said_of(&settled, kind), "sheet {number} kind {kind}");
             assert_eq!(settled.row(kind), Ok(row), "sheet {number} kind {kind}");
-            match said {
-                "prime" => primes += 1,
-                "out" => out += 1,
+            match said.rsplit(' ').next() {
+                Some("prime") => primes += 1,
+                Some("out") => out += 1,
                 _ => products += 1,
             }
+            later += u64::from(settled.since(kind).expect("a kind") > Some(1));
         }
         assert!(lines.all(|line| !line.starts_with("kind ")), "sheet {number}");
         let past = settled.kinds();
         assert!(settled.row(past).is_err() && settled.is_prime(past).is_err() && settled.is_out(past).is_err());
+        assert_eq!(settled.since(past).map_err(|refusal| refusal.number()), Err(11));
     }
-    assert!(primes > 1_000 && products > 1_000 && out > 1_000, "{primes} {products} {out}");
+    assert!(primes > 1_000 && products > 1_000 && out > 1_000 && later > 1_000, "{primes} {products} {out} {later}");
 }
 
 #[test]
@@ -1475,6 +1501,293 @@ fn a_broken_promise_of_frequencies_is_found() {
         ("of the next field", of_the_next_field, &[Counting::Judged, Counting::Alike]),
     ] {
         let tried = try_counts(SEED, 0..2_000, wrong);
+        println!("{name}: {tried:?}");
+        assert!(promises.iter().eq(tried.broken.keys()), "{name}: {tried:?}");
+    }
+}
+
+/// Makes a call of Settle with the marks on its sheet, a table and a buffer of marks.
+type Marker = fn(&[u8], &mut [u32], &mut [u32]) -> Result<u32, Refusal>;
+
+/// Makes the calls of Settle with the marks by a function, and all others on the independent side.
+fn with_marker(call: &Call, lent: &mut Lent, marker: Marker) -> Answer {
+    match *call {
+        Call::SettleSince { .. } => marker(lent.sheets[0].lent(), lent.table.lent_mut(), lent.since.lent_mut())
+            .map_or_else(Answer::Refused, |stage| Answer::Settled { stage }),
+        _ => independent(call, lent),
+    }
+}
+
+/// Does what is asked, and then something to the marks that were written: a function gives each reached kind another, by its own and the settled stage.
+fn with_marks(sheet: &[u8], table: &mut [u32], since: &mut [u32], other: fn(u32, u32) -> u32) -> Result<u32, Refusal> {
+    let stage = settle_since(sheet, table, since)?;
+    let kinds = read(sheet).expect("an accepted sheet").kinds;
+    for mark in since[..kinds].iter_mut().filter(|mark| **mark > 0) {
+        *mark = other(*mark, stage);
+    }
+    Ok(stage)
+}
+
+/// Tells the stage after the one at which the row became what it is.
+fn one_stage_more(call: &Call, lent: &mut Lent) -> Answer {
+    with_marker(call, lent, |sheet, table, since| with_marks(sheet, table, since, |mark, _| mark + 1))
+}
+
+/// Counts the stages from 0 up.
+fn from_stage_0(call: &Call, lent: &mut Lent) -> Answer {
+    with_marker(call, lent, |sheet, table, since| with_marks(sheet, table, since, |mark, _| mark - 1))
+}
+
+/// Tells the last stage at which the row was another, where there is one.
+fn last_of_the_other_row(call: &Call, lent: &mut Lent) -> Answer {
+    with_marker(call, lent, |sheet, table, since| with_marks(sheet, table, since, |mark, _| mark.max(2) - 1))
+}
+
+/// Tells the settled stage of every kind.
+fn settled_for_all(call: &Call, lent: &mut Lent) -> Answer {
+    with_marker(call, lent, |sheet, table, since| with_marks(sheet, table, since, |_, stage| stage))
+}
+
+/// Tells stage 1 of every kind.
+fn first_for_all(call: &Call, lent: &mut Lent) -> Answer {
+    with_marker(call, lent, |sheet, table, since| with_marks(sheet, table, since, |_, _| 1))
+}
+
+/// Tells how many stages the row has been what it is.
+fn for_how_long(call: &Call, lent: &mut Lent) -> Answer {
+    with_marker(call, lent, |sheet, table, since| with_marks(sheet, table, since, |mark, stage| stage - mark + 1))
+}
+
+/// Tells since when a kind is an atom, and stage 1 of one that is none.
+fn of_primes_alone(call: &Call, lent: &mut Lent) -> Answer {
+    with_marker(call, lent, |sheet, table, since| {
+        let stage = settle_since(sheet, table, since)?;
+        let normed = accept(sheet).expect("an accepted sheet");
+        let kinds = normed.card.kinds;
+        for kind in normed.reached.into_iter().filter(|kind| table[kind * kinds + kind] != 1) {
+            since[kind] = 1;
+        }
+        Ok(stage)
+    })
+}
+
+/// Tells of each reached kind the mark of the next one.
+fn of_the_next_kind(call: &Call, lent: &mut Lent) -> Answer {
+    with_marker(call, lent, |sheet, table, since| {
+        let stage = settle_since(sheet, table, since)?;
+        let reached = accept(sheet).expect("an accepted sheet").reached;
+        let marks: Vec<u32> = reached.iter().map(|&kind| since[kind]).collect();
+        for (place, &kind) in reached.iter().enumerate() {
+            since[kind] = marks[(place + 1) % marks.len()];
+        }
+        Ok(stage)
+    })
+}
+
+/// Writes the marks in the order of the kinds, by norm, and not in kind number.
+fn in_order_of_norms(call: &Call, lent: &mut Lent) -> Answer {
+    with_marker(call, lent, |sheet, table, since| {
+        let stage = settle_since(sheet, table, since)?;
+        let normed = accept(sheet).expect("an accepted sheet");
+        let marks: Vec<u32> = normed.order.iter().map(|&kind| since[kind]).collect();
+        for (&kind, mark) in normed.reached.iter().zip(marks) {
+            since[kind] = mark;
+        }
+        Ok(stage)
+    })
+}
+
+/// Tells since when a kind has its row in the finer sense.
+fn in_the_finer_sense(call: &Call, lent: &mut Lent) -> Answer {
+    with_marker(call, lent, |sheet, table, since| {
+        let stage = settle_since(sheet, table, since)?;
+        let normed = accept(sheet).expect("an accepted sheet");
+        let settled = Refinement::first(&normed, Sense::Finer).settle();
+        for (kind, mark) in since[..normed.card.kinds].iter_mut().enumerate() {
+            *mark = settled.base().since(kind);
+        }
+        Ok(stage)
+    })
+}
+
+/// Tells stage 1 of a kind that is out.
+fn out_since_stage_1(call: &Call, lent: &mut Lent) -> Answer {
+    with_marker(call, lent, |sheet, table, since| {
+        let stage = settle_since(sheet, table, since)?;
+        let kinds = read(sheet).expect("an accepted sheet").kinds;
+        since[..kinds].iter_mut().filter(|mark| **mark == 0).for_each(|mark| *mark = 1);
+        Ok(stage)
+    })
+}
+
+/// Leaves the mark of a kind that is out as it was.
+fn out_not_written(call: &Call, lent: &mut Lent) -> Answer {
+    with_marker(call, lent, |sheet, table, since| {
+        let before = since.to_vec();
+        let stage = settle_since(sheet, table, since)?;
+        let kinds = read(sheet).expect("an accepted sheet").kinds;
+        for (mark, before) in since[..kinds].iter_mut().zip(before).filter(|(mark, _)| **mark == 0) {
+            *mark = before;
+        }
+        Ok(stage)
+    })
+}
+
+/// Writes the marks one after another, without a place for kinds that are out.
+fn of_reached_kinds_alone(call: &Call, lent: &mut Lent) -> Answer {
+    with_marker(call, lent, |sheet, table, since| {
+        let stage = settle_since(sheet, table, since)?;
+        let kinds = read(sheet).expect("an accepted sheet").kinds;
+        since[..kinds].sort_by_key(|&mark| mark == 0);
+        Ok(stage)
+    })
+}
+
+/// Has the mark of a prime kind in the table, in the place of its count.
+fn marks_in_the_table(call: &Call, lent: &mut Lent) -> Answer {
+    with_marker(call, lent, |sheet, table, since| {
+        let stage = settle_since(sheet, table, since)?;
+        let kinds = read(sheet).expect("an accepted sheet").kinds;
+        for kind in (0..kinds).filter(|kind| table[kind * kinds + kind] == 1).collect::<Vec<_>>() {
+            table[kind * kinds + kind] = since[kind];
+        }
+        Ok(stage)
+    })
+}
+
+/// Writes as many marks as there is room for.
+fn marks_cut(call: &Call, lent: &mut Lent) -> Answer {
+    with_marker(call, lent, |sheet, table, since| match settle_since(sheet, table, since) {
+        Err(TOO_SHORT) => {
+            let mut longer = [0; 32];
+            let stage = settle_since(sheet, table, &mut longer)?;
+            let length = since.len().min(32);
+            since[..length].copy_from_slice(&longer[..length]);
+            Ok(stage)
+        }
+        other => other,
+    })
+}
+
+/// Writes the table where the marks have no room.
+fn table_written_first(call: &Call, lent: &mut Lent) -> Answer {
+    with_marker(call, lent, |sheet, table, since| match settle_since(sheet, table, since) {
+        Err(TOO_SHORT) => {
+            settle_since(sheet, table, &mut [0; 32])?;
+            Err(TOO_SHORT)
+        }
+        other => other,
+    })
+}
+
+/// Writes the marks where the table has no room.
+fn marks_written_first(call: &Call, lent: &mut Lent) -> Answer {
+    with_marker(call, lent, |sheet, table, since| match settle_since(sheet, table, since) {
+        Err(TOO_SHORT) => {
+            settle_since(sheet, &mut [0; 1024], since)?;
+            Err(TOO_SHORT)
+        }
+        other => other,
+    })
+}
+
+/// Refuses marks that have no room at another place than the table.
+fn short_marks_at_place_1(call: &Call, lent: &mut Lent) -> Answer {
+    with_marker(call, lent, |sheet, table, since| match settle_since(sheet, table, since) {
+        Err(TOO_SHORT) if settle_since(sheet, &mut table.to_vec(), &mut [0; 32]).is_ok() => {
+            Err(Refusal { place: 1, ..TOO_SHORT })
+        }
+        other => other,
+    })
+}
+
+/// Looks at the buffer of the marks before the norms.
+fn room_before_norms(call: &Call, lent: &mut Lent) -> Answer {
+    with_marker(call, lent, |sheet, table, since| {
+        settle_since(sheet, table, since).map_err(|refusal| match read(sheet) {
+            Ok(card) if since.len() < card.kinds => TOO_SHORT,
+            _ => refusal,
+        })
+    })
+}
+
+/// Clears the buffer past the marks.
+fn clears_past_the_marks(call: &Call, lent: &mut Lent) -> Answer {
+    with_marker(call, lent, |sheet, table, since| {
+        let stage = settle_since(sheet, table, since)?;
+        let kinds = read(sheet).expect("an accepted sheet").kinds;
+        since[kinds..].fill(0);
+        Ok(stage)
+    })
+}
+
+#[test]
+fn other_marks_are_found() {
+    for (name, wrong) in [
+        ("one stage more", one_stage_more as Implementation),
+        ("from stage 0", from_stage_0),
+        ("last of the other row", last_of_the_other_row),
+        ("settled for all", settled_for_all),
+        ("first for all", first_for_all),
+        ("for how long", for_how_long),
+        ("of primes alone", of_primes_alone),
+        ("of the next kind", of_the_next_kind),
+        ("in order of norms", in_order_of_norms),
+        ("in the finer sense", in_the_finer_sense),
+        ("out since stage 1", out_since_stage_1),
+        ("out not written", out_not_written),
+        ("of reached kinds alone", of_reached_kinds_alone),
+        ("marks in the table", marks_in_the_table),
+        ("marks cut", marks_cut),
+        ("table written first", table_written_first),
+        ("marks written first", marks_written_first),
+        ("short marks at place 1", short_marks_at_place_1),
+        ("room before norms", room_before_norms),
+        ("clears past the marks", clears_past_the_marks),
+    ] {
+        let comparison = compare_implementations(SEED, 0..2_000, independent, wrong);
+        println!("{name}: {} of {} calls", comparison.differences.len(), comparison.calls);
+        assert!(!comparison.differences.is_empty(), "{name}");
+        for difference in &comparison.differences {
+            assert!(matches!(difference.call, Call::SettleSince { .. }), "{name}: {difference:?}");
+        }
+    }
+}
+
+#[test]
+fn the_promises_of_the_marks_are_kept() {
+    for (name, implementation) in
+        [("independent", independent as Implementation), ("library", library), ("wrappers", wrappers)]
+    {
+        let tried = try_marks(SEED, 0..5_000, implementation);
+        println!("{name}: {tried:?}");
+        assert!(tried.broken.is_empty(), "{name}: {tried:?}");
+        assert!(tried.sheets > 2_000 && tried.kinds > 10_000 && tried.out > 2_000, "{name}: {tried:?}");
+        assert!(tried.later > 5_000 && tried.between > 2_000 && tried.changed > 300, "{name}: {tried:?}");
+        assert!(tried.parted > 4_000 && tried.parted_later > 1_000 && tried.fields > 6_000, "{name}: {tried:?}");
+    }
+}
+
+#[test]
+fn a_broken_promise_of_the_marks_is_found() {
+    use Marked::{AsSettled, Greatest, OfRow, Parted, Printed, Within};
+    for (name, wrong, promises) in [
+        ("one stage more", one_stage_more as Implementation, &[Within, Greatest, Parted, Printed][..]),
+        ("from stage 0", from_stage_0, &[Within, Greatest, Parted, Printed]),
+        ("last of the other row", last_of_the_other_row, &[Greatest, Parted, Printed]),
+        ("settled for all", settled_for_all, &[Parted, Printed]),
+        ("first for all", first_for_all, &[Greatest, Parted, Printed]),
+        ("for how long", for_how_long, &[OfRow, Parted, Printed]),
+        ("of primes alone", of_primes_alone, &[OfRow, Printed]),
+        ("of the next kind", of_the_next_kind, &[OfRow, Parted, Printed]),
+        ("in order of norms", in_order_of_norms, &[OfRow, Parted, Printed]),
+        ("in the finer sense", in_the_finer_sense, &[Within, Greatest, OfRow, Parted, Printed]),
+        ("out since stage 1", out_since_stage_1, &[Within]),
+        ("out not written", out_not_written, &[Within, Greatest]),
+        ("of reached kinds alone", of_reached_kinds_alone, &[Within, OfRow, Parted, Printed]),
+        ("marks in the table", marks_in_the_table, &[AsSettled, Printed]),
+    ] {
+        let tried = try_marks(SEED, 0..2_000, wrong);
         println!("{name}: {tried:?}");
         assert!(promises.iter().eq(tried.broken.keys()), "{name}: {tried:?}");
     }

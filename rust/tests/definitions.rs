@@ -62,6 +62,10 @@ struct Compared {
     too_large: u64,
     /// Cards that settle past stage 1.
     later_stages: u64,
+    /// Kinds whose mark is over 1; of them, those whose mark is under the settled stage.
+    marks: [u64; 2],
+    /// Kinds that are no primes and whose mark is over 1.
+    changed_products: u64,
     /// Kinds that are no primes.
     products: u64,
     /// Fields called same that have other counts.
@@ -141,6 +145,7 @@ fn bases_and_verdicts() {
     assert!(compared.same_unequal > 1_000, "{compared:?}");
     assert!(compared.different.iter().all(|&count| count > 100), "{compared:?}");
     assert!(compared.parted > 5_000, "{compared:?}");
+    assert!(compared.marks.iter().all(|&kinds| kinds > 1_000) && compared.changed_products > 50, "{compared:?}");
 }
 
 /// The game is the one in which a challenger also wins as soon as the totals differ.
@@ -151,11 +156,12 @@ fn finer_bases_and_verdicts() {
     assert!(compared.part_used > 500 && compared.nothing > 100, "{compared:?}");
     assert!(compared.same_unequal > 2_000 && compared.parted_by_totals > 500, "{compared:?}");
     assert!(compared.parted_later > 200, "{compared:?}");
+    assert!(compared.marks.iter().all(|&kinds| kinds > 1_000) && compared.changed_products > 50, "{compared:?}");
     assert!(compared.different.iter().all(|&count| count > 100), "{compared:?}");
     assert!(compared.parted > 5_000, "{compared:?}");
 }
 
-/// Compares bases, settled stage, primes, verdicts and rounds on one card.
+/// Compares bases, their marks at every stage, settled stage, primes, verdicts and rounds on one card.
 fn compare_card(
     number: u64,
     bytes: &[u8],
@@ -178,6 +184,8 @@ fn compare_card(
             let one_token = counts.iter().sum::<u64>() == u64::from(normed.is_reached(kind));
             assert!(sense == Sense::Plain || one_token, "sheet {number} stage {} kind {kind}", refinement.stage());
         }
+        let marks: Vec<u32> = (0..card.kinds).map(|kind| refinement.base().since(kind)).collect();
+        assert_eq!(marks, definitions.marks(refinement.stage())?, "sheet {number} stage {}", refinement.stage());
         if refinement.is_settled() {
             break;
         }
@@ -188,6 +196,10 @@ fn compare_card(
     for &kind in &normed.reached {
         assert_eq!(definitions.is_prime(settled, kind)?, refinement.base().is_atom(kind), "sheet {number} kind {kind}");
         compared.products += u64::from(!refinement.base().is_atom(kind));
+        let mark = refinement.base().since(kind);
+        compared.marks[0] += u64::from(mark > 1);
+        compared.marks[1] += u64::from(mark > 1 && mark < settled);
+        compared.changed_products += u64::from(mark > 1 && !refinement.base().is_atom(kind));
     }
     compared.later_stages += u64::from(settled > 1);
     compared.nothing += u64::from(normed.reached.is_empty());

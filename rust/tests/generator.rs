@@ -8,6 +8,7 @@ use independent::counting::try_counts;
 use independent::finer::try_finer;
 use independent::frequencies::MOST_LISTED;
 use independent::generator::{COSTLY, Damage, FAMILIES, Family, Size, apply, draft, measured, sample, use_some};
+use independent::marks::try_marks;
 use independent::norm::{NORM_LIMIT, NormedCard, accept, kind_norms};
 use independent::page::page;
 use independent::parts::{Promise, try_parts};
@@ -53,6 +54,7 @@ fn every_refusal_and_every_answer_is_met() {
     for number in 1..=8 {
         met(&format!("numbers: refused {number}"));
     }
+    met("settle since: stage 32");
     met("numbers: done");
     for stage in 0..=8 {
         met(&format!("compare: different {stage}"));
@@ -62,10 +64,16 @@ fn every_refusal_and_every_answer_is_met() {
     }
     met("settle: stage 32");
     assert_eq!(comparison.differences.len(), 0);
-    // Of walks, of the two calls on shelf numbers, of squads and of frequencies each answer is met often.
+    // Of walks, of Settle with the marks, of the two calls on shelf numbers, of squads and of frequencies each answer is met often.
     let often = |name: &str| assert!(comparison.answers.get(name).is_some_and(|&count| count > 100), "{name}");
     for name in ["apart", "together", "spent"] {
         often(&format!("walk: {name}"));
+    }
+    for stage in 1..=3 {
+        often(&format!("settle since: stage {stage}"));
+    }
+    for number in [1, 2, 3, 4, 5, 6, 7, 8, 9, 10, 12] {
+        often(&format!("settle since: refused {number}"));
     }
     for number in [16, 1, 2, 3, 4, 5, 6, 7, 8, 11, 13, 12] {
         often(&format!("walk: refused {number}"));
@@ -113,6 +121,9 @@ fn every_refusal_and_every_answer_is_met() {
     for name in ["settle: stage 1", "settle: stage 2", "settle: stage 3", "compare: same", "finer compare: same"] {
         on_parts(name);
     }
+    for stage in 1..=3 {
+        on_parts(&format!("settle since: stage {stage}"));
+    }
     for stage in 0..=3 {
         on_parts(&format!("compare: different {stage}"));
         on_parts(&format!("finer compare: different {stage}"));
@@ -130,6 +141,7 @@ fn every_refusal_and_every_answer_is_met() {
     }
     for entry in [
         "settle",
+        "settle since",
         "compare",
         "finer compare",
         "prime form",
@@ -241,6 +253,77 @@ fn the_promises_of_the_finer_sense_are_kept() {
     assert!(tried.unequal_totals > 500 && tried.later > 50, "{tried:?}");
     assert!(tried.forms > 20_000 && tried.of_other_counts > 2_000, "{tried:?}");
     assert!(tried.rows > 10_000 && tried.of_earlier > 1_000 && tried.products > 1_000, "{tried:?}");
+}
+
+/// The marks go with Settle, with the rows, with Compare and with the page, on sheets of any size.
+#[test]
+fn the_promises_of_the_marks_are_kept() {
+    let tried = try_marks(SEED, 0..20_000, independent);
+    println!("{tried:?}");
+    assert!(tried.broken.is_empty(), "{tried:?}");
+    assert!(tried.sheets > 8_000 && tried.kinds > 50_000 && tried.out > 10_000, "{tried:?}");
+    assert!(tried.later > 10_000 && tried.between > 5_000 && tried.changed > 500, "{tried:?}");
+    assert!(tried.parted > 10_000 && tried.parted_later > 1_000 && tried.fields > 10_000, "{tried:?}");
+}
+
+/// Of what sorts a call of Settle with the marks is on an accepted sheet.
+fn sorts_of_marks(sheet: &[u8], entries: usize, marks: usize) -> BTreeSet<&'static str> {
+    let Ok(normed) = accept(sheet) else { return BTreeSet::new() };
+    let kinds = normed.card.kinds;
+    let (table_room, room) = (entries >= kinds * kinds, marks >= kinds);
+    let (answer, lent) = make(independent, &Call::SettleSince { entries: kinds * kinds, marks: kinds }, sheet);
+    let Answer::Settled { stage } = answer else { panic!("{answer:?} is no settled stage") };
+    let (rows, since) = (lent.table.lent(), lent.since.lent());
+    let of = |wanted: &dyn Fn(usize, u32) -> bool| (0..kinds).any(|kind| wanted(kind, since[kind]));
+    let is_prime = |kind: usize| rows[kind * kinds + kind] == 1;
+    let written = table_room && room;
+    let others = [
+        ("the table is too short, and the marks have room", !table_room && room),
+        ("the marks have no room, and the table does", table_room && !room),
+        ("both are too short", !table_room && !room),
+        ("both have room for just what is written", entries == kinds * kinds && marks == kinds),
+        ("both have more", entries > kinds * kinds && marks > kinds),
+        ("no kind is reached", written && normed.reached.is_empty()),
+        (
+            "a kind that is out stands before one whose mark is over 1",
+            written && {
+                let out = since.iter().position(|&mark| mark == 0);
+                out.is_some_and(|out| since[out..].iter().any(|&mark| mark > 1))
+            },
+        ),
+        ("all marks are 1", written && stage == 1 && !normed.reached.is_empty()),
+        ("a prime kind has a mark over 1", written && of(&|kind, mark| is_prime(kind) && mark > 1)),
+        ("a kind that is no prime has a mark over 1", written && of(&|kind, mark| !is_prime(kind) && mark > 1)),
+        ("a mark is over 1 and under the settled stage", written && of(&|_, mark| mark > 1 && mark < stage)),
+        ("that of a kind that is no prime", written && of(&|kind, mark| !is_prime(kind) && mark > 1 && mark < stage)),
+        ("a mark is over 8", written && of(&|_, mark| mark > 8)),
+        (
+            "there are three marks or more",
+            written && { since.iter().filter(|&&mark| mark > 0).collect::<BTreeSet<_>>().len() > 2 },
+        ),
+        (
+            "a later kind has an earlier mark",
+            written && normed.order.windows(2).any(|pair| since[pair[1]] < since[pair[0]]),
+        ),
+    ];
+    others.into_iter().filter(|&(_, there)| there).map(|(name, _)| name).collect()
+}
+
+/// What the comparison with the library meets of Settle with the marks.
+#[test]
+fn marks_of_every_sort() {
+    let mut sorts: BTreeMap<&str, u64> = BTreeMap::new();
+    for number in 0..20_000 {
+        let sheets = sheets(SEED, number);
+        for call in calls(&sheets, &mut Random::new(SEED.rotate_left(32) ^ number)) {
+            let Call::SettleSince { entries, marks } = call else { continue };
+            for sort in sorts_of_marks(&sheets[0], entries, marks) {
+                *sorts.entry(sort).or_default() += 1;
+            }
+        }
+    }
+    println!("{sorts:#?}");
+    assert!(sorts.len() == 15 && sorts.values().all(|&count| count > 20), "{sorts:#?}");
 }
 
 /// Of what sorts a call of Squads on an accepted sheet is, with the forms and the counts of its fields.

@@ -1,9 +1,9 @@
-//! The stored pages, walks, shelf numbers, squads, finer answers and frequencies, and document 01's examples, of the independent side; the stored frequencies are asked of the library too.
+//! The stored pages, walks, shelf numbers, squads, finer answers and frequencies, and document 01's examples, of the independent side; the stored pages and frequencies are asked of the library too.
 
 use std::fs;
 use std::path::{Path, PathBuf};
 
-use independent::filer::{Verdict, compare, prime_form, row, settle};
+use independent::filer::{Verdict, compare, prime_form, row, settle, settle_since};
 use independent::frequencies::frequencies;
 use independent::page::page;
 use independent::reached::reached_kinds;
@@ -43,8 +43,35 @@ fn pages_agree() {
     let pages = pages();
     for (name, sheet, expected) in &pages {
         assert_eq!(page(sheet), *expected, "{name}");
+        assert_eq!(limbatue::page(sheet), *expected, "{name}");
     }
     assert_eq!(pages.len(), 86);
+}
+
+/// The marks of the stored pages are those that Settle writes: the numbers after `since`, and 0 for a kind that is out.
+#[test]
+fn marks_agree() {
+    let (mut kinds, mut out, mut later) = (0, 0, 0);
+    for (name, sheet, page) in pages() {
+        let printed: Vec<u32> = page
+            .lines()
+            .filter(|line| line.starts_with("kind "))
+            .map(|line| match line.split(' ').collect::<Vec<_>>()[..] {
+                ["kind", _, "norm", _, "since", mark, "prime" | "=", ..] => mark.parse().expect("a number"),
+                ["kind", _, "out"] => 0,
+                _ => panic!("{name}: {line}"),
+            })
+            .collect();
+        let (mut table, mut since) = ([7; 1024], [7; 32]);
+        let settled = settle_since(&sheet, &mut table, &mut since);
+        assert_eq!(settled.is_err(), page.starts_with("refused "), "{name}");
+        assert_eq!(since[..printed.len()], printed, "{name}");
+        assert!(since[printed.len()..].iter().all(|&mark| mark == 7), "{name}");
+        kinds += printed.len();
+        out += printed.iter().filter(|&&mark| mark == 0).count();
+        later += printed.iter().filter(|&&mark| mark > 1).count();
+    }
+    assert!(kinds > 300 && out > 50 && later > 50, "{kinds} {out} {later}");
 }
 
 /// The stored sheets that have a kind that is out. The pages of all others are those that they had before there were such.
@@ -221,6 +248,16 @@ fn refused_calls_alter_nothing() {
     let mut table = [7; 3];
     let refusal = settle(&sheet("page36"), &mut table).expect_err("a table of three entries is too short");
     assert_eq!((refusal.number, refusal.place, table), (12, 0, [7; 3]));
+    // With the marks: a table of four entries and two marks are needed, and a sheet that is refused is so before.
+    let (mut table, mut since) = ([7; 4], [7; 2]);
+    for (sheet, entries, marks, refused) in
+        [("page36", 3, 2, (12, 0)), ("page36", 4, 1, (12, 0)), ("page36", 0, 0, (12, 0)), ("two_traps", 0, 0, (9, 0))]
+    {
+        let refusal = settle_since(&self::sheet(sheet), &mut table[..entries], &mut since[..marks]).expect_err("short");
+        assert_eq!(((refusal.number, refusal.place), table, since), (refused, [7; 4], [7; 2]));
+    }
+    assert_eq!(settle_since(&sheet("page36"), &mut table, &mut since), Ok(1));
+    assert_eq!((table, since), ([1, 0, 2, 0], [1, 1]));
     // 16 comes before everything else, on no bytes too; 12 comes last.
     let mut session = Session { allowances: [5; DESKS] };
     let mut short = [5; DESKS - 1];

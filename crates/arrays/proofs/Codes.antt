@@ -13,8 +13,8 @@ use Rattle.model.specs.Norm.{kindNorm}
 use Rattle.model.specs.Limits.{normLimit}
 use Rattle.model.specs.Sheet.{u16At, kindCount, lineCount, lineOf, codeCount, cardOf}
 use Rattle.theory.specs.Widths.{Bytes}
-use Rattle.model.specs.Refusal.{Check, check, Finding, clear, refusal, firstOf, headerChecks, lineChecks, normChecks, sheetChecks, acceptChecks, settleChecks, compareChecks, formChecks, walkChecks, rowChecks, shelfNumberChecks, shelfFieldChecks, squadsChecks, frequenciesChecks}
-use Rattle.model.specs.Answer.{Answer, refused, given, Lent, Session, Walked, rowCheckOf, settleOf, compareIn, formingIn, walkOf, shelfNumberOf, shelfFieldOf, squadsOf, frequenciesOf}
+use Rattle.model.specs.Refusal.{Check, check, Finding, clear, refusal, firstOf, headerChecks, lineChecks, normChecks, sheetChecks, acceptChecks, settleChecks, settleSinceChecks, compareChecks, formChecks, walkChecks, rowChecks, shelfNumberChecks, shelfFieldChecks, squadsChecks, frequenciesChecks}
+use Rattle.model.specs.Answer.{Answer, refused, given, Lent, LentMarks, Session, Walked, rowCheckOf, settleOf, settleSinceOf, compareIn, formingIn, walkOf, shelfNumberOf, shelfFieldOf, squadsOf, frequenciesOf}
 use Rattle.theory.proofs.Sheets.{then, first-append}
 use Rattle.arrays.specs.Reply.{codeOf}
 
@@ -105,6 +105,10 @@ module _ (s : List ℕ) (bytes : Bytes s) where
   unfolding settleChecks
   settle-small size = small-append (acceptChecks s) _ accept-small (small-last 12 0 _ (omega arith) (omega arith))
 
+  since-small : (size marks : ℕ) → Small (firstOf (settleSinceChecks s size marks))
+  unfolding settleSinceChecks
+  since-small size marks = small-append (acceptChecks s) _ accept-small (small-cons 12 0 _ _ (omega arith) (omega arith) (small-last 12 0 _ (omega arith) (omega arith)))
+
   compare-small : (i j : ℕ) → Small (firstOf (compareChecks s i j))
   unfolding compareChecks
   compare-small i j = small-append (acceptChecks s) _ accept-small (small-cons 11 0 _ _ (omega arith) (omega arith) (small-last 11 1 _ (omega arith) (omega arith)))
@@ -166,6 +170,11 @@ module _ (s : List ℕ) (bytes : Bytes s) (k p : ℕ) where
   pub settle-fits : (table : List ℕ) → settleOf s table .answer ≡ refused k p → codeOf k p < 2 ^ 32
   unfolding settleOf
   settle-fits table = refused-fits (λ (x : Lent ℕ). x .answer) _ _ _ refl (λ k p. refl) (firstOf (settleChecks s (length table))) (settle-small s bytes (length table)) k p
+
+  pub since-fits : (table marks : List ℕ) → settleSinceOf s table marks .answer ≡ refused k p → codeOf k p < 2 ^ 32
+  unfolding settleSinceOf
+  since-fits table marks =
+      refused-fits (λ (x : LentMarks ℕ). x .answer) _ _ _ refl (λ k p. refl) (firstOf (settleSinceChecks s (length table) (length marks))) (since-small s bytes (length table) (length marks)) k p
 
   pub compare-fits : (sense : Sense) (i j : ℕ) → compareIn sense s i j ≡ refused k p → codeOf k p < 2 ^ 32
   unfolding compareIn

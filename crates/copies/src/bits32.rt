@@ -1,7 +1,8 @@
 // Numbers of 32 bits.
 ghost use mathlib.Core.Path.{_≡_};
-ghost use Prim.Native.Nat.{_+_, _≤_};
+ghost use Prim.Native.Nat.{ℕ, _+_, _^_, _≤_, _<_};
 ghost use lib.ListN.{length, take};
+ghost use Rattle.model.specs.Field.{at};
 ghost use Rattle.model.specs.Limits.{mostKinds};
 ghost use Rattle.model.specs.Answer.{written};
 
@@ -14,6 +15,19 @@ pub fn write_u32(values: &[u32], buffer: &mut [u32])
     while next < values.len() {
         buffer[next] = values[next];
         next += 1;
+    }
+}
+
+// The values, each of which has 32 bits at most, to the front of a lent buffer; what it holds past them stays.
+pub fn narrow_usize(values: &[usize], buffer: &mut [u32])
+    requires { ⌜ length (now values) ≤ length (now buffer) ⌝ }
+    requires { ⌜ ((i : ℕ) → i < length (now values) → at (now values) i < 2 ^ 32) ⌝ }
+    ensures { λ _. ⌜ now (buffer .exit) ≡ written (now (values .entry)) (now (buffer .entry)) ⌝ }
+{
+    let mut i = 0;
+    while i < values.len() {
+        buffer[i] = values[i] as u32;
+        i += 1;
     }
 }
 

@@ -1,4 +1,5 @@
 pub mod Outcomes
+pub mod SinceOutcomes
 pub mod WalkOutcomes
 pub mod SquadsOutcomes
 pub mod PageOutcomes

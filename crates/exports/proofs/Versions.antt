@@ -1,6 +1,6 @@
--- Version 0.9.0 as one number.
+-- Version 0.10.0 as one number.
 use mathlib.Core.Path.{_≡_, refl}
 use Rattle.exports.specs.Version.{version}
 
-pub version-number : version ≡ 900
+pub version-number : version ≡ 1000
 version-number = refl

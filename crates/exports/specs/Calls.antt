@@ -7,7 +7,7 @@ use lib.ListN.{length, take}
 use Rattle.model.specs.Sheet.{kindCount, codeCount, lineCount, fieldCount}
 use Rattle.model.specs.Refusal.{Finding, clear, refusal, firstOf, sheetChecks, acceptChecks, squadsChecks}
 use Rattle.model.specs.Walk.{WalkAnswer, apart, together, spent}
-use Rattle.model.specs.Answer.{Answer, refused, given, Lent, Session, Verdict, written, rowCheckOf, walkOf, settleOf, compareOf, finerCompareOf, formOf, finerFormOf, shelfNumberOf, shelfFieldOf, squadsOf, frequenciesOf}
+use Rattle.model.specs.Answer.{Answer, refused, given, Lent, Session, Verdict, written, rowCheckOf, walkOf, settleOf, settleSinceOf, compareOf, finerCompareOf, formOf, finerFormOf, shelfNumberOf, shelfFieldOf, squadsOf, frequenciesOf}
 use Rattle.page.specs.Writing.{writePageOf}
 use Rattle.arrays.specs.Reply.{codeOf, Reply, replyOf, laidOut}
 use Rattle.arrays.specs.Session.{desks, shortCodeBy}
@@ -36,7 +36,17 @@ stageValues stage = stage ∷ []
 unfoldable pub settleCall : List ℕ → List ℕ → List ℕ → Reply (List ℕ)
 settleCall s table array = let x = settleOf s table in replyOf (laidOut stageValues (x .answer)) table (x .lent) array
 
--- What Settle returns where the answer array has no room: the sheet's own refusal, else that of a short buffer.
+-- Settle with the marks (request 9 of document 02): the settled stage. The table and the buffer for the marks are lent.
+pub record TableAndMarks : Type 0 where
+  pub table : List ℕ
+  pub marks : List ℕ
+
+unfoldable pub settleSinceCall : List ℕ → List ℕ → List ℕ → List ℕ → Reply TableAndMarks
+settleSinceCall s table marks array =
+    let x = settleSinceOf s table marks in
+    replyOf (laidOut stageValues (x .answer)) (record { table = table; marks = marks }) (record { table = x .table; marks = x .marks }) array
+
+-- What Settle returns, with the marks or without, where the answer array has no room: the sheet's own refusal, else that of a short buffer.
 abbrev pub shortCode : List ℕ → ℕ
 shortCode s = shortCodeBy (firstOf (acceptChecks s))
 

@@ -5,7 +5,7 @@ abbrev pub major : ℕ
 major = 0
 
 abbrev pub minor : ℕ
-minor = 9
+minor = 10
 
 abbrev pub patch : ℕ
 patch = 0

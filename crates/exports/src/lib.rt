@@ -10,6 +10,9 @@ pub mod numbers;
 // Settle.
 pub mod settle;
 
+// Settle with the marks.
+pub mod settle_since;
+
 // Row's check.
 pub mod row;
 

@@ -8,8 +8,8 @@ use filer::Settling;
 use filer::settle::settle_sheet;
 use validation::checks::Checked;
 
-// What Settle returns where the answer array has no room: a refusal of the sheet, else 12. Nothing is settled.
-fn short_code(sheet: &[u8]) -> u32
+// What Settle returns, with the marks or without, where the answer array has no room: a refusal of the sheet, else 12. Nothing is settled.
+pub fn short_code(sheet: &[u8]) -> u32
     ensures { λ r. ⌜ r ≡ shortCode (now (sheet .entry)) ⌝ }
 {
     let acceptance = accept(sheet);

@@ -4,7 +4,7 @@ ghost use Rattle.exports.specs.Version.{version};
 
 pub const MAJOR: u32 = 0;
 
-pub const MINOR: u32 = 9;
+pub const MINOR: u32 = 10;
 
 pub const PATCH: u32 = 0;
 

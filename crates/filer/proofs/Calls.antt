@@ -1,26 +1,30 @@
 -- What the calls answer: where the sheet's checks refuse, where the call's own do, and what a settled sheet gives.
 use mathlib.Core.List.{List, []}
-use mathlib.Core.Path.{_≡_, sym, _∙_, ap}
+use mathlib.Core.Path.{_≡_, sym, _∙_, ap, ap₂}
 use Prim.Native.Nat.{ℕ, _+_, _*_, _/_, _%_, _^_, _≤_, _<_}
 use native.Mathlib.Nat.{div-add-mod'}
 use native.Mathlib.Omega.{arith}
-use lib.ListN.{length, getD}
-use lib.Seq.{ext-getD}
+use lib.ListN.{length, getD, take}
+use lib.Seq.{ext-getD, length-take-le, getD-take}
 use Rattle.model.specs.Sense.{Sense, plain}
 use Rattle.model.specs.Field.{Field, at}
-use Rattle.model.specs.Base.{gain, settledStage}
+use Rattle.model.specs.Card.{Reached}
+use Rattle.model.specs.Base.{gain, settledStage, since}
 use Rattle.model.specs.Sheet.{kindCount, fieldCount, cardOf}
-use Rattle.model.specs.Limits.{Limits}
-use Rattle.model.specs.Refusal.{refusal, firstOf, acceptChecks, Accepted, settleChecks, compareChecks, formChecks}
+use Rattle.model.specs.Limits.{mostKinds, Limits}
+use Rattle.model.specs.Refusal.{refusal, firstOf, acceptChecks, Accepted, settleChecks, settleSinceChecks, compareChecks, formChecks}
 use Rattle.theory.specs.Widths.{Bytes}
-use Rattle.model.specs.Answer.{refused, given, different, settleOf, compareIn, formingIn, tableOf, primeFormIn, written}
+use Rattle.theory.specs.Since.{Sinces}
+use Rattle.model.specs.Answer.{refused, given, different, settleOf, settleSinceOf, compareIn, formingIn, tableOf, marksOf, primeFormIn, written}
 use Rattle.theory.proofs.Checks.{first-left, first-right}
+use Rattle.theory.proofs.Reach.{dec-tells}
+use Rattle.theory.proofs.Sheets.{tells-reached}
 use Rattle.theory.proofs.Answers.{demand1}
 use Rattle.theory.proofs.Meanings.{meanings}
 use Rattle.validation.specs.Fields.{withFields}
 use Rattle.validation.specs.declared.checks.Checked.{Checked}
 use Rattle.validation.specs.declared.checks.Checked.the-variants.{Refused}
-use Rattle.validation.proofs.Checking.{past-stops, past-passes, less-stops}
+use Rattle.validation.proofs.Checking.{past-stops, past-passes, less-stops, less-passes}
 use Rattle.validation.proofs.FieldNumbers.{fields-refused}
 use Rattle.sheet.proofs.Laws.{fields-are}
 use Rattle.acceptance.specs.Acceptance.{acceptanceOf}
@@ -43,6 +47,10 @@ module _ (s : List ℕ) where
     unfolding settleChecks
     settle-refused table = demand1 s .settle-refused table k p (first-left (acceptChecks s) _ k p e)
 
+    pub since-refused : (table marks : List ℕ) → settleSinceOf s table marks ≡ record { answer = refused k p; table = table; marks = marks }
+    unfolding settleSinceChecks
+    since-refused table marks = demand1 s .since-refused table marks k p (first-left (acceptChecks s) _ k p e)
+
     pub form-refused : (sense : Sense) (i : ℕ) (buffer : List ℕ) → formingIn sense s i buffer ≡ record { answer = refused k p; lent = buffer }
     unfolding formChecks
     form-refused sense i buffer = demand1 s .form-refused sense i buffer k p (first-left (acceptChecks s) _ k p e)
@@ -52,6 +60,18 @@ module _ (s : List ℕ) where
     pub table-short : (table : List ℕ) → length table < kindCount s * kindCount s → settleOf s table ≡ record { answer = refused 12 0; lent = table }
     unfolding Accepted settleChecks
     table-short table h = demand1 s .settle-refused table 12 0 (first-right (acceptChecks s) _ ok ∙ less-stops 12 0 [] (length table) (kindCount s * kindCount s) h)
+
+    pub since-table-short : (table marks : List ℕ) → length table < kindCount s * kindCount s → settleSinceOf s table marks ≡ record { answer = refused 12 0; table = table; marks = marks }
+    unfolding Accepted settleSinceChecks
+    since-table-short table marks h =
+        demand1 s .since-refused table marks 12 0 (first-right (acceptChecks s) _ ok ∙ less-stops 12 0 _ (length table) (kindCount s * kindCount s) h)
+
+    pub since-marks-short : (table marks : List ℕ) → kindCount s * kindCount s ≤ length table → length marks < kindCount s
+        → settleSinceOf s table marks ≡ record { answer = refused 12 0; table = table; marks = marks }
+    unfolding Accepted settleSinceChecks
+    since-marks-short table marks h l =
+        demand1 s .since-refused table marks 12 0
+        (first-right (acceptChecks s) _ ok ∙ less-passes 12 0 _ (length table) (kindCount s * kindCount s) h ∙ less-stops 12 0 [] (length marks) (kindCount s) l)
 
     pub no-field : (sense : Sense) (i : ℕ) (buffer : List ℕ) → fieldCount s ≤ i → formingIn sense s i buffer ≡ record { answer = refused 11 0; lent = buffer }
     unfolding Accepted formChecks
@@ -83,6 +103,34 @@ module _ (s : List ℕ) where
     pub settle-given : (rows table : List ℕ) → BaseAt plain s (settledStage (cardOf s)) rows → kindCount s * kindCount s ≤ length table
         → settleOf s table ≡ record { answer = given (settledStage (cardOf s)); lent = written (tableIn (kindCount s) rows) table }
     settle-given rows table B h = demand1 s .settled limits table h ∙ ap (λ (xs : List ℕ). record { answer = given (settledStage (cardOf s)); lent = written xs table }) (sym (table-is rows B))
+
+    -- The marks of the settled base: the first n of the array, each at most 32.
+    module _ (marked : List ℕ) (long : kindCount s ≤ length marked) (are : (k : ℕ) → k < kindCount s → at marked k ≡ since (cardOf s) k) where
+      marks-are : take (kindCount s) marked ≡ marksOf s
+      marks-are = ext-getD 0 (take (kindCount s) marked) (marksOf s) (length-take-le (kindCount s) marked long ∙ sym (demand1 s .marks-size)) each
+        where
+          each : (k : ℕ) → k < length (take (kindCount s) marked) → getD (take (kindCount s) marked) k 0 ≡ getD (marksOf s) k 0
+          each k l =
+              let h : k < kindCount s = omega (arith, length-take-le (kindCount s) marked long) in
+              getD-take (kindCount s) marked k 0 h ∙ are k h ∙ sym (demand1 s .since-marks k h)
+
+      pub marks-small : Bytes s → (k : ℕ) → k < kindCount s → at marked k ≤ mostKinds
+      marks-small bytes k h = go (dec-tells _ (tells-reached s ok k))
+        where
+          S : Sinces {0} plain (cardOf s)
+          S = meanings {0} .sinces plain s ok
+
+          go : Dec (Reached (cardOf s) k) → at marked k ≤ mostKinds
+          go (yes v) = omega (arith, are k h, S .most k v, meanings {0} .widths s bytes ok .stage-most plain)
+          go (no v) = omega (arith, are k h, S .out k v)
+
+      -- Settle with the marks: the stage, the table written, and the marks.
+      pub since-given : (rows table marks : List ℕ) → BaseAt plain s (settledStage (cardOf s)) rows → kindCount s * kindCount s ≤ length table → kindCount s ≤ length marks
+          → settleSinceOf s table marks
+          ≡ record { answer = given (settledStage (cardOf s)); table = written (tableIn (kindCount s) rows) table; marks = written (take (kindCount s) marked) marks }
+      since-given rows table marks B h l =
+          demand1 s .since-given table marks (demand1 s .since-taken (length table) (length marks) .1 (limits, h, l))
+          ∙ ap₂ (λ (xs ys : List ℕ). record { answer = given (settledStage (cardOf s)); table = written xs table; marks = written ys marks }) (sym (table-is rows B)) (sym marks-are)
 
     -- Prime form: the counts written, where the first n of them are the prime form.
     pub form-given : (sense : Sense) (i : ℕ) (counts buffer : List ℕ) → i < fieldCount s → kindCount s ≤ length buffer → counts ≡ primeFormIn sense s i

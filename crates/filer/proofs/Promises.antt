@@ -2,7 +2,7 @@
 use mathlib.Core.List.{List, []}
 use mathlib.Core.Logic.{_↔_, Iff·symm, Iff·trans, _⊎_, inl, inr}
 use mathlib.Core.Path.{_≡_, refl, sym, _∙_, ap, fun-ext}
-use Prim.Native.Nat.{ℕ, _+_, _*_, _≤_, _<_, max}
+use Prim.Native.Nat.{ℕ, zero, suc, _+_, _*_, _≤_, _<_, max}
 use native.Mathlib.Decide.{decLt}
 use native.Mathlib.Nat.{mul-le-mul-right, suc-mul}
 use native.Mathlib.Omega.{arith}
@@ -10,17 +10,18 @@ use lib.ListN.{length, take, List·getD-append}
 use lib.Seq.{take-at}
 use Rattle.model.specs.Field.{Field, unit, at}
 use Rattle.model.specs.Card.{Card, Reached, reachedCount}
-use Rattle.model.specs.Base.{settledStage, settledRow}
+use Rattle.model.specs.Base.{stageRowIn, settledStage, settledRow, since}
 use Rattle.model.specs.Sense.{Sense, plain, finer}
 use Rattle.theory.specs.Game.{Strategy, Answered}
 use Rattle.theory.specs.FinerGame.{FinerAnswered, AlwaysIn, AnsweredIn}
 use Rattle.model.specs.Sheet.{kindCount, fieldCount, cardOf, fieldOf}
 use Rattle.model.specs.Limits.{Limits}
-use Rattle.model.specs.Refusal.{Accepted, clear, refusal, firstOf, settleChecks, compareChecks, formChecks}
+use Rattle.model.specs.Refusal.{Accepted, clear, refusal, firstOf, settleChecks, settleSinceChecks, compareChecks, formChecks}
 use Rattle.theory.specs.Terms.{Before, BaseOf, Stage, Prime, Settled as IsSettled}
+use Rattle.theory.specs.Since.{Sinces}
 use Rattle.theory.specs.Meanings.{Settles}
 use Rattle.theory.specs.Demands.{Demand2, Demand3}
-use Rattle.model.specs.Answer.{refused, given, Lent, same, different, settleOf, compareIn, formingIn, rowOf, rowCheckOf, tableOf, primeFormIn, written}
+use Rattle.model.specs.Answer.{refused, given, Lent, LentMarks, same, different, settleOf, settleSinceOf, compareIn, formingIn, rowOf, rowCheckOf, tableOf, marksOf, primeFormIn, written}
 use Rattle.theory.proofs.Lists.{length-from}
 use Rattle.theory.proofs.Field.{unit-same, unit-other}
 use Rattle.theory.proofs.Sheets.{sheet-clear, tells-reached, under-kinds, field-kinds}
@@ -30,7 +31,7 @@ use Rattle.theory.proofs.Demands.{demands}
 use Rattle.theory.proofs.Told.{told, found, answer-of, lent-of}
 use Rattle.theory.proofs.Meanings.{meanings}
 use Rattle.filer.specs.Answers.{settlingOf, findingOf, verdictOf, formingOf}
-use Rattle.filer.specs.Promises.{SettleAnswers, SettleMeans, RowAnswers, CompareAnswers, CompareMeans, CompareGames, FormAnswers, FormMeans, Promises}
+use Rattle.filer.specs.Promises.{SettleAnswers, SettleMeans, SinceAnswers, SinceMeans, RowAnswers, CompareAnswers, CompareMeans, CompareGames, FormAnswers, FormMeans, Promises}
 use Rattle.filer.specs.declared.answers.Settling.{Settling}
 use Rattle.filer.specs.declared.answers.Settling.the-variants.{Settled, Refused as NotSettled}
 use Rattle.filer.specs.declared.answers.RowCheck.{RowCheck}
@@ -182,6 +183,75 @@ module _ (s table : List ℕ) (answer : Settling) (after : List ℕ) (e : settli
       prime = λ k h. rw (row-is k h) (own-row {ℓ} k (dec-tells _ (tells-reached s ok k)));
     }
 
+-- Settle with the marks.
+module _ (s table marks : List ℕ) (answer : Settling) (after marked : List ℕ) (e : settlingOf answer ≡ settleSinceOf s table marks .answer) (d : after ≡ settleSinceOf s table marks .table) (m : marked ≡ settleSinceOf s table marks .marks) where
+  since-refused : (k p : ℕ) → (answer ≡ NotSettled k p) ↔ (firstOf (settleSinceChecks s (length table) (length marks)) ≡ refusal k p)
+  unfolding settleSinceOf
+  since-refused k p =
+      Iff·trans (told settlingOf settling-only answer e (NotSettled k p))
+      (found (λ (x : LentMarks ℕ). x .answer) (record { answer = given (settledStage (cardOf s)); table = written (tableOf s) table; marks = written (marksOf s) marks })
+      (λ k p. record { answer = refused k p; table = table; marks = marks }) (settledStage (cardOf s)) refl (λ k p. refl) (firstOf (settleSinceChecks s (length table) (length marks))) k p)
+
+  since-given : Limits s → kindCount s * kindCount s ≤ length table → kindCount s ≤ length marks
+      → (answer ≡ Settled (settledStage (cardOf s))) × (after ≡ written (tableOf s) table) × (marked ≡ written (marksOf s) marks)
+  since-given L h l =
+      let r = demand1 s .since-given table marks (demand1 s .since-taken (length table) (length marks) .1 (L, h, l)) in
+      (settling-only answer (Settled (settledStage (cardOf s))) (e ∙ ap (λ (x : LentMarks ℕ). x .answer) r), d ∙ ap (λ (x : LentMarks ℕ). x .table) r, m ∙ ap (λ (x : LentMarks ℕ). x .marks) r)
+
+  since-answers : SinceAnswers s table marks answer after marked
+  since-answers = record {
+    given = since-given;
+    refused = since-refused;
+    unchanged = λ k p h.
+        let r = demand1 s .since-refused table marks k p (since-refused k p .0 h) in
+        (d ∙ ap (λ (x : LentMarks ℕ). x .table) r, m ∙ ap (λ (x : LentMarks ℕ). x .marks) r);
+    size = (demand1 s .table-size, demand1 s .marks-size);
+    past = λ e.
+        let p = demand1 s .since-past table marks e in
+        ((λ h. ap (λ (xs : List ℕ). at xs e) d ∙ p .0 h), (λ h. ap (λ (xs : List ℕ). at xs e) m ∙ p .1 h));
+    long = (ap length d ∙ demand1 s .since-lengths table marks .0, ap length m ∙ demand1 s .since-lengths table marks .1);
+  }
+
+  module _ (ok : Accepted s) (room : kindCount s * kindCount s ≤ length table) (space : kindCount s ≤ length marks) where
+    all-given : (answer ≡ Settled (settledStage (cardOf s))) × (after ≡ written (tableOf s) table) × (marked ≡ written (marksOf s) marks)
+    all-given = since-given (demand1 s .accepted .0 ok) room space
+
+    -- Settle answers the same, and leaves the same table.
+    as-settled : (settlingOf answer ≡ settleOf s table .answer) × (after ≡ settleOf s table .lent)
+    as-settled =
+        let r = demand1 s .settled (demand1 s .accepted .0 ok) table room in
+        (ap settlingOf (all-given .0) ∙ sym (answer-of r), all-given .1 ∙ sym (lent-of r))
+
+    -- Entry k of the buffer is the mark of kind k.
+    mark-is : (k : ℕ) → k < kindCount s → at marked k ≡ since (cardOf s) k
+    unfolding written
+    mark-is k h = ap (λ (xs : List ℕ). at xs k) (all-given .2) ∙ List·getD-append (marksOf s) _ 0 k (omega (arith, demand1 s .marks-size)) ∙ demand1 s .since-marks k h
+
+    -- The row that Row hands out is that of the final base, and the base at a stage is the one of that stage.
+    final-row : (k : ℕ) → Reached (cardOf s) k → at (rowOf (kindCount s) k after) ≡ settledRow (cardOf s) k
+    final-row k v = row-is s table answer after (as-settled .0) (as-settled .1) ok room k (under-kinds s k v)
+
+    base-row : (k : ℕ) → Reached (cardOf s) k → (q : ℕ) → 1 ≤ q → (rows : ℕ → Field) → BaseOf (cardOf s) (Stage (cardOf s) q) rows → rows k ≡ stageRowIn plain (cardOf s) q k
+    base-row k v zero h rows B = absurd (omega arith)
+    base-row k v (suc q) h rows B = meanings {0} .settles plain s ok .only q rows B k v
+
+    since-means {ℓ} : SinceMeans {ℓ} s table answer after marked
+    since-means = record {
+      settle = as-settled;
+      from = λ k v. rw (mark k v) (S .from k v);
+      most = λ t h k v. let a = all-given .0 in let z : settledStage (cardOf s) ≡ t = cc in rw (mark k v, ← z) (S .most k v);
+      stays = λ k v q h rows B. base-row k v q (omega (arith, S .from k v, mark k v)) rows B ∙ S .stays k v q (rw (mark k v) at h) ∙ sym (final-row k v);
+      first = λ k v q i h rows B z. S .first k v q i (rw (mark k v) at h) (sym (base-row k v q i rows B) ∙ z ∙ final-row k v);
+      prime = λ k x q i rows B. rw (base-row k (x .0) q i rows B, mark k (x .0)) (S .prime k x q i);
+      out = λ k h v. mark-is k h ∙ S .out k v;
+    }
+      where
+        S : Sinces {ℓ} plain (cardOf s)
+        S = meanings {ℓ} .sinces plain s ok
+
+        mark : (k : ℕ) → Reached (cardOf s) k → at marked k ≡ since (cardOf s) k
+        mark k v = mark-is k (under-kinds s k v)
+
 -- Row.
 row-answers : (n k : ℕ) (table : List ℕ) (answer : RowCheck) (part : List ℕ)
     → findingOf answer ≡ rowCheckOf n k table → part ≡ rowOf n k table → RowAnswers n k table answer part
@@ -296,6 +366,8 @@ pub promises {ℓ} : Promises {ℓ}
 promises = record {
   settle-answers = settle-answers;
   settle-means = λ s table answer after e d ok room. settle-means s table answer after e d ok room;
+  since-answers = since-answers;
+  since-means = λ s table marks answer after marked e d m ok room space. since-means s table marks answer after marked e d m ok room space;
   row-answers = row-answers;
   compare-answers = compare-answers;
   compare-means = λ sense s i j answer e ok h l. compare-means sense s i j answer e ok h l;

@@ -4,13 +4,15 @@ use mathlib.Core.Path.{_≡_, sym, _∙_, ap}
 use Prim.Native.Nat.{ℕ, _*_, _^_, _≤_, _<_}
 use native.Mathlib.Omega.{arith}
 use lib.ListN.{length, take}
+use lib.Seq.{length-take-le, getD-take}
 use Rattle.model.specs.Sense.{Sense, plain}
 use Rattle.model.specs.Norm.{kindNorm}
 use Rattle.model.specs.Base.{settledStageIn, roundsAt}
 use Rattle.model.specs.Sheet.{kindCount, fieldCount, cardOf, fieldOf}
+use Rattle.model.specs.Field.{at}
 use Rattle.model.specs.Refusal.{Finding, clear, refusal, firstOf, acceptChecks, Accepted}
 use Rattle.theory.specs.Widths.{Bytes}
-use Rattle.model.specs.Answer.{refused, given, same, different, settleOf, compareIn, primeFormIn, formingIn, written}
+use Rattle.model.specs.Answer.{Answer, refused, given, LentMarks, same, different, settleOf, settleSinceOf, compareIn, primeFormIn, formingIn, written}
 use Rattle.sheet.specs.declared.reader.Card.{Card}
 use Rattle.validation.specs.Fields.{withFields}
 use Rattle.validation.specs.declared.checks.Checked.the-variants.{Passed, Refused}
@@ -26,7 +28,7 @@ use Rattle.stages.proofs.Outcomes.{compare-different, compare-same}
 use Rattle.filer.specs.declared.settlement.Settlement.{Settlement}
 use Rattle.filer.specs.Settlement.{IsSettlement, tableIn}
 use Rattle.theory.proofs.Told.{gives}
-use Rattle.filer.proofs.Calls.{settle-refused, compare-refused, form-refused, table-short, no-field, buffer-short, settle-given, form-given, rounds-fit}
+use Rattle.filer.proofs.Calls.{settle-refused, since-refused, compare-refused, form-refused, table-short, since-table-short, since-marks-short, no-field, buffer-short, settle-given, marks-small, since-given, form-given, rounds-fit}
 
 -- The core function's answer, from the check of the sheet.
 module _ (sense : Sense) (s : List ℕ) (a : Acceptance) (e : a ≡ acceptanceOf s) (settled : Settled) where
@@ -126,3 +128,44 @@ module _ {s : List ℕ} {x : Settlement} (X : IsSettlement plain s x) (table : L
         let S = was-settled X c e in
         let g = gives (settle-given s (ok X c e) (x .settled .base .rows) table (S .base-is) (rw (kinds X c e) at h)) in
         (ap given (S .stage-is) ∙ g .0, w ∙ ap (λ (n : ℕ). written (tableIn n (x .settled .base .rows)) table) (kinds X c e) ∙ g .1)
+
+-- The marks of the card's kinds fit 32 bits.
+pub marks-fit : {s : List ℕ} {x : Settlement} (X : IsSettlement plain s x) (c : Card) → x .checked ≡ Passed c → c .kinds ≤ length (x .settled .base .since) → Bytes s
+    → (k : ℕ) → k < length (take (c .kinds) (x .settled .base .since)) → at (take (c .kinds) (x .settled .base .since)) k < 2 ^ 32
+marks-fit {s} {x} X c e long bytes k l =
+    let u : k < c .kinds = omega (arith, length-take-le (c .kinds) (x .settled .base .since) long) in
+    let small = marks-small s (ok X c e) (x .settled .base .since) (rw (kinds X c e) at long) (was-settled X c e .since-are) bytes k (omega (arith, kinds X c e)) in
+    omega (arith, getD-take (c .kinds) (x .settled .base .since) k 0 u, small)
+
+-- What a contract asks of the call with the marks, from what it comes to.
+marked-gives : {x y : LentMarks ℕ} → x ≡ y → (y .answer ≡ x .answer) × ((y .table ≡ x .table) × (y .marks ≡ x .marks))
+marked-gives e = (ap (λ (z : LentMarks ℕ). z .answer) (sym e), (ap (λ (z : LentMarks ℕ). z .table) (sym e), ap (λ (z : LentMarks ℕ). z .marks) (sym e)))
+
+-- Settle with the marks, of the plain sense too.
+module _ {s : List ℕ} {x : Settlement} (X : IsSettlement plain s x) (table marks : List ℕ) where
+  -- What its contract says of an answer and of what is left in the two.
+  abbrev Tells : Answer ℕ → List ℕ → List ℕ → Type 0
+  Tells answer after marked = (answer ≡ settleSinceOf s table marks .answer) × ((after ≡ settleSinceOf s table marks .table) × (marked ≡ settleSinceOf s table marks .marks))
+
+  pub since-refuses : (k p : ℕ) → x .checked ≡ Refused k p → Tells (refused k p) table marks
+  since-refuses k p e = marked-gives (since-refused s k p (found X k p e) table marks)
+
+  module _ (c : Card) (e : x .checked ≡ Passed c) where
+    pub table-too-short : length table < c .kinds * c .kinds → Tells (refused 12 0) table marks
+    table-too-short h = marked-gives (since-table-short s (ok X c e) table marks (rw (kinds X c e) at h))
+
+    module _ (h : c .kinds * c .kinds ≤ length table) where
+      pub marks-too-short : length marks < c .kinds → Tells (refused 12 0) table marks
+      marks-too-short l = marked-gives (since-marks-short s (ok X c e) table marks (rw (kinds X c e) at h) (rw (kinds X c e) at l))
+
+      pub since-writes : (after marked : List ℕ) → c .kinds ≤ length (x .settled .base .since) → c .kinds ≤ length marks → after ≡ written (tableIn (c .kinds) (x .settled .base .rows)) table
+          → marked ≡ written (take (c .kinds) (x .settled .base .since)) marks → Tells (given (x .settled .stage)) after marked
+      since-writes after marked long l w v =
+          let S = was-settled X c e in
+          let g = marked-gives (since-given s (ok X c e) (x .settled .base .since) (rw (kinds X c e) at long) (S .since-are) (x .settled .base .rows) table marks (S .base-is) (rw (kinds X c e) at h) (rw (kinds X c e) at l)) in (
+            ap given (S .stage-is) ∙ g .0,
+            (
+              w ∙ ap (λ (n : ℕ). written (tableIn n (x .settled .base .rows)) table) (kinds X c e) ∙ g .1 .0,
+              v ∙ ap (λ (n : ℕ). written (take n (x .settled .base .since)) marks) (kinds X c e) ∙ g .1 .1,
+            ),
+          )

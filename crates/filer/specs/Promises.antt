@@ -5,7 +5,7 @@ use mathlib.Core.Logic.{_↔_, _⊎_}
 use mathlib.Core.Path.{_≡_}
 use Prim.Native.Nat.{ℕ, _+_, _-_, _*_, _≤_, _<_, min, max}
 use lib.ListN.{length, take, drop}
-use Rattle.model.specs.Field.{none, unit, at}
+use Rattle.model.specs.Field.{Field, none, unit, at}
 use Rattle.model.specs.Card.{On, Reached, reachedCount}
 use Rattle.model.specs.Norm.{IsNorm}
 use Rattle.model.specs.Sense.{Sense, plain, finer}
@@ -15,9 +15,9 @@ use Rattle.theory.specs.Game.{Strategy, Challenge}
 use Rattle.theory.specs.FinerGame.{HoldsIn, AlwaysIn, PartingIn, PartedIn, AnsweredIn}
 use Rattle.model.specs.Sheet.{kindCount, fieldCount, cardOf, fieldOf}
 use Rattle.model.specs.Limits.{mostKinds, Limits}
-use Rattle.model.specs.Refusal.{Accepted, refusal, firstOf, settleChecks, compareChecks, formChecks, rowChecks}
+use Rattle.model.specs.Refusal.{Accepted, refusal, firstOf, settleChecks, settleSinceChecks, compareChecks, formChecks, rowChecks}
 use Rattle.theory.specs.Terms.{IsGain, Stage, StageIn, BaseOf, Prime, PrimeIn, Settled as IsSettled}
-use Rattle.model.specs.Answer.{settleOf, compareIn, formingIn, rowOf, rowCheckOf, tableOf, primeFormIn, written}
+use Rattle.model.specs.Answer.{settleOf, settleSinceOf, compareIn, formingIn, rowOf, rowCheckOf, tableOf, marksOf, primeFormIn, written}
 use Rattle.filer.specs.Answers.{settlingOf, findingOf, verdictOf, formingOf}
 use Rattle.filer.specs.declared.answers.Settling.{Settling}
 use Rattle.filer.specs.declared.answers.Settling.the-variants.{Settled, Refused as NotSettled}
@@ -51,6 +51,36 @@ pub record SettleMeans {ℓ} (s table : List ℕ) (answer : Settling) (after : L
   pub out : (k : ℕ) → k < kindCount s → ¬ Reached (cardOf s) k → at (rowOf (kindCount s) k after) ≡ none
   -- "A prime kind's row is itself once."
   pub prime : (k : ℕ) → k < kindCount s → (at (rowOf (kindCount s) k after) ≡ unit k) ↔ Prime {ℓ} (cardOf s) k
+
+-- Settle with the marks (request 9 of document 02), of the bytes s, a lent table and a lent buffer for the marks: its answer, and the two afterwards.
+pub record SinceAnswers (s table marks : List ℕ) (answer : Settling) (after marked : List ℕ) : Type 0 where
+  -- Demand 1: "Every sheet within the written limits is settled". The table and the buffer have room.
+  pub given : Limits s → kindCount s * kindCount s ≤ length table → kindCount s ≤ length marks
+      → (answer ≡ Settled (settledStage (cardOf s))) × (after ≡ written (tableOf s) table) × (marked ≡ written (marksOf s) marks)
+  -- Demand 1: "Every other sheet .. or short buffer gets the first number that applies in the table, and nothing lent changes."
+  pub refused : (k p : ℕ) → (answer ≡ NotSettled k p) ↔ (firstOf (settleSinceChecks s (length table) (length marks)) ≡ refusal k p)
+  pub unchanged : (k p : ℕ) → answer ≡ NotSettled k p → (after ≡ table) × (marked ≡ marks)
+  -- "n × n of them", and a mark for each kind; "Bytes of a lent buffer past those named keep their values."
+  pub size : (length (tableOf s) ≡ kindCount s * kindCount s) × (length (marksOf s) ≡ kindCount s)
+  pub past : (e : ℕ) → (kindCount s * kindCount s ≤ e → at after e ≡ at table e) × (kindCount s ≤ e → at marked e ≡ at marks e)
+  pub long : (length after ≡ length table) × (length marked ≡ length marks)
+
+-- What Settle with the marks gives of an accepted sheet, in a table and a buffer that are large enough. In quotes stand document 02's own words.
+pub record SinceMeans {ℓ} (s table : List ℕ) (answer : Settling) (after marked : List ℕ) : Type (ℓ + 1) where
+  -- The answer and the table are those of Settle.
+  pub settle : (settlingOf answer ≡ settleOf s table .answer) × (after ≡ settleOf s table .lent)
+  -- The mark of a reached kind is a stage "from 1 up", and no later than the settled stage.
+  pub from : (k : ℕ) → Reached (cardOf s) k → 1 ≤ at marked k
+  pub most : (t : ℕ) → answer ≡ Settled t → (k : ℕ) → Reached (cardOf s) k → at marked k ≤ t
+  -- "the first stage .. at which its row became the one finally settled": at that stage and at every later one the base gives the kind the row that Row hands out of the table; at no stage before,
+  -- from 1 up, does it.
+  pub stays : (k : ℕ) → Reached (cardOf s) k → (q : ℕ) → at marked k ≤ q → (rows : ℕ → Field) → BaseOf (cardOf s) (Stage (cardOf s) q) rows → rows k ≡ at (rowOf (kindCount s) k after)
+  pub first : (k : ℕ) → Reached (cardOf s) k → (q : ℕ) → 1 ≤ q → q < at marked k → (rows : ℕ → Field) → BaseOf (cardOf s) (Stage (cardOf s) q) rows
+      → ¬ (rows k ≡ at (rowOf (kindCount s) k after))
+  -- "When did a kind become prime?" A prime kind is an atom of the base at a stage from 1 up just when that stage is its mark or a later one.
+  pub prime : (k : ℕ) → Prime {ℓ} (cardOf s) k → (q : ℕ) → 1 ≤ q → (rows : ℕ → Field) → BaseOf (cardOf s) (Stage (cardOf s) q) rows → (rows k ≡ unit k) ↔ (at marked k ≤ q)
+  -- "A kind that is out has no such mark."
+  pub out : (k : ℕ) → k < kindCount s → ¬ Reached (cardOf s) k → at marked k ≡ 0
 
 -- Row, of a lent table, n and a kind: what its check answers, and the part handed out.
 pub record RowAnswers (n k : ℕ) (table : List ℕ) (answer : RowCheck) (part : List ℕ) : Type 0 where
@@ -123,6 +153,12 @@ pub record Promises {ℓ} : Type (ℓ + 1) where
   pub settle-means : (s table : List ℕ) (answer : Settling) (after : List ℕ)
       → settlingOf answer ≡ settleOf s table .answer → after ≡ settleOf s table .lent
       → Accepted s → kindCount s * kindCount s ≤ length table → SettleMeans {ℓ} s table answer after
+  pub since-answers : (s table marks : List ℕ) (answer : Settling) (after marked : List ℕ)
+      → settlingOf answer ≡ settleSinceOf s table marks .answer → after ≡ settleSinceOf s table marks .table → marked ≡ settleSinceOf s table marks .marks
+      → SinceAnswers s table marks answer after marked
+  pub since-means : (s table marks : List ℕ) (answer : Settling) (after marked : List ℕ)
+      → settlingOf answer ≡ settleSinceOf s table marks .answer → after ≡ settleSinceOf s table marks .table → marked ≡ settleSinceOf s table marks .marks
+      → Accepted s → kindCount s * kindCount s ≤ length table → kindCount s ≤ length marks → SinceMeans {ℓ} s table answer after marked
   pub row-answers : (n k : ℕ) (table : List ℕ) (answer : RowCheck) (part : List ℕ)
       → findingOf answer ≡ rowCheckOf n k table → part ≡ rowOf n k table → RowAnswers n k table answer part
   pub compare-answers : (sense : Sense) (s : List ℕ) (i j : ℕ) (answer : Verdict) → verdictOf answer ≡ compareIn sense s i j → CompareAnswers s i j answer

@@ -1,4 +1,4 @@
-// The filer: Settle, Row, Compare, Prime form, finer Compare and finer Prime form. Each but Row takes the sheet's bytes and checks them anew.
+// The filer: Settle, with the marks and without, Row, Compare, Prime form, finer Compare and finer Prime form. Each but Row takes the sheet's bytes and checks them anew.
 
 // What the calls answer.
 pub mod answers;
@@ -6,7 +6,7 @@ pub mod answers;
 // The core that serves every call but Row: a sheet is checked and settled once.
 pub mod settlement;
 
-// Settle.
+// Settle, and Settle with the marks.
 pub mod settle;
 
 // Row, and the check of its inputs.

@@ -3,11 +3,12 @@ ghost use mathlib.Core.Path.{_≡_};
 ghost use Prim.Native.Nat.{_*_, _≤_};
 ghost use lib.ListN.{length};
 ghost use Rattle.model.specs.Limits.{mostKinds};
-ghost use Rattle.model.specs.Answer.{written, settleOf};
+ghost use Rattle.model.specs.Answer.{written, settleOf, settleSinceOf};
 ghost use Rattle.filer.specs.Answers.{settlingOf};
 ghost use Rattle.filer.specs.Settlement.{tableIn};
 use crate::answers::Settling;
 use crate::settlement::settle_once;
+use copies::bits32::narrow_usize;
 use copies::bits32::write_u32;
 use tables::sense::Sense;
 use validation::checks::Checked;
@@ -35,6 +36,43 @@ pub fn settle_sheet(sheet: &[u8], table: &mut [u32]) -> Settling
             let rows = base.rows;
             write_table(&rows, n, table);
             Settling::Settled { stage }
+        }
+    }
+}
+
+// Settle with the marks (request 9 of document 02), of any bytes, a table and a buffer of any length; a refusal leaves both as they were. A mark is "the first stage, from 1 up, at which its row
+// became the one finally settled"; the kinds that are out, which have none, get 0.
+pub fn settle_since(sheet: &[u8], table: &mut [u32], since: &mut [u32]) -> Settling
+    ensures { λ r. ⌜ settlingOf r ≡ settleSinceOf (now (sheet .entry)) (now (table .entry)) (now (since .entry)) .answer ⌝ }
+    ensures { λ r. ⌜ now (table .exit) ≡ settleSinceOf (now (sheet .entry)) (now (table .entry)) (now (since .entry)) .table ⌝ }
+    ensures { λ r. ⌜ now (since .exit) ≡ settleSinceOf (now (sheet .entry)) (now (table .entry)) (now (since .entry)) .marks ⌝ }
+{
+    let settlement = settle_once(Sense::Plain, sheet);
+    let checked = settlement.checked;
+    match checked {
+        Checked::Refused { number, place } => Settling::Refused { number, place },
+        Checked::Passed(card) => {
+            let n = card.kinds;
+            if table.len() < n * n {
+                return Settling::Refused {
+                    number: 12,
+                    place: 0,
+                };
+            }
+            if since.len() < n {
+                return Settling::Refused {
+                    number: 12,
+                    place: 0,
+                };
+            }
+            let settled = settlement.settled;
+            let last = settled.stage;
+            let base = settled.base;
+            let rows = base.rows;
+            let marks = base.since;
+            write_table(&rows, n, table);
+            narrow_usize(&marks[..n], since);
+            Settling::Settled { stage: last }
         }
     }
 }

@@ -2,7 +2,6 @@
 ghost use Rattle.tables.specs.Senses.{senseOf};
 ghost use Rattle.filer.specs.Settlement.{IsSettlement};
 use acceptance::accept::accept;
-use stages::kept::Kept;
 use stages::reached::settle_reached;
 use stages::settle::Settled;
 use tables::sense::Sense;
@@ -26,14 +25,10 @@ pub fn settle_once(sense: Sense, sheet: &[u8]) -> Settlement
     match checked {
         Checked::Refused { number, place } => {
             let base = Base::new();
-            let kept = Kept {
-                since: [0usize; 32],
-                rows: [0u32; 1024],
-            };
             let settled = Settled {
                 base,
                 stage: 0,
-                kept,
+                before: [0u32; 1024],
             };
             Settlement {
                 checked: Checked::Refused { number, place },

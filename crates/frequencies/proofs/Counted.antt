@@ -9,12 +9,12 @@ use lib.ListN.{length, set, replicate, getD-replicate}
 use lib.Seq.{getD-set-same, getD-set-other}
 use Rattle.model.specs.Sense.{plain}
 use Rattle.model.specs.Finite.{keep, below, listFrom}
-use Rattle.model.specs.Field.{Field, times, unit, at, weigh}
+use Rattle.model.specs.Field.{Field, times, unit, at, weigh, agree}
 use Rattle.model.specs.Card.{Reached, reachedKinds, reachedCount}
 use Rattle.model.specs.Norm.{norm}
 use Rattle.model.specs.Limits.{mostKinds}
 use Rattle.model.specs.Base.{stageRowIn, stageFormIn, settledStage}
-use Rattle.model.specs.Shelf.{entry, listed, agree, shelf}
+use Rattle.model.specs.Shelf.{entry, listed, shelf}
 use Rattle.model.specs.Sheet.{kindCount, cardOf, fieldOf}
 use Rattle.model.specs.Refusal.{Accepted}
 use Rattle.model.specs.Answer.{judgedAt, frequencies}
@@ -217,7 +217,7 @@ module _ {s : List ℕ} {i size last : ℕ} where
 module _ (s : List ℕ) (ok : Accepted s) (r : Settled) (S : IsSettled plain s r) (i : ℕ) where
   -- Its reached kinds, their rows and the form of the field at the settled stage, and what is kept of the stages.
   pub rows-settled : Bytes s → kindCount s ≤ mostKinds → {kinds : List ℕ} → kinds ≡ reachedKinds (cardOf s) → InOrder kinds → (rows form : List ℕ) → rows ≡ r .base .rows
-      → at form ≡ formIn (kindCount s) (r .base .rows) (fieldOf s i) → RowsAt s i (r .stage) kinds (r .kept .since) (r .kept .rows) rows form
+      → at form ≡ formIn (kindCount s) (r .base .rows) (fieldOf s i) → RowsAt s i (r .stage) kinds (r .base .since) (r .before) rows form
   rows-settled bytes few all sorted rows form e d = rw (S .stage-is, e) (record {
     accepted = ok;
     bytes = bytes;

@@ -20,7 +20,6 @@ ghost use Rattle.frequencies.specs.Related.{RowLowered, RowsLowered, Row
 use copies::bits64::write_u64;
 use row_sums::count::count_fields;
 use sheet::Card;
-use stages::kept::Kept;
 use stages::kept::form_before;
 use stages::parting::field_form;
 use stages::reached::settle_reached;
@@ -106,24 +105,24 @@ fn lower_rows(rows: &mut [u64], kinds: &[usize], since: &[usize], before: &[u32]
 
 // How many of the fields each stage from 1 up relates to the given one, by the rows of the settled stage and the form of the field there. Every later stage relates what the settled one does.
 fn count_forms(
-    kept: Kept,
-    stage: usize,
+    settled: Settled,
     rows: [u64; 1024],
     form: [u64; 32],
     kinds: &[usize],
     size: usize,
 ) -> [u64; 33]
-    requires { ⌜ (1 ≤ stage) × (stage ≤ mostKinds) × (size ≤ mostTokens) ⌝ }
-    requires { ⌜ ((s : List ℕ) × (i : ℕ) × RowsAt s i stage (now kinds) (kept .since) (kept .rows) rows form) ⌝ }
-    ensures { λ r. ⌜ ((s : List ℕ) (i : ℕ) → RowsAt s i stage (now (kinds .entry)) (kept .since) (kept .rows) rows form → (q : ℕ) → 1 ≤ q → q ≤ stage → at r q ≡ relatedTo (cardOf s) (fieldOf s i) size q) ⌝ }
-    ensures { λ r. ⌜ ((s : List ℕ) (i : ℕ) → RowsAt s i stage (now (kinds .entry)) (kept .since) (kept .rows) rows form → (q : ℕ) → stage ≤ q → q ≤ mostKinds → at r q ≡ relatedTo (cardOf s) (fieldOf s i) size stage) ⌝ }
+    requires { ⌜ (1 ≤ settled .stage) × (settled .stage ≤ mostKinds) × (size ≤ mostTokens) ⌝ }
+    requires { ⌜ ((s : List ℕ) × (i : ℕ) × RowsAt s i (settled .stage) (now kinds) (settled .base .since) (settled .before) rows form) ⌝ }
+    ensures { λ r. ⌜ ((s : List ℕ) (i : ℕ) → RowsAt s i (settled .stage) (now (kinds .entry)) (settled .base .since) (settled .before) rows form → (q : ℕ) → 1 ≤ q → q ≤ settled .stage → at r q ≡ relatedTo (cardOf s) (fieldOf s i) size q) ⌝ }
+    ensures { λ r. ⌜ ((s : List ℕ) (i : ℕ) → RowsAt s i (settled .stage) (now (kinds .entry)) (settled .base .since) (settled .before) rows form → (q : ℕ) → settled .stage ≤ q → q ≤ mostKinds → at r q ≡ relatedTo (cardOf s) (fieldOf s i) size (settled .stage)) ⌝ }
 {
-    let since = kept.since;
-    let before = kept.rows;
+    let base = settled.base;
+    let since = base.since;
+    let before = settled.before;
     let mut table = rows;
     let mut given = form;
     let mut related = [count_fields(&table, kinds, size, &given); 33];
-    let mut t = stage;
+    let mut t = settled.stage;
     while 1 < t {
         lower_rows(&mut table, kinds, &since, &before, t);
         given = form_before(&given, &since, &before, t);
@@ -152,8 +151,7 @@ fn count_settled(
     let rows = base.rows;
     let form = field_form(sheet, card, &rows, field);
     let table = wide_rows(&rows);
-    let stage = settled.stage;
-    count_forms(settled.kept, stage, table, form, kinds, size)
+    count_forms(settled, table, form, kinds, size)
 }
 
 // How many of the fields of a size, over the reached kinds, each stage up to 32 relates to a field of an accepted sheet. Where none has the norm of the field no stage relates any, and nothing is settled.

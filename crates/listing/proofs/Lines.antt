@@ -23,17 +23,17 @@ module _ (k : ℕ) (row : List ℕ) where
   unfolding rowText itself
   counts-is e = rw (ne-eqb (at row k) 1 e, rowText) refl
 
--- A kind without a norm is out; any other shows its norm and its row.
-module _ (k w : ℕ) (row : List ℕ) where
-  pub out-is : w ≡ 0 → bytes " out" ≡ wordsText k w row
+-- A kind without a norm is out; any other shows its norm, its mark and its row.
+module _ (k w q : ℕ) (row : List ℕ) where
+  pub out-is : w ≡ 0 → bytes " out" ≡ wordsText k w q row
   unfolding wordsText
   out-is e = rw (eq-eqb w 0 e, wordsText) refl
 
-  pub words-is : (w ≡ 0 → ⊥) → (bytes " norm " ++ number w) ++ (bytes " " ++ rowText k row) ≡ wordsText k w row
+  pub words-is : (w ≡ 0 → ⊥) → (bytes " norm " ++ number w ++ (bytes " since " ++ number q)) ++ (bytes " " ++ rowText k row) ≡ wordsText k w q row
   unfolding wordsText
   words-is e = rw (ne-eqb w 0 e, wordsText) (simp append-assoc)
 
-  pub kind-is : (bytes "kind " ++ number k) ++ (wordsText k w row ++ bytes "\n") ≡ kindText k w row
+  pub kind-is : (bytes "kind " ++ number k) ++ (wordsText k w q row ++ bytes "\n") ≡ kindText k w q row
   unfolding kindText newline
   kind-is = simp append-assoc
 

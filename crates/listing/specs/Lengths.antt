@@ -6,9 +6,9 @@ use Rattle.text.specs.Lengths.{letters, mostDigits, mostCounts, mostLabelledCou
 abbrev pub mostHead : ℕ
 mostHead = letters "kinds " + mostDigits + letters " stages " + mostDigits + letters "\n"
 
--- ` norm W prime`, ` norm W = COUNTS` or ` out`: one number serves all three, with room for the words and the counts.
+-- ` norm W since S prime`, ` norm W since S = COUNTS` or ` out`: one number serves all three, with room for the words and the counts.
 abbrev pub mostWords : ℕ → ℕ
-mostWords n = letters " norm " + mostDigits + letters " " + letters "prime" + mostCounts n
+mostWords n = letters " norm " + mostDigits + letters " since " + mostDigits + letters " " + letters "prime" + mostCounts n
 
 -- `kind K`, those words, and the end of the line.
 abbrev pub mostKindLine : ℕ → ℕ

@@ -37,28 +37,35 @@ fn put_prime_or_row(out: &mut [u8], at: usize, kind: usize, row: &[u32]) -> usiz
     }
 }
 
-// What a kind's line says after the kind: its norm and its row, or that it is out, for a kind without a norm.
-fn put_words(out: &mut [u8], at: usize, kind: usize, norm: u32, row: &[u32]) -> usize
+// What a kind's line says after the kind: its norm, its mark and its row, or that it is out, for a kind without a norm.
+fn put_words(out: &mut [u8], at: usize, kind: usize, norm: u32, since: usize, row: &[u32]) -> usize
     requires { ⌜ (kind < length (now row)) × (length (now row) ≤ mostKinds) ⌝ }
     requires { ⌜ at + mostWords (length (now row)) ≤ length (now out) ⌝ }
-    ensures { λ r. ⌜ Appended (mostWords (length (now (row .entry)))) (now (out .entry)) at (wordsText kind norm (now (row .entry))) (now (out .exit)) r ⌝ }
+    ensures { λ r. ⌜ Appended (mostWords (length (now (row .entry)))) (now (out .entry)) at (wordsText kind norm since (now (row .entry))) (now (out .exit)) r ⌝ }
 {
     if norm == 0 {
         return put_bytes(out, at, b" out");
     }
-    let space = put_labelled(out, at, b" norm ", norm as u64);
+    let space = put_two_labelled(out, at, b" norm ", norm as u64, b" since ", since as u64);
     let shown = put_byte(out, space, b' ');
     put_prime_or_row(out, shown, kind, row)
 }
 
-// `kind K norm W prime`, `kind K norm W = COUNTS` or `kind K out`.
-pub fn put_kind(out: &mut [u8], at: usize, kind: usize, norm: u32, row: &[u32]) -> usize
+// `kind K norm W since S prime`, `kind K norm W since S = COUNTS` or `kind K out`.
+pub fn put_kind(
+    out: &mut [u8],
+    at: usize,
+    kind: usize,
+    norm: u32,
+    since: usize,
+    row: &[u32],
+) -> usize
     requires { ⌜ (kind < length (now row)) × (length (now row) ≤ mostKinds) ⌝ }
     requires { ⌜ at + mostKindLine (length (now row)) ≤ length (now out) ⌝ }
-    ensures { λ r. ⌜ Appended (mostKindLine (length (now (row .entry)))) (now (out .entry)) at (kindText kind norm (now (row .entry))) (now (out .exit)) r ⌝ }
+    ensures { λ r. ⌜ Appended (mostKindLine (length (now (row .entry)))) (now (out .entry)) at (kindText kind norm since (now (row .entry))) (now (out .exit)) r ⌝ }
 {
     let words = put_labelled(out, at, b"kind ", kind as u64);
-    let last = put_words(out, words, kind, norm, row);
+    let last = put_words(out, words, kind, norm, since, row);
     put_byte(out, last, b'\n')
 }
 

@@ -88,7 +88,7 @@ alike =
     ((0 ∷ 0 ∷ 1 ∷ 0 ∷ []) ∷ (0 ∷ 0 ∷ 0 ∷ 1 ∷ []) ∷ [])
 
 -- 0 a -> none; 0 b -> 0; 1 a -> 0; 1 b -> 1; 2 a -> 0; 2 b -> 0 0. One kind 1, one kind 2. A read of b, which lowers no norm, tells them apart, by the totals alone.
-abbrev circling : List ℕ
+abbrev pub circling : List ℕ
 circling =
     sheetOf 3 2
     ((0 ∷ 0 ∷ 0 ∷ 0 ∷ 0 ∷ []) ∷ (0 ∷ 1 ∷ 1 ∷ 0 ∷ 0 ∷ []) ∷ (1 ∷ 0 ∷ 1 ∷ 0 ∷ 0 ∷ []) ∷ (1 ∷ 1 ∷ 0 ∷ 1 ∷ 0 ∷ []) ∷ (2 ∷ 0 ∷ 1 ∷ 0 ∷ 0 ∷ []) ∷ (2 ∷ 1 ∷ 2 ∷ 0 ∷ 0 ∷ []) ∷ [])

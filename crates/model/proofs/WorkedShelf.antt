@@ -4,10 +4,10 @@ use mathlib.Core.Path.{_≡_, refl}
 use Prim.Native.Nat.{ℕ}
 use native.Mathlib.Decide.{ℕ-discrete}
 use Rattle.model.specs.Finite.{any, all, keep, pick, concat, listFrom, below}
-use Rattle.model.specs.Field.{bit, unit, weigh}
+use Rattle.model.specs.Field.{bit, unit, weigh, agree}
 use Rattle.model.specs.Card.{reaches, reached, reachedKinds}
 use Rattle.model.specs.Norm.{ready, best, sweeps, cardNorm, kindNorm}
-use Rattle.model.specs.Shelf.{entry, listed, agree, placeOf, shelfNumber, shelfField}
+use Rattle.model.specs.Shelf.{entry, listed, placeOf, shelfNumber, shelfField}
 use Rattle.model.specs.Sheet.{fieldsOffset, totalOf, counts, lineOf, cardOf, fieldOf}
 use Rattle.model.specs.Refusal.{firstOf, headerChecks, lineChecks, normChecks, sheetChecks, shelfNumberChecks, shelfFieldChecks}
 use Rattle.model.specs.Answer.{Answer, refused, given, Lent, Shelved, written, shelfNumberOf, shelfCounts, shelfFieldOf}

@@ -7,7 +7,7 @@ use Rattle.model.specs.Field.{at}
 use Rattle.model.specs.Base.{roundsFor}
 use Rattle.model.specs.Sheet.{byte, u32At, kindCount, codeCount, lineCount, fieldCount, counts}
 use Rattle.model.specs.Sense.{Sense}
-use Rattle.model.specs.Answer.{written, tableOf, primeFormIn, shelfCounts, remainderForm, frequencies}
+use Rattle.model.specs.Answer.{written, tableOf, marksOf, primeFormIn, shelfCounts, remainderForm, frequencies}
 
 -- "unsigned, low byte first": a number written as two bytes, and as four, the low half first.
 abbrev pub twoBytes : ℕ → List ℕ
@@ -47,8 +47,9 @@ pub record Plain : Type 0 where
   pub counts-past : (n : ℕ) (f : ℕ → ℕ) (k : ℕ) → n ≤ k → counts n f k ≡ 0
   -- "Bytes of a lent buffer past those named keep their values."
   pub written-to : (xs buffer : List ℕ) → WrittenTo xs buffer
-  -- "n × n of them", and "n counts".
+  -- "n × n of them", a mark for each kind, and "n counts".
   pub table-size : (s : List ℕ) → length (tableOf s) ≡ kindCount s * kindCount s
+  pub marks-size : (s : List ℕ) → length (marksOf s) ≡ kindCount s
   pub form-size : (m : Sense) (s : List ℕ) (i : ℕ) → length (primeFormIn m s i) ≡ kindCount s
   pub shelf-size : (s : List ℕ) (t x : ℕ) → length (shelfCounts s t x) ≡ kindCount s
   pub remainder-size : (s : List ℕ) (i j : ℕ) → length (remainderForm s i j) ≡ kindCount s

@@ -5,8 +5,8 @@ use mathlib.Core.List.{List, [], _∷_, map, reverse}
 use Prim.Native.Nat.{ℕ, zero, suc, _+_, _-_}
 use lib.Dec.{eqb}
 use lib.ListN.{getD}
-use Rattle.model.specs.Finite.{all, concat, below}
-use Rattle.model.specs.Field.{Field, none, _⊕_, times, unit, tokens}
+use Rattle.model.specs.Finite.{concat, below}
+use Rattle.model.specs.Field.{Field, none, _⊕_, times, unit, tokens, agree}
 use Rattle.model.specs.Card.{Card, reachedKinds}
 
 -- "how many fields there are: 1 at (0, 0), 0 at (0, t) for t above 0, else the entry for k - 1 and t plus, for t above 0, the entry for k and t - 1."
@@ -21,10 +21,6 @@ entry (suc k) (suc t) = entry k (suc t) + entry (suc k) t
 unfoldable pub listed : List ℕ → ℕ → List Field
 listed [] t = elim (eqb t 0) [ true ↦ none ∷ [] | false ↦ [] ]
 listed (k ∷ ks) t = concat (map (λ j. map (λ a. a ⊕ times j (unit k)) (listed ks (t - j))) (below (suc t)))
-
--- The two have the same count of each kind of the list.
-unfoldable pub agree : List ℕ → Field → Field → Bool
-agree ks a b = all (λ k. eqb (a k) (b k)) ks
 
 -- How many members stand before the first that passes: its number, "from number 0".
 unfoldable pub placeOf : {A : Type 0} → (A → Bool) → List A → ℕ

@@ -14,13 +14,13 @@ use Rattle.model.specs.Finite.{concat, listFrom}
 use Rattle.model.specs.Field.{at}
 use Rattle.model.specs.Card as model
 use Rattle.model.specs.Norm.{kindNorm}
-use Rattle.model.specs.Base.{settledStage, settledForm}
+use Rattle.model.specs.Base.{settledStage, settledForm, since}
 use Rattle.model.specs.Limits.{mostInput}
 use Rattle.model.specs.Sheet.{kindCount, fieldCount, cardOf, fieldOf}
 use Rattle.model.specs.Refusal.{Accepted}
 use Rattle.model.specs.Answer.{refused, given, written, rowOf, formOf, tableOf, primeForm, primeFormIn}
 use Rattle.model.specs.Page.{refusedLine, lines, pageOf, printed}
-use Rattle.theory.proofs.Lists.{length-from}
+use Rattle.theory.proofs.Lists.{length-from, from-same}
 use Rattle.theory.proofs.Exec.{Tells}
 use Rattle.theory.proofs.Sheets.{tells-reached, norm-tells}
 use Rattle.theory.proofs.Answers.{demand1}
@@ -83,19 +83,27 @@ module _ {s : List ℕ} {c : Card} {norms : List ℕ} (A : Accepts s c norms) wh
           none (no h) = omega arith
 
   -- The texts that make up the lines.
-  texts : (n f stage : ℕ) (w : ℕ → ℕ) (table : List ℕ) → List ℕ
-  texts n f stage w table =
-      headText n stage ++ concat (listFrom (λ k. kindText k (w k) (rowOf n k table)) 0 n) ++ concat (listFrom (fieldAt s) 0 f) ++ concat (listFrom (pairAt s) 1 (f - 1))
+  texts : (n f stage : ℕ) (w q : ℕ → ℕ) (table : List ℕ) → List ℕ
+  texts n f stage w q table =
+      headText n stage ++ concat (listFrom (λ k. kindText k (w k) (q k) (rowOf n k table)) 0 n) ++ concat (listFrom (fieldAt s) 0 f) ++ concat (listFrom (pairAt s) 1 (f - 1))
 
-  pub lines-from : (stage : ℕ) (table : List ℕ) → stage ≡ settledStage (cardOf s) → table ≡ tableOf s
-      → headText (c .kinds) stage ++ kindsText (c .kinds) norms table ++ fieldsText s (c .fields) ++ pairsText s (c .fields) ≡ lines s (tableOf s) (kindNorm (cardOf s))
+  -- They show the marks of the card's kinds alone.
+  texts-marked : (f stage : ℕ) (w q r : ℕ → ℕ) (table : List ℕ) → ((k : ℕ) → k < kindCount s → q k ≡ r k) → texts (kindCount s) f stage w q table ≡ texts (kindCount s) f stage w r table
+  unfolding texts
+  texts-marked f stage w q r table h =
+      ap (λ (xs : List (List ℕ)). headText (kindCount s) stage ++ concat xs ++ concat (listFrom (fieldAt s) 0 f) ++ concat (listFrom (pairAt s) 1 (f - 1)))
+      (from-same _ _ 0 (kindCount s) (λ k i l. ap (λ (x : ℕ). kindText k (w k) x (rowOf (kindCount s) k table)) (h k (omega arith))))
+
+  pub lines-from : (stage : ℕ) (marks table : List ℕ) → stage ≡ settledStage (cardOf s) → ((k : ℕ) → k < kindCount s → at marks k ≡ since (cardOf s) k) → table ≡ tableOf s
+      → headText (c .kinds) stage ++ kindsText (c .kinds) norms marks table ++ fieldsText s (c .fields) ++ pairsText s (c .fields) ≡ lines s (tableOf s) (kindNorm (cardOf s))
   unfolding texts kindsText fieldsText pairsText
-  lines-from stage table e t =
-      ap (λ (n : ℕ). texts n (c .fields) stage (at norms) table) (kinds-are (A .reads))
-      ∙ ap (λ (f : ℕ). texts (kindCount s) f stage (at norms) table) (fields-are (A .reads))
-      ∙ ap (λ (q : ℕ). texts (kindCount s) (fieldCount s) q (at norms) table) e
-      ∙ ap (λ (w : ℕ → ℕ). texts (kindCount s) (fieldCount s) (settledStage (cardOf s)) w table) (norms-at A)
-      ∙ ap (λ (xs : List ℕ). texts (kindCount s) (fieldCount s) (settledStage (cardOf s)) (kindNorm (cardOf s)) xs) t
+  lines-from stage marks table e m t =
+      ap (λ (n : ℕ). texts n (c .fields) stage (at norms) (at marks) table) (kinds-are (A .reads))
+      ∙ ap (λ (f : ℕ). texts (kindCount s) f stage (at norms) (at marks) table) (fields-are (A .reads))
+      ∙ ap (λ (q : ℕ). texts (kindCount s) (fieldCount s) q (at norms) (at marks) table) e
+      ∙ ap (λ (w : ℕ → ℕ). texts (kindCount s) (fieldCount s) (settledStage (cardOf s)) w (at marks) table) (norms-at A)
+      ∙ texts-marked (fieldCount s) (settledStage (cardOf s)) (kindNorm (cardOf s)) (at marks) (since (cardOf s)) table m
+      ∙ ap (λ (xs : List ℕ). texts (kindCount s) (fieldCount s) (settledStage (cardOf s)) (kindNorm (cardOf s)) (since (cardOf s)) xs) t
       ∙ sym (lines-are s (tableOf s) (kindNorm (cardOf s)) out-norm)
 
   -- The page of an accepted sheet is its lines.

@@ -31,7 +31,7 @@ ghost use Rattle.page.specs.Writing.{writingOf, writePageOf};
 pub const INPUT: usize = 12821;
 
 // No page is longer: mostPage of specs/Lengths.antt, to which `blank` holds it.
-pub const PAGE: usize = 73319;
+pub const PAGE: usize = 74183;
 
 // What the page function answers. specs/Writing.antt gives the cases their numbers and values.
 pub enum Writing {
@@ -99,10 +99,11 @@ fn put_lines(out: &mut [u8], sheet: &[u8], settlement: Settlement, card: Card) -
     let settled = settlement.settled;
     let stage = settled.stage;
     let base = settled.base;
+    let since = base.since;
     let size = n * n;
     let table = table_of(base, n);
     let at_kinds = put_head(out, 0, n, stage);
-    let at_fields = put_kinds(out, at_kinds, n, norms, &table[..size]);
+    let at_fields = put_kinds(out, at_kinds, n, norms, since, &table[..size]);
     let at_pairs = put_fields(out, at_fields, sheet, settlement, card);
     put_pairs(out, at_pairs, sheet, settlement, fields)
 }

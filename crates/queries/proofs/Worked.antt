@@ -5,14 +5,14 @@ use Prim.Native.Nat.{ℕ}
 use Prim.Native.String.{String}
 use native.Mathlib.Decide.{ℕ-discrete}
 use Rattle.model.specs.Finite.{any, all, keep, pick, concat, listFrom, below, leastFrom, greatestTo}
-use Rattle.model.specs.Field.{bit, unit, weigh}
+use Rattle.model.specs.Field.{bit, unit, weigh, agree}
 use Rattle.model.specs.Card.{reaches, reached, reachedKinds, reachedLines}
 use Rattle.model.specs.Norm.{ready, best, sweeps, cardNorm, kindNorm, gainOf}
 use Rattle.model.specs.Expansion.{simulates, expands}
 use Rattle.model.specs.Stage.{lowering, equalNorm, equalNormAndTotal, falling, refined, stageFrom, stageIn}
 use Rattle.model.specs.Base.{fieldsOfNorm, earlier, earlierThan, atom, row, passes, firstSettled, formAt, partingStage, roundsFor, roundsAt}
 use Rattle.model.specs.Walk.{tryReplies, tryChallenges, examine, walk}
-use Rattle.model.specs.Shelf.{entry, listed, agree, placeOf, shelfNumber, shelfField}
+use Rattle.model.specs.Shelf.{entry, listed, placeOf, shelfNumber, shelfField}
 use Rattle.model.specs.Squads.{goesIn, timesIn, remainder}
 use Rattle.model.specs.Sheet.{fieldsOffset, totalOf, counts, lineOf, cardOf, fieldOf}
 use Rattle.model.specs.Refusal.{firstOf, headerChecks, lineChecks, normChecks, sheetChecks, settleChecks, compareChecks, formChecks, walkChecks, rowChecks, shelfNumberChecks, shelfFieldChecks, squadsChecks, frequenciesChecks}

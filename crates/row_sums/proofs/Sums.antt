@@ -8,9 +8,9 @@ use native.Mathlib.Omega.{arith}
 use lib.Dec.{T}
 use lib.ListN.{length}
 use Rattle.model.specs.Finite.{below}
-use Rattle.model.specs.Field.{Field, none, _⊕_, unit}
+use Rattle.model.specs.Field.{Field, none, _⊕_, unit, agree}
 use Rattle.model.specs.Limits.{mostKinds}
-use Rattle.model.specs.Shelf.{entry, listed, agree}
+use Rattle.model.specs.Shelf.{entry, listed}
 use Rattle.tables.specs.Table.{rowIn, formIn}
 use Rattle.theory.proofs.Field.{weigh-plus, weigh-none, weigh-unit, weigh-some}
 use Rattle.theory.proofs.Exec.{Tells, tells-map}

@@ -2,27 +2,32 @@
 -- Assumes nothing.
 use mathlib.Core.List.{List}
 use mathlib.Core.Path.{_≡_, refl, sym, _∙_, fun-ext}
-use Prim.Native.Nat.{ℕ, zero, suc, _+_, _*_, _≤_, _<_}
+use Prim.Native.Nat.{ℕ, zero, suc, _+_, _-_, _*_, _≤_, _<_}
 use native.Mathlib.Decide.{decLt, ℕ-discrete}
 use native.Mathlib.Omega.{arith}
 use borrow.Author.Tests.{eq-eqb, ne-eqb}
 use lib.ListN.{length, set, replicate}
 use lib.Seq.{getD-set-same, getD-set-other}
 use Rattle.model.specs.Sense.{Sense}
-use Rattle.model.specs.Field.{Field, _⊕_, times, unit, at, weigh}
+use Rattle.model.specs.Field.{Field, none, _⊕_, times, unit, at, weigh}
+use Rattle.model.specs.Card.{Reached}
+use Rattle.model.specs.Norm.{kindNorm}
 use Rattle.model.specs.Limits.{mostKinds}
-use Rattle.model.specs.Base.{stageRowIn, stageFormIn}
+use Rattle.model.specs.Base.{stageRowIn, stageSinceIn, stageFormIn}
 use Rattle.model.specs.Sheet.{kindCount, cardOf}
 use Rattle.model.specs.Refusal.{Accepted}
 use Rattle.theory.specs.Terms.{OfKinds}
 use Rattle.theory.proofs.Field.{unit-same, weigh-next, weigh-past}
-use Rattle.theory.proofs.Sheets.{certified}
+use Rattle.theory.proofs.Certified.{Found}
+use Rattle.theory.proofs.Reach.{dec-tells}
+use Rattle.theory.proofs.Sheets.{certified, tells-reached}
+use Rattle.theory.proofs.Since.{row-some, row-between, SinceFound, since-found, since-out, since-one, since-kept, since-changed}
 use Rattle.tables.specs.Table.{rowIn, rowPart, withRow}
 use Rattle.tables.proofs.Tables.{at-kind, zero-counts, weigh-fewer, added-tokens, row-added, row-bound, lent-row, lent-length}
 use Rattle.tables.proofs.Stores.{with-row, with-others}
 use Rattle.rows.specs.Stage.{BaseAt}
-use Rattle.rows.proofs.Forms.{form-table, form-next, form-atoms, form-past, row-own, atom-stays}
-use Rattle.stages.specs.Kept.{AsKept, KindKept, KeptFrom, KeptTo, rowBefore, formBefore}
+use Rattle.rows.proofs.Forms.{form-table, form-next, form-atoms, form-past, row-empty, row-atom, atom-stays}
+use Rattle.stages.specs.Kept.{AsKept, marked, left, KindKept, KeptFrom, KeptTo, rowBefore, formBefore}
 
 -- What stands for an atom at the stage before.
 module _ (since rows : List ℕ) (stage k : ℕ) where
@@ -78,23 +83,17 @@ module _ {form since rows : List ℕ} {stage : ℕ} {sum : List ℕ} {k : ℕ} (
   unfolding formBefore
   lowered-all l = let z : k ≡ mostKinds = omega (arith, h .within) in fun-ext (λ j. rw z at (h .total j))
 
--- A kind that is an atom now and was none before; any other kind.
+-- A kind whose row is another than before; a kind whose row is the same.
 module _ (before after : List ℕ) (stage k : ℕ) {since rows : List ℕ} where
-  pub kind-new : at since k ≡ 0 → rowIn after k k ≡ 1 → k < length since → k * mostKinds + mostKinds ≤ length rows → {row newRows : List ℕ} → row ≡ rowPart before k → length row ≡ mostKinds
+  pub kind-new : ¬ (rowIn before k ≡ rowIn after k) → k < length since → k * mostKinds + mostKinds ≤ length rows → {row newRows : List ℕ} → row ≡ rowPart before k → length row ≡ mostKinds
       → newRows ≡ withRow rows k row → KindKept before after stage k since rows (set since k stage) newRows
-  kind-new z a h l {row} {newRows} r m e = record {
-    here = record {
-      marked = λ _ _. (getD-set-same since k stage 0 h, rw e (with-row rows row k m l ∙ lent-row before k r));
-      left = λ n. absurd (n (z, a));
-    };
-    others = λ i n. (getD-set-other since k i stage 0 n, rw e (with-others rows row k m l i n));
+  kind-new n h l {row} {newRows} r m e = record {
+    here = marked n (getD-set-same since k stage 0 h) (rw e (with-row rows row k m l ∙ lent-row before k r));
+    others = λ i o. (getD-set-other since k i stage 0 o, rw e (with-others rows row k m l i o));
   }
 
-  pub kind-left : ¬ (at since k ≡ 0 × (rowIn after k k ≡ 1)) → KindKept before after stage k since rows since rows
-  kind-left n = record {
-    here = record { marked = λ z a. absurd (n (z, a)); left = λ _. (refl, refl) };
-    others = λ i _. (refl, refl);
-  }
+  pub kind-left : rowIn before k ≡ rowIn after k → KindKept before after stage k since rows since rows
+  kind-left e = record { here = left e refl refl; others = λ i _. (refl, refl) }
 
 -- No kind is kept yet; one more.
 pub kept-none : {before after : List ℕ} {stage : ℕ} {since rows : List ℕ} → KeptFrom before after stage 0 since rows since rows
@@ -110,36 +109,27 @@ module _ {before after : List ℕ} {stage m : ℕ} {since rows oldSince oldRows 
         (o .0 ∙ p .0, o .1 ∙ p .1);
   }
     where
+      -- What was kept of the kinds before, and what is kept of this one.
+      earlier : {k : ℕ} → (at newSince k ≡ at oldSince k) × (rowIn newRows k ≡ rowIn oldRows k) → AsKept before after stage k since rows oldSince oldRows → AsKept before after stage k since rows newSince newRows
+      earlier o (marked n a b) = marked n (o .0 ∙ a) (o .1 ∙ b)
+      earlier o (left e a b) = left e (o .0 ∙ a) (o .1 ∙ b)
+
+      here : {k : ℕ} → (at oldSince k ≡ at since k) × (rowIn oldRows k ≡ rowIn rows k) → AsKept before after stage k oldSince oldRows newSince newRows → AsKept before after stage k since rows newSince newRows
+      here p (marked n a b) = marked n a b
+      here p (left e a b) = left e (a ∙ p .0) (b ∙ p .1)
+
       go : (k : ℕ) → k < m + 1 → Dec (k ≡ m) → AsKept before after stage k since rows newSince newRows
-      go k l (yes e) =
-          let p = h .others k (omega arith) in
-          let y : AsKept before after stage k oldSince oldRows newSince newRows = rw e (x .here) in
-          record {
-            marked = λ z a. y .marked (p .0 ∙ z) a;
-            left = λ n. let o = y .left (λ w. n (sym (p .0) ∙ w .0, w .1)) in (o .0 ∙ p .0, o .1 ∙ p .1);
-          }
-      go k l (no e) =
-          let o = x .others k e in
-          let y = h .each k (omega arith) in
-          record {
-            marked = λ z a. let w = y .marked z a in (o .0 ∙ w .0, o .1 ∙ w .1);
-            left = λ n. let w = y .left n in (o .0 ∙ w .0, o .1 ∙ w .1);
-          }
+      go k l (yes e) = here (h .others k (omega arith)) (rw e (x .here))
+      go k l (no e) = earlier (x .others k e) (h .each k (omega arith))
 
 module _ (sense : Sense) (s : List ℕ) (ok : Accepted s) where
   -- Before stage 1 nothing is kept.
   pub kept-start : (rows : List ℕ) → KeptTo sense s 0 (replicate mostKinds 0) rows
   kept-start rows = record {
-    none = λ k q _ _ l. absurd (omega arith);
-    first = λ k q _ e. absurd (omega (arith, zero-counts mostKinds k));
+    marks = λ k _ l. absurd (omega arith);
+    none = λ _. zero-counts mostKinds;
     before = λ k q _ e. absurd (omega (arith, zero-counts mostKinds k));
   }
-
-  -- The table of a stage tells its atoms.
-  atom-told : (p : ℕ) (after : List ℕ) → BaseAt sense s (suc p) after → (k : ℕ) → k < kindCount s → (rowIn after k k ≡ 1 → stageRowIn sense (cardOf s) (suc p) k ≡ unit k) × (stageRowIn sense (cardOf s) (suc p) k ≡ unit k → rowIn after k k ≡ 1)
-  atom-told p after B k h =
-      let o = row-own sense (cardOf s) (certified s ok) p k in
-      ((λ e. o .0 (sym (at-kind (B k h) k) ∙ e)), (λ e. at-kind (B k h) k ∙ o .1 e))
 
   -- An atom of a stage is one at every later stage.
   pub atom-later : (r p k : ℕ) → k < kindCount s → p ≤ r → stageRowIn sense (cardOf s) (suc p) k ≡ unit k → stageRowIn sense (cardOf s) (suc r) k ≡ unit k
@@ -150,72 +140,67 @@ module _ (sense : Sense) (s : List ℕ) (ok : Accepted s) where
       go (yes z) f = rw z at e
       go (no n) f = atom-stays sense (cardOf s) (certified s ok) r k (f (omega arith))
 
-  abbrev Atom : ℕ → ℕ → Type 0
-  Atom q k = stageRowIn sense (cardOf s) (suc q) k ≡ unit k
+  abbrev F : Found (cardOf s) (kindNorm (cardOf s))
+  F = certified s ok
 
-  -- One stage more.
-  module _ (t : ℕ) {before after since rows newSince newRows : List ℕ} (K : KeptTo sense s t since rows) (B : BaseAt sense s (suc t) after)
-      (P : (q : ℕ) → t ≡ suc q → BaseAt sense s (suc q) before) (X : KeptFrom before after (suc t) mostKinds since rows newSince newRows) where
-    pub kept-stage : kindCount s ≤ mostKinds → KeptTo sense s (suc t) newSince newRows
-    kept-stage few = record {
-      none = λ k q h e l. none′ k q h e l (ℕ-discrete (at since k) 0) (ℕ-discrete (rowIn after k k) 1);
-      first = λ k q h e. first′ k q h e (ℕ-discrete (at since k) 0) (ℕ-discrete (rowIn after k k) 1);
-      before = λ k q h e. before′ k q h e (ℕ-discrete (at since k) 0) (ℕ-discrete (rowIn after k k) 1);
+  -- One stage more. Before stage 1 all rows are empty.
+  module _ (t : ℕ) {kinds : ℕ} {before after since rows newSince newRows : List ℕ} (K : KeptTo sense s t since rows) (B : BaseAt sense s (suc t) after)
+      (P : (q : ℕ) → t ≡ suc q → BaseAt sense s (suc q) before) (Z : t ≡ 0 → (k : ℕ) → rowIn before k ≡ none)
+      (X : KeptFrom before after (suc t) kinds since rows newSince newRows) where
+    pub kept-stage : kindCount s ≡ kinds → KeptTo sense s (suc t) newSince newRows
+    kept-stage all = record {
+      marks = λ k h _. mark k h t refl (is k h) (dec-tells _ (tells-reached s ok k));
+      none = λ e. absurd (omega arith);
+      before = λ k q h e. row-before k q h e (is k h);
     }
       where
         is : (k : ℕ) → k < kindCount s → AsKept before after (suc t) k since rows newSince newRows
         is k h = X .each k (omega arith)
 
-        none′ : (k q : ℕ) → k < kindCount s → at newSince k ≡ 0 → suc q ≤ suc t → Dec (at since k ≡ 0) → Dec (rowIn after k k ≡ 1) → ¬ Atom q k
-        none′ k q h e l (yes z) (yes a) = absurd (omega (arith, is k h .marked z a .0))
-        none′ k q h e l (no z) d = absurd (z (sym (is k h .left (λ w. z (w .0)) .0) ∙ e))
-        none′ k q h e l (yes z) (no a) = go (ℕ-discrete q t)
-          where
-            go : Dec (q ≡ t) → ¬ Atom q k
-            go (yes i) = rw i (λ x. a (atom-told t after B k h .1 x))
-            go (no i) = K .none k q h z (omega arith)
+        mark : (k : ℕ) → k < kindCount s → (q : ℕ) → t ≡ q → AsKept before after (suc t) k since rows newSince newRows → Dec (Reached (cardOf s) k)
+            → at newSince k ≡ stageSinceIn sense (cardOf s) (suc t) k
+        mark k h zero e (marked n a _) (yes v) = rw e (a ∙ rw e (sym (since-one sense (cardOf s) F k v)))
+        mark k h zero e (marked n a _) (no o) = absurd (n (Z e k ∙ sym (row-empty sense (cardOf s) F t k o) ∙ sym (B k h)))
+        mark k h zero e (left same a _) (yes v) = absurd (row-some sense (cardOf s) F t k v (sym (B k h) ∙ sym same ∙ Z e k))
+        mark k h zero e (left same a _) (no o) = a ∙ K .none e k ∙ sym (since-out sense (cardOf s) F (suc t) k o)
+        mark k h (suc q) e (marked n a _) d =
+            rw e (a ∙ rw e (sym (since-changed sense (cardOf s) F q k (λ x. n (P q e k h ∙ sym x ∙ sym (rw e at (B k h)))))))
+        mark k h (suc q) e (left same a _) d =
+            a ∙ K .marks k h (omega arith) ∙ rw e (sym (since-kept sense (cardOf s) F q k (sym (rw e at (B k h)) ∙ sym same ∙ P q e k h)))
 
-        first′ : (k q : ℕ) → k < kindCount s → at newSince k ≡ suc q → Dec (at since k ≡ 0) → Dec (rowIn after k k ≡ 1) → (suc q ≤ suc t) × Atom q k
-        first′ k q h e (yes z) (yes a) =
-            let i : q ≡ t = omega (arith, is k h .marked z a .0) in
-            (omega arith, rw i (atom-told t after B k h .0 a))
-        first′ k q h e (yes z) (no a) = absurd (omega (arith, is k h .left (λ w. a (w .1)) .0))
-        first′ k q h e (no z) d =
-            let f = K .first k q h (sym (is k h .left (λ w. z (w .0)) .0) ∙ e) in
-            (omega (arith, f .0), f .1)
-
-        before′ : (k q : ℕ) → k < kindCount s → at newSince k ≡ suc (suc q) → Dec (at since k ≡ 0) → Dec (rowIn after k k ≡ 1) → (¬ Atom q k) × (rowIn newRows k ≡ stageRowIn sense (cardOf s) (suc q) k)
-        before′ k q h e (yes z) (yes a) =
-            let m = is k h .marked z a in
-            let i : t ≡ suc q = omega (arith, m .0) in
-            (K .none k q h z (omega arith), m .1 ∙ P q i k h)
-        before′ k q h e (yes z) (no a) = absurd (omega (arith, is k h .left (λ w. a (w .1)) .0))
-        before′ k q h e (no z) d =
-            let o = is k h .left (λ w. z (w .0)) in
-            let f = K .before k q h (sym (o .0) ∙ e) in
-            (f .0, o .1 ∙ f .1)
+        row-before : (k q : ℕ) → k < kindCount s → at newSince k ≡ suc (suc q) → AsKept before after (suc t) k since rows newSince newRows → rowIn newRows k ≡ stageRowIn sense (cardOf s) (suc q) k
+        row-before k q h e (marked n a b) = b ∙ P q (omega (arith, a)) k h
+        row-before k q h e (left same a b) = b ∙ K .before k q h (sym a ∙ e)
 
   -- What stands for an atom of stage q + 2 at stage q + 1 is its row there.
   module _ (t : ℕ) {since rows : List ℕ} (K : KeptTo sense s t since rows) (q : ℕ) (l : suc (suc q) ≤ t) where
     before-row : (k : ℕ) → k < kindCount s → stageRowIn sense (cardOf s) (suc (suc q)) k ≡ unit k → rowBefore since rows (suc (suc q)) k ≡ stageRowIn sense (cardOf s) (suc q) k
     before-row k h a = go (ℕ-discrete (at since k) (suc (suc q)))
       where
-        old : (p : ℕ) → at since k ≡ p → ¬ (p ≡ suc (suc q)) → stageRowIn sense (cardOf s) (suc q) k ≡ unit k
-        old zero e n = absurd (K .none k (suc q) h e l a)
-        old (suc p) e n = side (decLt q p)
+        -- An atom that is not new has the mark of an earlier stage, and its row since then.
+        old : (u : ℕ) → t ≡ suc u → ¬ (at since k ≡ suc (suc q)) → stageRowIn sense (cardOf s) (suc q) k ≡ unit k
+        old u e n = side (since-found sense (cardOf s) F u k (row-atom sense (cardOf s) F (suc q) k a))
           where
-            late : (p : ℕ) → at since k ≡ suc p → ¬ (suc p ≡ suc (suc q)) → q < p → ⊥
-            late zero e n u = omega arith
-            late (suc r) e n u =
-                K .before k r h e .0 (atom-later r (suc q) k h (omega arith) a)
+            last : stageRowIn sense (cardOf s) (suc u) k ≡ unit k
+            last = atom-later u (suc q) k h (omega arith) a
 
-            side : Dec (q < p) → stageRowIn sense (cardOf s) (suc q) k ≡ unit k
-            side (yes u) = absurd (late p e n u)
-            side (no u) = atom-later q p k h (omega arith) (K .first k p h e .1)
+            mark : at since k ≡ stageSinceIn sense (cardOf s) (suc u) k
+            mark = rw e at (K .marks k h (omega arith))
+
+            side : (p : ℕ) × SinceFound sense (cardOf s) F u k p → stageRowIn sense (cardOf s) (suc q) k ≡ unit k
+            side (p, x) = order (decLt q p)
+              where
+                late : Dec (suc q < p) → q < p → ⊥
+                late (yes i) l = x .first (suc q) i (a ∙ sym last)
+                late (no i) l = n (omega (arith, mark, x .is))
+
+                order : Dec (q < p) → stageRowIn sense (cardOf s) (suc q) k ≡ unit k
+                order (yes i) = absurd (late (decLt (suc q) p) i)
+                order (no i) = row-between sense (cardOf s) F k (row-atom sense (cardOf s) F (suc q) k a) p u (x .same) q (omega arith) (omega arith) ∙ last
 
         go : Dec (at since k ≡ suc (suc q)) → rowBefore since rows (suc (suc q)) k ≡ stageRowIn sense (cardOf s) (suc q) k
-        go (yes e) = before-new since rows (suc (suc q)) k e ∙ K .before k q h e .1
-        go (no n) = before-old since rows (suc (suc q)) k n ∙ sym (old (at since k) refl n)
+        go (yes e) = before-new since rows (suc (suc q)) k e ∙ K .before k q h e
+        go (no n) = before-old since rows (suc (suc q)) k n ∙ sym (old (t - 1) (omega arith) n)
 
     -- The form at the stage before, from that at a stage and what is kept.
     pub before-form : kindCount s ≤ mostKinds → (a : Field) → OfKinds (cardOf s) a

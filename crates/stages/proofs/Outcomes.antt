@@ -59,7 +59,7 @@ module _ (sense : Sense) (s : List ℕ) (ok : Accepted s) where
         let l = later (r .base .rows) (S .base-is) (settledStageIn sense (cardOf s)) (sheet-settles sense s ok .from) in
         rw (S .stage-is, l .1) (parted-none sense s ok i j (l .0) (rw (l .1) at (sym one-is ∙ x ∙ other-is)))
 
-    pub parts : Bytes s → kindCount s ≤ mostKinds → ¬ (at one ≡ at other) → FormsPart sense s (r .stage) i j (r .kept .since) (r .kept .rows) one other
+    pub parts : Bytes s → kindCount s ≤ mostKinds → ¬ (at one ≡ at other) → FormsPart sense s (r .stage) i j (r .base .since) (r .before) one other
     parts bytes few n = rw (S .stage-is) (record {
       accepted = ok;
       bytes = bytes;

@@ -1,13 +1,13 @@
 -- What the reached part of a sheet settles to is what the sheet settles to.
 use mathlib.Core.List.{List}
-use mathlib.Core.Path.{_≡_, sym, _∙_, ap, subst}
+use mathlib.Core.Path.{_≡_, _∙_, ap, subst}
 use Prim.Native.Nat.{ℕ, suc, _<_}
 use native.Mathlib.Omega.{arith}
 use lib.ListN.{take}
 use Rattle.model.specs.Sense.{Sense}
 use Rattle.model.specs.Field.{Field}
 use Rattle.model.specs.Card as model
-use Rattle.model.specs.Base.{stageRowIn, settledStageIn}
+use Rattle.model.specs.Base.{stageRowIn, stageSinceIn, settledStageIn}
 use Rattle.model.specs.Sheet.{kindCount, cardOf}
 use Rattle.model.specs.Refusal.{clear, firstOf, sheetChecks}
 use Rattle.theory.proofs.Part.{parts}
@@ -32,18 +32,22 @@ module _ (sense : Sense) {s : List ℕ} {d : Card} {t : List ℕ} (clean : first
   under : (k : ℕ) → k < kindCount s → k < kindCount u
   under k h = omega (arith, part-kinds P)
 
+  same-mark : (q k : ℕ) → stageSinceIn sense (cardOf u) q k ≡ stageSinceIn sense (cardOf s) q k
+  same-mark q k = ap (λ (c : model.Card). stageSinceIn sense c q k) (P .card-is) ∙ ap (λ (f : ℕ → ℕ). f k) (parts s clean .stage-sinces sense q)
+
   kept-part : {q : ℕ} {since rows : List ℕ} → KeptTo sense u q since rows → KeptTo sense s q since rows
-  kept-part K = record {
-    none = λ k q h e l x. K .none k q (under k h) e l (same-row (suc q) k ∙ x);
-    first = λ k q h e. let f = K .first k q (under k h) e in (f .0, sym (same-row (suc q) k) ∙ f .1);
-    before = λ k q h e. let b = K .before k q (under k h) e in (λ x. b .0 (same-row (suc q) k ∙ x), b .1 ∙ same-row (suc q) k);
+  kept-part {q} K = record {
+    marks = λ k h l. K .marks k (under k h) l ∙ same-mark q k;
+    none = K .none;
+    before = λ k q h e. K .before k q (under k h) e ∙ same-row (suc q) k;
   }
 
   settled : {r : Settled} → IsSettled sense u r → IsSettled sense s r
   settled {r} S = record {
     stage-is = S .stage-is ∙ same-stage;
     base-is = λ k h. S .base-is k (under k h) ∙ same-row (settledStageIn sense (cardOf u)) k ∙ ap (λ q. stageRowIn sense (cardOf s) q k) same-stage;
-    kept-is = subst (λ q. KeptTo sense s q (r .kept .since) (r .kept .rows)) same-stage (kept-part (S .kept-is));
+    since-are = λ k h. S .since-are k (under k h) ∙ same-mark (settledStageIn sense (cardOf u)) k ∙ ap (λ q. stageSinceIn sense (cardOf s) q k) same-stage;
+    kept-is = subst (λ q. KeptTo sense s q (r .base .since) (r .before)) same-stage (kept-part (S .kept-is));
   }
 
   pub part-settled : {r : Settled} {n : ℕ} → n ≡ sizeOf d → IsSettled sense (take n t) r → IsSettled sense s r

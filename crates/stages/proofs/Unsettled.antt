@@ -1,14 +1,14 @@
 -- The loop over the stages: what is held at each, and that none before the present one is settled.
 use mathlib.Core.List.{List}
 use mathlib.Core.Logic.{_↔_}
-use mathlib.Core.Path.{_≡_, subst}
+use mathlib.Core.Path.{_≡_, _∙_, ap, subst}
 use Prim.Native.Nat.{ℕ, suc, _≤_, _<_}
 use native.Mathlib.Decide.{decLt}
 use native.Mathlib.Omega.{arith}
 use lib.ListN.{length, replicate}
 use Rattle.model.specs.Sense.{Sense}
 use Rattle.model.specs.Field.{unit}
-use Rattle.model.specs.Base.{settledStageIn, stageRowIn}
+use Rattle.model.specs.Base.{settledStageIn, stageRowIn, stageSinceIn}
 use Rattle.model.specs.Limits.{mostKinds, mostLines}
 use Rattle.model.specs.Refusal.{Accepted}
 use Rattle.model.specs.Sheet.{kindCount, cardOf}
@@ -22,8 +22,7 @@ use Rattle.norms.proofs.Laws.{norm-positive, norm-reached}
 use Rattle.sheet.proofs.Laws.{kinds-are, kinds-most}
 use Rattle.tables.specs.Table.{rowIn, Atoms}
 use Rattle.tables.specs.Class.{RowsExpand}
-use Rattle.tables.specs.declared.table.Base.{Base}
-use Rattle.tables.proofs.Tables.{zero-counts}
+use Rattle.tables.proofs.Tables.{zero-counts, zero-row}
 use Rattle.rows.specs.Stage.{BaseAt, Classes, BoundsAt, AlikeAt, LinesAre}
 use Rattle.rows.specs.Forms.{FormTable}
 use Rattle.rows.specs.StageRows.{StageGiven}
@@ -62,6 +61,7 @@ few-kinds R = omega (arith, kinds-are R, kinds-most R)
 pub held-start : (sense : Sense) (s : List ℕ) → AtStage sense s 0 (replicate 1024 0) (replicate mostLines 0)
 held-start sense s = record {
   rows-are = rows-first sense s 1024;
+  no-rows = λ _ k. zero-row 1024 k;
   classes-tell = λ q e. absurd (omega arith);
   one-class = λ _. zero-counts mostLines;
   bounds = bounds-first sense s 0 mostLines;
@@ -75,6 +75,7 @@ held-given R ok L H = record { reads = reads-header R; accepted = ok; lines-are 
 pub held-next : {sense : Sense} {s : List ℕ} → Accepted s → (t : ℕ) (rows classes : List ℕ) → BaseAt sense s (suc t) rows → Classes sense s t classes → BoundsAt sense s t classes → AtStage sense s (suc t) rows classes
 held-next {sense} {s} ok t rows classes B K f = record {
   rows-are = rows-next sense s t rows B;
+  no-rows = λ e. absurd (omega arith);
   classes-tell = λ q e. let z : q ≡ t = omega arith in rw z K;
   one-class = λ e. absurd (omega arith);
   bounds = bounds-next sense s ok t classes f;
@@ -112,13 +113,14 @@ module _ (sense : Sense) {s lines norms : List ℕ} {c : Card} (A : Accepts s c 
       settled : SettledIn sense (cardOf s) (suc q) ↔ ((k : ℕ) → Reached (cardOf s) k → AlikeAt s classes (unit k) (stageRowIn sense (cardOf s) (suc q) k))
       settled = settled-classes sense s ok q classes K
 
-  -- The settled stage, with its base and what is kept of the stages.
-  pub held-end : Classes sense s q classes → Unsettled sense s q → RowsExpand lines classes rows norms (c .kinds) → (base : Base) → base .rows ≡ rows → {since rowsBefore : List ℕ} → KeptTo sense s (suc q) since rowsBefore
-      → IsSettled sense s (record { base = base; stage = suc q; kept = record { since = since; rows = rowsBefore } })
-  held-end K u f base same {since} {rowsBefore} H =
+  -- The settled stage, with its base, its marks and what is kept of the stages.
+  pub held-end : Classes sense s q classes → Unsettled sense s q → RowsExpand lines classes rows norms (c .kinds) → {since rowsBefore : List ℕ} → KeptTo sense s (suc q) since rowsBefore
+      → IsSettled sense s (record { base = record { rows = rows; since = since }; stage = suc q; before = rowsBefore })
+  held-end K u f {since} {rowsBefore} H =
       let e = unsettled-end sense s ok u (held-settled K .0 f) in
       record {
         stage-is = e;
-        base-is = rw same (subst (λ (v : ℕ). BaseAt sense s v rows) e B);
+        base-is = subst (λ (v : ℕ). BaseAt sense s v rows) e B;
+        since-are = λ k h. H .marks k h (omega arith) ∙ ap (λ (v : ℕ). stageSinceIn sense (cardOf s) v k) e;
         kept-is = subst (λ (v : ℕ). KeptTo sense s v since rowsBefore) e H;
       }

@@ -1,23 +1,17 @@
-// What is kept of the stages, so that the forms of a field at all of them can be had once the settled one is found: a kind that is an atom at a stage is one at every
-// later stage, and a form at the stage before is got by putting its row there for each atom that is new.
+// What is kept of the stages: of each kind its mark, the first stage at which its row became the one that it is, and its row at the stage before that one. So the forms of a field at all stages can
+// be had once the settled one is found: a kind that is an atom at a stage is one at every later stage, and a form at the stage before is got by putting its row there for each atom that is new.
 use tables::table::add_times;
-use tables::table::is_atom;
 use tables::table::row_of;
+use tables::table::same_row;
 use tables::table::set_row;
 ghost use mathlib.Core.Path.{_≡_};
-ghost use Prim.Native.Nat.{ℕ, _+_, _*_, _^_, _<_};
+ghost use Prim.Native.Nat.{ℕ, _+_, _*_, _^_, _≤_, _<_};
 ghost use lib.ListN.{length};
 ghost use Rattle.model.specs.Field.{_⊕_, times, at};
 ghost use Rattle.model.specs.Limits.{mostKinds};
 ghost use Rattle.stages.specs.Kept.{rowBefore, formBefore, KindKept, KeptFrom};
 
-// For each kind the first stage at which it is an atom, 0 where it is none; and in a flat table its row at the stage before that one.
-pub struct Kept {
-    pub since: [usize; 32],
-    pub rows: [u32; 1024],
-}
-
-// Keeps one kind: if it is an atom now and was none before, the stage and the row that it had.
+// Keeps one kind: where its row is not the one of the stage before, the stage, and the row that it had there.
 fn keep_kind(
     before: &[u32],
     after: &[u32],
@@ -30,17 +24,17 @@ fn keep_kind(
     requires { ⌜ kind < mostKinds ⌝ }
     ensures { λ _. ⌜ KindKept (now (before .entry)) (now (after .entry)) stage kind (now (since .entry)) (now (rows .entry)) (now (since .exit)) (now (rows .exit)) ⌝ }
 {
-    let from = since[kind];
-    if from == 0 {
-        if is_atom(after, kind) {
-            since[kind] = stage;
-            set_row(rows, kind, row_of(before, kind));
-        }
+    let old = row_of(before, kind);
+    if same_row(old, row_of(after, kind)) {
+        return;
     }
+    since[kind] = stage;
+    set_row(rows, kind, old);
 }
 
-// Keeps what is new at a stage, by its rows and those of the stage before.
+// Keeps what is new at a stage, of so many kinds, by its rows and those of the stage before.
 pub fn keep_stage(
+    kinds: usize,
     before: &[u32],
     after: &[u32],
     stage: usize,
@@ -48,10 +42,11 @@ pub fn keep_stage(
     rows: &mut [u32],
 )
     requires { ⌜ (length (now before) ≡ 1024) × (length (now after) ≡ 1024) × (length (now rows) ≡ 1024) × (length (now since) ≡ mostKinds) ⌝ }
-    ensures { λ _. ⌜ KeptFrom (now (before .entry)) (now (after .entry)) stage mostKinds (now (since .entry)) (now (rows .entry)) (now (since .exit)) (now (rows .exit)) ⌝ }
+    requires { ⌜ kinds ≤ mostKinds ⌝ }
+    ensures { λ _. ⌜ KeptFrom (now (before .entry)) (now (after .entry)) stage kinds (now (since .entry)) (now (rows .entry)) (now (since .exit)) (now (rows .exit)) ⌝ }
 {
     let mut kind = 0;
-    while kind < 32 {
+    while kind < kinds {
         keep_kind(before, after, stage, kind, since, rows);
         kind += 1;
     }

@@ -1,5 +1,4 @@
 // The least stage that parts two fields of a settled sheet. Stage 0 goes by what the sense asks them to share, every later stage by their forms.
-use crate::kept::Kept;
 use crate::kept::form_before;
 use crate::settle::Settled;
 use sheet::Card;
@@ -89,17 +88,18 @@ fn start_relates(
     false
 }
 
-// The least stage from 1 up at which two forms differ, where those of this stage do: from stage to stage down, up to the first at which they are the same.
-fn parting_form(kept: Kept, stage: usize, first: [u64; 32], second: [u64; 32]) -> usize
-    requires { ⌜ (1 ≤ stage) × (stage ≤ mostKinds) ⌝ }
-    requires { ⌜ ((sense : model.Sense) × (s : List ℕ) × (i : ℕ) × (j : ℕ) × FormsPart sense s stage i j (kept .since) (kept .rows) first second) ⌝ }
-    ensures { λ r. ⌜ ((sense : model.Sense) (s : List ℕ) (i j : ℕ) → FormsPart sense s stage i j (kept .since) (kept .rows) first second → LeastPart sense s stage i j r) ⌝ }
+// The least stage from 1 up at which the forms of two fields differ, where those of the settled stage do: from stage to stage down, up to the first at which they are the same.
+fn parting_form(settled: Settled, first: [u64; 32], second: [u64; 32]) -> usize
+    requires { ⌜ (1 ≤ settled .stage) × (settled .stage ≤ mostKinds) ⌝ }
+    requires { ⌜ ((sense : model.Sense) × (s : List ℕ) × (i : ℕ) × (j : ℕ) × FormsPart sense s (settled .stage) i j (settled .base .since) (settled .before) first second) ⌝ }
+    ensures { λ r. ⌜ ((sense : model.Sense) (s : List ℕ) (i j : ℕ) → FormsPart sense s (settled .stage) i j (settled .base .since) (settled .before) first second → LeastPart sense s (settled .stage) i j r) ⌝ }
 {
-    let since = kept.since;
-    let rows = kept.rows;
+    let base = settled.base;
+    let since = base.since;
+    let rows = settled.before;
     let mut one = first;
     let mut other = second;
-    let mut t = stage;
+    let mut t = settled.stage;
     while 1 < t {
         one = form_before(&one, &since, &rows, t);
         other = form_before(&other, &since, &rows, t);
@@ -135,7 +135,7 @@ pub fn parted(
         if same_counts(&one, &other) {
             return stage + 1;
         }
-        return parting_form(settled.kept, stage, one, other);
+        return parting_form(settled, one, other);
     }
     0
 }

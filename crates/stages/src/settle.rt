@@ -1,5 +1,4 @@
 // The stages one after the other, up to the settled one.
-use crate::kept::Kept;
 use crate::kept::keep_stage;
 use row_tests::expansion::rows_expand;
 use rows::line_forms::all_forms;
@@ -23,11 +22,11 @@ ghost use Rattle.model.specs.Sense as model;
 ghost use Rattle.tables.specs.Senses.{senseOf};
 ghost use Rattle.stages.specs.Settle.{IsSettled};
 
-// "the final base" and "the settled stage", and what is kept of the stages up to it.
+// "the final base" with its marks, "the settled stage", and in a flat table each kind's row at the stage before its mark.
 pub struct Settled {
     pub base: Base,
     pub stage: usize,
-    pub kept: Kept,
+    pub before: [u32; 1024],
 }
 
 // The classes of the lines by the rows of a stage, none before the bound of its line. The table is used for the forms of what the lines leave.
@@ -67,22 +66,19 @@ fn settle_lines(
     let mut rows = [0u32; 1024];
     let mut classes = [0u8; 256];
     let mut since = [0usize; 32];
-    let mut rows_before = [0u32; 1024];
+    let mut before = [0u32; 1024];
     let mut stage = 0;
     loop {
-        let base = stage_rows(sense, sheet, card, norms, lines, &rows, &classes, forms);
-        let next = base.rows;
+        let next = stage_rows(sense, sheet, card, norms, lines, &rows, &classes, forms);
         classes = line_classes(sheet, card, lines, &next, &classes, forms);
         stage += 1;
-        keep_stage(&rows, &next, stage, &mut since, &mut rows_before);
+        keep_stage(card.kinds, &rows, &next, stage, &mut since, &mut before);
         if rows_expand(lines, &classes, &next, &norms, card.kinds) {
+            let base = Base { rows: next, since };
             return Settled {
                 base,
                 stage,
-                kept: Kept {
-                    since,
-                    rows: rows_before,
-                },
+                before,
             };
         }
         rows = next;

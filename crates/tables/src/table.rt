@@ -118,6 +118,23 @@ pub fn same_counts(first: &[u64], second: &[u64]) -> bool
     true
 }
 
+// Whether two rows are the same.
+pub fn same_row(first: &[u32], second: &[u32]) -> bool
+    requires { ⌜ length (now second) ≡ length (now first) ⌝ }
+    ensures { λ r. ⌜ (r ≡ true) ↔ (at (now (first .entry)) ≡ at (now (second .entry))) ⌝ }
+{
+    let mut i = 0;
+    while i < first.len() {
+        let here = first[i];
+        let there = second[i];
+        if here != there {
+            return false;
+        }
+        i += 1;
+    }
+    true
+}
+
 // Sets every count to 0.
 pub fn clear(out: &mut [u64])
     ensures { λ _. ⌜ at (now (out .exit)) ≡ none ⌝ }
@@ -160,16 +177,21 @@ pub fn form_of_field(field: &[u32], rows: &[u32], out: &mut [u64])
     }
 }
 
-// "The state by value holds up to 32 rows of 32 counts": one flat array, rows at kind times 32.
+// "The state by value holds up to 32 rows of 32 counts": one flat array, rows at kind times 32. And of each kind its mark: "The base now keeps, for each kind, the first stage, from 1 up, at which its row
+// became the one" that it is, 0 for a kind that is out.
 pub struct Base {
     pub rows: [u32; 1024],
+    pub since: [usize; 32],
 }
 
 impl Base {
-    // No counts.
+    // No counts and no marks.
     pub fn new() -> Base
-        ensures { λ r. ⌜ r .rows ≡ replicate 1024 0 ⌝ }
+        ensures { λ r. ⌜ (r .rows ≡ replicate 1024 0) × (r .since ≡ replicate mostKinds 0) ⌝ }
     {
-        Base { rows: [0u32; 1024] }
+        Base {
+            rows: [0u32; 1024],
+            since: [0usize; 32],
+        }
     }
 }

@@ -14,14 +14,14 @@ use Rattle.theory.proofs.Lists.{length-from, getD-from}
 use Rattle.model.specs.Finite.{concat, listFrom}
 use Rattle.model.specs.Norm.{kindNorm}
 use Rattle.model.specs.Sense.{Sense}
-use Rattle.model.specs.Base.{roundsAt, settledStage, settledRow}
+use Rattle.model.specs.Base.{roundsAt, settledStage, settledRow, since}
 use Rattle.model.specs.Field.{at}
 use Rattle.model.specs.Card.{reachedCount}
 use Rattle.model.specs.Shelf.{shelfField}
 use Rattle.model.specs.Walk.{WalkAnswer, spent, Walk}
 use Rattle.model.specs.Sheet.{kindCount, fieldCount, cardOf, fieldOf}
-use Rattle.model.specs.Refusal.{Finding, clear, refusal, firstOf, Accepted, settleChecks, compareChecks, formChecks, walkChecks, shelfNumberChecks, shelfFieldChecks, squadsChecks, frequenciesChecks}
-use Rattle.model.specs.Answer.{tableOf, primeFormIn, refused, given, Session, Walked, same, different, settleOf, rowCheckOf, rowOf, verdictIn, compareIn, formingIn, drawing, within, fullWalk, walkOf, shelfNumberOf, shelfCounts, shelfFieldOf, squadCount, remainderForm, squadsOf, frequencies, frequenciesOf}
+use Rattle.model.specs.Refusal.{Finding, clear, refusal, firstOf, Accepted, settleChecks, settleSinceChecks, compareChecks, formChecks, walkChecks, shelfNumberChecks, shelfFieldChecks, squadsChecks, frequenciesChecks}
+use Rattle.model.specs.Answer.{tableOf, marksOf, primeFormIn, refused, given, Session, Walked, same, different, settleOf, settleSinceOf, rowCheckOf, rowOf, verdictIn, compareIn, formingIn, drawing, within, fullWalk, walkOf, shelfNumberOf, shelfCounts, shelfFieldOf, squadCount, remainderForm, squadsOf, frequencies, frequenciesOf}
 use Rattle.theory.specs.Demands.{Demand1}
 use Rattle.theory.proofs.Senses.{settled, verdict-cases}
 use Rattle.model.proofs.Plain.{plain}
@@ -30,8 +30,8 @@ use Rattle.theory.proofs.Sheets.{never, certified}
 use Rattle.theory.proofs.Limits.{limits-accepted, accepted-limits}
 use Rattle.theory.proofs.Walks.{walk-not-spent}
 use Rattle.theory.proofs.Verdicts.{compare-is, L, field-tidy}
-use Rattle.theory.proofs.Calls.{call-clear, call-refused, kept, past}
-use Rattle.theory.proofs.Taken.{settle-taken, compare-taken, form-taken, row-taken, walk-taken, walk-desk, number-taken, shelf-taken, squads-taken, frequencies-taken}
+use Rattle.theory.proofs.Calls.{call-clear, call-refused, kept, past, marked-kept, marked-past}
+use Rattle.theory.proofs.Taken.{settle-taken, since-taken, compare-taken, form-taken, row-taken, walk-taken, walk-desk, number-taken, shelf-taken, squads-taken, frequencies-taken}
 
 -- An entry of a list that is lowered; one that the list does not have is 0, and stays so.
 pub set-lowered : (xs : List ℕ) (d n : ℕ) → at (set xs d (at xs d - n)) d ≡ at xs d - n
@@ -187,8 +187,12 @@ module _ (s : List ℕ) where
   unfolding shelfCounts
   shelf-counts t x k h = let z : 0 + k ≡ k = omega arith in getD-from (shelfField (cardOf s) t x) 0 (kindCount s) k 0 h ∙ ap (shelfField (cardOf s) t x) z
 
+  since-marks : (k : ℕ) → k < kindCount s → at (marksOf s) k ≡ since (cardOf s) k
+  unfolding marksOf
+  since-marks k h = let z : 0 + k ≡ k = omega arith in getD-from (since (cardOf s)) 0 (kindCount s) k 0 h ∙ ap (since (cardOf s)) z
+
   pub demand1 : Demand1 s
-  unfolding settleOf compareIn formingIn rowOf shelfNumberOf shelfFieldOf squadsOf frequenciesOf
+  unfolding settleOf settleSinceOf compareIn formingIn rowOf shelfNumberOf shelfFieldOf squadsOf frequenciesOf
   demand1 = record {
     accepted = (accepted-limits s, limits-accepted s);
     settle-taken = settle-taken s;
@@ -251,4 +255,15 @@ module _ (s : List ℕ) where
         kept (given tt) (frequencies s i t) buffer (firstOf (frequenciesChecks s i t (length buffer))) (λ e. omega (arith, plain .frequencies-size s i t, frequencies-taken s i t (length buffer) .0 e .4));
     frequencies-past = λ i t buffer e h.
         past (given tt) (frequencies s i t) buffer (firstOf (frequenciesChecks s i t (length buffer))) e (omega (arith, plain .frequencies-size s i t));
+    since-taken = since-taken s;
+    since-given = λ table marks e. call-clear _ _ (firstOf (settleSinceChecks s (length table) (length marks))) e;
+    since-refused = λ table marks k p e. call-refused _ _ (firstOf (settleSinceChecks s (length table) (length marks))) k p e;
+    since-marks = since-marks;
+    marks-size = plain .marks-size s;
+    since-lengths = λ table marks.
+        marked-kept (given (settledStage (cardOf s))) (tableOf s) table (marksOf s) marks (firstOf (settleSinceChecks s (length table) (length marks)))
+        (λ e. let t = since-taken s (length table) (length marks) .0 e in (omega (arith, plain .table-size s, t .1), omega (arith, plain .marks-size s, t .2)));
+    since-past = λ table marks e.
+        let p = marked-past (given (settledStage (cardOf s))) (tableOf s) table (marksOf s) marks (firstOf (settleSinceChecks s (length table) (length marks))) e in
+        ((λ h. p .0 (omega (arith, plain .table-size s))), (λ h. p .1 (omega (arith, plain .marks-size s))));
   }

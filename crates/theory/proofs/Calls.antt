@@ -5,7 +5,7 @@ use Prim.Native.Nat.{ℕ, _≤_}
 use lib.ListN.{length}
 use Rattle.model.specs.Field.{at}
 use Rattle.model.specs.Refusal.{Finding, clear, refusal}
-use Rattle.model.specs.Answer.{Answer, Lent, refused, written}
+use Rattle.model.specs.Answer.{Answer, Lent, LentMarks, refused, written}
 use Rattle.model.proofs.Plain.{plain}
 use Rattle.theory.proofs.Sheets.{never}
 
@@ -33,3 +33,20 @@ pub past : {A : Type 0} (x : Answer A) (xs buffer : List ℕ) (f : Finding) (e :
     → at ((elim f as (λ _. Lent A) [ clear ↦ record { answer = x; lent = written xs buffer } | refusal k p ↦ record { answer = refused k p; lent = buffer } ]) .lent) e ≡ at buffer e
 past x xs buffer clear e h = plain .written-to xs buffer .past e h
 past x xs buffer (refusal k p) e h = refl
+
+-- A call over a lent table and lent marks, by what its checks find: the lengths that it leaves, and what stands past what it writes.
+module _ {A : Type 0} (x : Answer A) (xs table ys marks : List ℕ) where
+  abbrev Marked : Finding → LentMarks A
+  Marked f =
+      elim f as (λ _. LentMarks A) [
+        | clear ↦ record { answer = x; table = written xs table; marks = written ys marks }
+        | refusal k p ↦ record { answer = refused k p; table = table; marks = marks }
+      ]
+
+  pub marked-kept : (f : Finding) → (f ≡ clear → (length xs ≤ length table) × (length ys ≤ length marks)) → (length (Marked f .table) ≡ length table) × (length (Marked f .marks) ≡ length marks)
+  marked-kept clear h = (plain .written-to xs table .long (h refl .0), plain .written-to ys marks .long (h refl .1))
+  marked-kept (refusal k p) h = (refl, refl)
+
+  pub marked-past : (f : Finding) (e : ℕ) → (length xs ≤ e → at (Marked f .table) e ≡ at table e) × (length ys ≤ e → at (Marked f .marks) e ≡ at marks e)
+  marked-past clear e = (plain .written-to xs table .past e, plain .written-to ys marks .past e)
+  marked-past (refusal k p) e = ((λ _. refl), (λ _. refl))

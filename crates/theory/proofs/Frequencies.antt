@@ -10,13 +10,13 @@ use lib.Dec.{eqb}
 use lib.ListN.{length, getD}
 use Rattle.model.specs.Finite.{keep, listFrom, below, sum}
 use Rattle.model.specs.Sense.{plain}
-use Rattle.model.specs.Field.{Field, none, at}
+use Rattle.model.specs.Field.{Field, none, at, agree}
 use Rattle.model.specs.Card.{Card, On, reachedCount}
 use Rattle.model.specs.Norm.{kindNorm, norm}
 use Rattle.model.specs.Stage.{stageIn}
 use Rattle.model.specs.Base.{settledStage, stageFormIn, formAt}
 use Rattle.model.specs.Limits.{mostKinds}
-use Rattle.model.specs.Shelf.{entry, shelf, lastFirst, agree}
+use Rattle.model.specs.Shelf.{entry, shelf, lastFirst}
 use Rattle.model.specs.Sheet.{kindCount, cardOf, fieldOf}
 use Rattle.model.specs.Refusal.{Accepted}
 use Rattle.model.specs.Answer.{Verdict, same, different, verdictIn, verdictPlace, judgedAt, frequencies}

@@ -41,7 +41,7 @@ pub mod Counting
 -- Pairs examined where an allowance may end the count: one part after another, and runs through lists.
 pub mod Counted
 pub mod Runs
--- Document 01 and the finer sense: the comparison in each sense, whole games, sheets, checks, limits, calls, widths, decimals, pages.
+-- Document 01 and the finer sense: the comparison in each sense, whole games, sheets, checks, limits, calls, the marks of the base, widths, decimals, pages.
 pub mod Senses
 pub mod Paper
 pub mod Plays
@@ -64,6 +64,7 @@ pub mod Program
 pub mod FinerRows
 pub mod Squads
 pub mod Frequencies
+pub mod Since
 pub mod Widths
 pub mod Decimals
 pub mod Pages

@@ -113,6 +113,10 @@ pub is-true : (b : Bool) → T b → b ≡ true
 is-true true t = refl
 is-true false t = absurd t
 
+pub is-false : (b : Bool) → ¬ T b → b ≡ false
+is-false true n = absurd (n tt)
+is-false false n = refl
+
 -- The least from one number up to another is one of them, and passes where there is one.
 module _ (p : ℕ → Bool) (from to : ℕ) (fits : from ≤ to) where
   Found : ℕ → Type 0

@@ -25,6 +25,7 @@ use Rattle.theory.proofs.Widths.{widths}
 use Rattle.theory.proofs.Shelves.{shelves, entries-fit}
 use Rattle.theory.proofs.Squads.{squads}
 use Rattle.theory.proofs.Frequencies.{frequencies-claims}
+use Rattle.theory.proofs.Since.{sheet-sinces}
 use Rattle.theory.proofs.Finer.{totals, finer-claims}
 use Rattle.theory.proofs.Settling.{sheet-settles, sheet-primes}
 
@@ -76,4 +77,4 @@ steps L R = (
 )
 
 pub meanings {ℓ} : Meanings {ℓ}
-meanings = record { firsts = firsts; headers = headers; places = sheet-places; reaches = sheet-reaches; used = used; parts = parts; norms = sheet-norms; steps = steps; games = games; walks = walks; settles = sheet-settles; primes = λ m s ok. sheet-primes m s ok; decimals = decimals; pages = pages; widths = widths; days = days; shelves = shelves; entries-fit = entries-fit; squads = λ s ok i j. squads s ok i j; frequencies = λ s ok i t. frequencies-claims s ok i t; totals = totals; finer = finer-claims }
+meanings = record { firsts = firsts; headers = headers; places = sheet-places; reaches = sheet-reaches; used = used; parts = parts; norms = sheet-norms; steps = steps; games = games; walks = walks; settles = sheet-settles; primes = λ m s ok. sheet-primes m s ok; decimals = decimals; pages = pages; widths = widths; days = days; shelves = shelves; entries-fit = entries-fit; squads = λ s ok i j. squads s ok i j; frequencies = λ s ok i t. frequencies-claims s ok i t; sinces = λ m s ok. sheet-sinces m s ok; totals = totals; finer = finer-claims }

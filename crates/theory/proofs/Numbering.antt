@@ -8,8 +8,8 @@ use native.Mathlib.Decide.{ℕ-discrete}
 use native.Mathlib.Omega.{arith}
 use lib.ListN.{length, getD, List·getD-append}
 use lib.Seq.{getD-append-add}
-use Rattle.model.specs.Field.{Field, none, _⊕_, unit}
-use Rattle.model.specs.Shelf.{entry, listed, agree, placeOf, numberIn, fieldIn}
+use Rattle.model.specs.Field.{Field, none, _⊕_, unit, agree}
+use Rattle.model.specs.Shelf.{entry, listed, placeOf, numberIn, fieldIn}
 use Rattle.theory.specs.Shelves.{Precedes}
 use Rattle.theory.proofs.Field.{unit-same, unit-other}
 use Rattle.theory.proofs.Exec.{Tells, tells-eq, tells-all}

@@ -1,4 +1,4 @@
--- The page: what lies past the bytes that are read changes nothing; the rows and the word prime that it shows.
+-- The page: what lies past the bytes that are read changes nothing; the lines of the kinds, and the rows and the word prime that they show.
 use mathlib.Core.Bool.{Bool, true, false, not}
 use mathlib.Core.List.{List, [], _∷_, _++_}
 use mathlib.Core.Logic.{_↔_, _⊎_, inl, inr}
@@ -13,18 +13,19 @@ use lib.Seq.{take-all, getD-take, getD-drop}
 use Rattle.model.specs.Field.{Field, unit, at}
 use Rattle.model.specs.Card.{Reached, reached}
 use Rattle.model.specs.Norm.{kindNorm}
-use Rattle.model.specs.Base.{settledStage, settledRow}
+use Rattle.model.specs.Base.{settledStage, settledRow, since}
 use Rattle.model.specs.Sheet.{byte, u32At, kindCount, codeCount, lineCount, fieldCount, fieldsOffset, totalOf, cardOf}
 use Rattle.model.specs.Limits.{mostKinds, mostCodes, mostLines, mostFields, mostInput}
 use Rattle.model.specs.Refusal.{Check, check, Finding, clear, refusal, firstOf, outside, differ, headerChecks, lineChecks, normChecks, sheetChecks, Accepted}
 use Rattle.model.specs.Answer.{tableOf, rowOf, rowCheckOf}
-use Rattle.model.specs.Page.{bytes, number, newline, itself, wordsOf, kindLine, refusedLine, pageOf, printed}
+use Rattle.model.specs.Page.{bytes, number, newline, countsOf, itself, wordsOf, kindLine, refusedLine, pageOf, printed}
 use Rattle.theory.specs.Terms.{Earlier, Before, Prime}
 use Rattle.theory.specs.Meanings.{Pages}
 use Rattle.model.specs.Sense.{plain}
 use Rattle.theory.proofs.Field.{unit-same}
 use Rattle.theory.proofs.Exec.{Tells, tells-eq}
-use Rattle.theory.proofs.Sheets.{then, first-append, not-less, sheet-reaches, tells-reached}
+use Rattle.theory.proofs.Lists.{is-true, is-false}
+use Rattle.theory.proofs.Sheets.{then, first-append, not-less, sheet-reaches, under-kinds, tells-reached}
 use Rattle.theory.proofs.Reach.{dec-tells}
 use Rattle.theory.proofs.Checks.{from-outside, from-less, cons-none}
 use Rattle.theory.proofs.Limits.{accepted-limits}
@@ -103,11 +104,7 @@ module _ (s : List ℕ) (h : mostInput ≤ length s) where
   same i k = getD-take mostInput s i 0 k
 
   long-enough : (n : ℕ) → 20 ≤ n → ltb n 20 ≡ false
-  long-enough n k = go (ltb n 20) (not-less n 20 k)
-    where
-      go : (b : Bool) → ¬ T b → b ≡ false
-      go true m = absurd (m tt)
-      go false m = refl
+  long-enough n k = is-false (ltb n 20) (not-less n 20 k)
 
   early-same : early cut ≡ early s
   unfolding early totalOf fieldsOffset
@@ -204,19 +201,28 @@ module _ (s : List ℕ) where
   line-is k = refl
 
   out-line : (k : ℕ) → ¬ Reached (cardOf s) k → kindLine s (tableOf s) (kindNorm (cardOf s)) k ≡ bytes "kind " ++ number k ++ bytes " out" ++ newline
-  out-line k n = line-is k ∙ go (reached (cardOf s) k) (sheet-reaches s .test-iff k .0)
-    where
-      go : (b : Bool) → (T b → Reached (cardOf s) k) → Words b k ≡ bytes "kind " ++ number k ++ bytes " out" ++ newline
-      go true f = absurd (n (f tt))
-      go false f = refl
+  out-line k n = line-is k ∙ ap (λ (b : Bool). Words b k) (is-false (reached (cardOf s) k) (λ t. n (sheet-reaches s .test-iff k .0 t)))
 
-  reached-line : (k : ℕ) → Reached (cardOf s) k
-      → kindLine s (tableOf s) (kindNorm (cardOf s)) k ≡ bytes "kind " ++ number k ++ wordsOf s (tableOf s) (kindNorm (cardOf s)) k ++ newline
-  reached-line k v = line-is k ∙ go (reached (cardOf s) k) (sheet-reaches s .test-iff k .1)
-    where
-      go : (b : Bool) → (Reached (cardOf s) k → T b) → Words b k ≡ bytes "kind " ++ number k ++ wordsOf s (tableOf s) (kindNorm (cardOf s)) k ++ newline
-      go true f = refl
-      go false f = absurd (f v)
+  -- Of a reached kind, by whether its row is shown as the kind itself.
+  module _ (k : ℕ) (v : Reached (cardOf s) k) where
+    abbrev shown : List ℕ
+    shown = rowOf (kindCount s) k (tableOf s)
+
+    abbrev Line : Bool → List ℕ
+    Line b =
+        bytes "kind " ++ number k
+        ++ (bytes " norm " ++ number (kindNorm (cardOf s) k) ++ bytes " since " ++ number (since (cardOf s) k) ++ bytes " " ++ elim b as (λ _. List ℕ) [ true ↦ bytes "prime" | false ↦ countsOf shown ])
+        ++ newline
+
+    reached-line : kindLine s (tableOf s) (kindNorm (cardOf s)) k ≡ Line (itself k shown)
+    unfolding wordsOf
+    reached-line = line-is k ∙ ap (λ (b : Bool). Words b k) (is-true (reached (cardOf s) k) (sheet-reaches s .test-iff k .1 v))
+
+    prime-line : T (itself k shown) → kindLine s (tableOf s) (kindNorm (cardOf s)) k ≡ Line true
+    prime-line t = reached-line ∙ ap Line (is-true (itself k shown) t)
+
+    made-line : ¬ T (itself k shown) → kindLine s (tableOf s) (kindNorm (cardOf s)) k ≡ Line false
+    made-line n = reached-line ∙ ap Line (is-false (itself k shown) n)
 
 pub pages {ℓ} : (s : List ℕ) → Pages {ℓ} s
 pages s = record {
@@ -224,7 +230,8 @@ pages s = record {
   longest = refl;
   too-long = long-refused s;
   out-line = out-line s;
-  reached-line = reached-line s;
+  prime-line = λ ok k x. prime-line s k (x .0) (prime-word s ok k (under-kinds s k (x .0)) .1 x);
+  made-line = λ ok k v n. made-line s k v (λ t. n (prime-word s ok k (under-kinds s k v) .0 t));
   row-shown = row-shown s;
   prime-word = λ ok. prime-word s ok;
 }

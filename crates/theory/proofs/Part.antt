@@ -8,13 +8,13 @@ use native.Mathlib.Omega.{arith}
 use lib.Dec.{leb}
 use lib.ListN.{length}
 use Rattle.model.specs.Finite.{both, any, all, keep, pick, below, leastFrom}
-use Rattle.model.specs.Field.{Field, none, unit, weigh}
+use Rattle.model.specs.Field.{Field, none, unit, weigh, agree}
 use Rattle.model.specs.Card.{Line, Card, On, Reached, held, leads, reached, reachedKinds, reachedCount, reachedLines, fire}
 use Rattle.model.specs.Norm.{Clears, normBy, cardNorm, kindNorm, gainOf}
 use Rattle.model.specs.Expansion.{expands}
 use Rattle.model.specs.Sense.{Sense, plain, finer}
 use Rattle.model.specs.Stage.{equalNorm, equalNormAndTotal, equalIn, stageFrom, stageIn}
-use Rattle.model.specs.Base.{fieldsOfNorm, earlier, earlierThan, atom, row, passes, firstSettled, formAt, partingStage, roundsFor, roundsAt}
+use Rattle.model.specs.Base.{fieldsOfNorm, earlier, earlierThan, atom, row, passes, firstSettled, formAt, sinceAt, partingStage, roundsFor, roundsAt}
 use Rattle.model.specs.Answer.{Verdict, same, different, verdictIn}
 use Rattle.theory.specs.Meanings.{Parts, part}
 use Rattle.model.specs.Sheet.{cardOf}
@@ -178,6 +178,20 @@ module _ (c : Card) (S : Tame c) where
     unfolding formAt
     same-form = ap (λ (rows : ℕ → ℕ → Field). λ s a j. weigh (c .kinds) (λ k. rows s k j) a) same-row
 
+    SinceBy : (ℕ → Bool) → (ℕ → ℕ → Field) → ℕ → ℕ → ℕ
+    SinceBy q rows s k = elim (q k) [ true ↦ leastFrom (λ t. agree (below (c .kinds)) (rows t k) (rows s k)) 1 s | false ↦ 0 ]
+
+    since-by : sinceAt c w R ≡ SinceBy (reached c) (row c w R)
+    unfolding sinceAt SinceBy
+    since-by = refl
+
+    since-part : sinceAt p w R ≡ SinceBy (reached p) (row p w R)
+    unfolding sinceAt SinceBy
+    since-part = refl
+
+    same-since : sinceAt p w R ≡ sinceAt c w R
+    same-since = since-part ∙ ap (λ (q : ℕ → Bool). SinceBy q (row p w R)) same-reached ∙ ap (SinceBy (reached c)) same-row ∙ sym since-by
+
     same-parting : (a b : Field) → partingStage p w R a b ≡ partingStage c w R a b
     unfolding partingStage
     same-parting a b = ap (λ n. leastFrom (λ s. not (R s a b)) 0 (suc n)) same-count
@@ -213,6 +227,8 @@ module _ (c : Card) (S : Tame c) where
     stage = same-answer firstSettled same-settled;
     stage-rows = λ m s. same-answer (λ d w R. row d w R s) (λ w R. ap (λ (x : ℕ → ℕ → Field). x s) (same-row w R)) m;
     rows = same-answer (λ d w R. row d w R (firstSettled d w R)) (λ w R. ap (row p w R) (same-settled w R) ∙ ap (λ (x : ℕ → ℕ → Field). x (firstSettled c w R)) (same-row w R));
+    stage-sinces = λ m s. same-answer (λ d w R. sinceAt d w R s) (λ w R. ap (λ (x : ℕ → ℕ → ℕ). x s) (same-since w R)) m;
+    sinces = same-answer (λ d w R. sinceAt d w R (firstSettled d w R)) (λ w R. ap (sinceAt p w R) (same-settled w R) ∙ ap (λ (x : ℕ → ℕ → ℕ). x (firstSettled c w R)) (same-since w R));
     forms = same-answer (λ d w R. formAt d w R (firstSettled d w R)) (λ w R. ap (formAt p w R) (same-settled w R) ∙ ap (λ (x : ℕ → Field → Field). x (firstSettled c w R)) (same-form w R));
     verdicts = λ m a b. ap (λ (w : ℕ → ℕ). verdictIn m p w a b) same-norm ∙ same-verdict m (kindNorm c) a b;
   }

@@ -10,7 +10,7 @@ use Rattle.model.specs.Card.{reachedCount}
 use Rattle.model.specs.Shelf.{entry}
 use Rattle.model.specs.Sheet.{kindCount, fieldCount, cardOf, fieldOf}
 use Rattle.model.specs.Limits.{mostKinds, mostRounds, mostTokens, mostListed, lastDesk, Limits}
-use Rattle.model.specs.Refusal.{Check, check, clear, refusal, firstOf, sheetChecks, acceptChecks, Accepted, settleChecks, compareChecks, formChecks, walkChecks, rowChecks, shelfNumberChecks, shelfFieldChecks, squadsChecks, frequenciesChecks}
+use Rattle.model.specs.Refusal.{Check, check, clear, refusal, firstOf, sheetChecks, acceptChecks, Accepted, settleChecks, settleSinceChecks, compareChecks, formChecks, walkChecks, rowChecks, shelfNumberChecks, shelfFieldChecks, squadsChecks, frequenciesChecks}
 use Rattle.model.specs.Answer.{rowCheckOf}
 use Rattle.theory.proofs.Exec.{tells-lt}
 use Rattle.theory.proofs.Sheets.{first-append, then-clear, clear-cons, clear-nil, small, not-small, not-less, call-checks}
@@ -71,6 +71,19 @@ module _ (s : List ℕ) where
         let a = cons-none 12 0 _ _ (p .1) in
         (p .0, from-less size (kindCount s * kindCount s) (a .0))),
     (λ p. call-checks s (limits-accepted s (p .0)) _ ∙ clear-cons 12 0 _ [] (not-less size (kindCount s * kindCount s) (p .1)) clear-nil),
+  )
+
+  -- Settle with the marks takes a sheet within the limits, a table with room and a buffer with room for the marks.
+  pub since-taken : (size marks : ℕ) → (firstOf (settleSinceChecks s size marks) ≡ clear) ↔ (Limits s × (kindCount s * kindCount s ≤ size) × (kindCount s ≤ marks))
+  unfolding settleSinceChecks
+  since-taken size marks = (
+    (λ e.
+        let p = sheet-then _ e in
+        let a = cons-none 12 0 _ _ (p .1) in
+        let b = cons-none 12 0 _ _ (a .1) in
+        (p .0, from-less size (kindCount s * kindCount s) (a .0), from-less marks (kindCount s) (b .0))),
+    (λ p. call-checks s (limits-accepted s (p .0)) _
+        ∙ clear-cons 12 0 _ _ (not-less size (kindCount s * kindCount s) (p .1)) (clear-cons 12 0 _ [] (not-less marks (kindCount s) (p .2)) clear-nil)),
   )
 
   -- Compare takes a sheet within the limits and two of its fields.

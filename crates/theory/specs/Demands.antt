@@ -10,16 +10,16 @@ use Rattle.model.specs.Card.{On, reachedCount}
 use Rattle.model.specs.Norm.{IsNorm}
 use Rattle.model.specs.Sense.{Sense}
 use Rattle.theory.specs.Expansion.{Expands, BisimilarIn}
-use Rattle.model.specs.Base.{settledStage, settledRow}
+use Rattle.model.specs.Base.{settledStage, settledRow, since}
 use Rattle.theory.specs.Game.{Strategy, Challenge}
 use Rattle.theory.specs.FinerGame.{HoldsIn, AlwaysIn, PartingIn, PartedIn, AnsweredIn}
 use Rattle.model.specs.Shelf.{entry, shelfNumber, shelfField}
 use Rattle.model.specs.Walk.{spent}
 use Rattle.model.specs.Sheet.{kindCount, fieldCount, cardOf, fieldOf}
 use Rattle.model.specs.Limits.{mostKinds, mostRounds, mostTokens, mostListed, lastDesk, Limits}
-use Rattle.model.specs.Refusal.{Accepted, clear, refusal, firstOf, sheetChecks, settleChecks, compareChecks, formChecks, walkChecks, shelfNumberChecks, shelfFieldChecks, squadsChecks, frequenciesChecks}
+use Rattle.model.specs.Refusal.{Accepted, clear, refusal, firstOf, sheetChecks, settleChecks, settleSinceChecks, compareChecks, formChecks, walkChecks, shelfNumberChecks, shelfFieldChecks, squadsChecks, frequenciesChecks}
 use Rattle.theory.specs.Terms.{OfKinds, IsGain, StageIn, PrimeIn}
-use Rattle.model.specs.Answer.{refused, given, Session, same, different, settleOf, compareIn, formingIn, walkOf, rowOf, rowCheckOf, tableOf, primeFormIn, written, fullWalk, shelfNumberOf, shelfCounts, shelfFieldOf, squadCount, remainderForm, squadsOf, frequencies, frequenciesOf}
+use Rattle.model.specs.Answer.{refused, given, Session, same, different, settleOf, settleSinceOf, compareIn, formingIn, walkOf, rowOf, rowCheckOf, tableOf, marksOf, primeFormIn, written, fullWalk, shelfNumberOf, shelfCounts, shelfFieldOf, squadCount, remainderForm, squadsOf, frequencies, frequenciesOf}
 
 -- Demand 1.
 pub record Demand1 (s : List ℕ) : Type 0 where
@@ -121,6 +121,19 @@ pub record Demand1 (s : List ℕ) : Type 0 where
   pub frequencies-size : (i t : ℕ) → length (frequencies s i t) ≡ kindCount s + 2
   pub frequencies-length : (i t : ℕ) (buffer : List ℕ) → length (frequenciesOf s i t buffer .lent) ≡ length buffer
   pub frequencies-past : (i t : ℕ) (buffer : List ℕ) (e : ℕ) → kindCount s + 2 ≤ e → at (frequenciesOf s i t buffer .lent) e ≡ at buffer e
+  -- Settle with the marks (request 9 of document 02): not refused just when the sheet is within the limits, the table has room for n × n counts and the buffer for n marks; then it writes and
+  -- reports what Settle does, and the marks are written.
+  pub since-taken : (size marks : ℕ) → (firstOf (settleSinceChecks s size marks) ≡ clear) ↔ (Limits s × (kindCount s * kindCount s ≤ size) × (kindCount s ≤ marks))
+  pub since-given : (table marks : List ℕ) → firstOf (settleSinceChecks s (length table) (length marks)) ≡ clear
+      → settleSinceOf s table marks ≡ record { answer = given (settledStage (cardOf s)); table = written (tableOf s) table; marks = written (marksOf s) marks }
+  pub since-refused : (table marks : List ℕ) (k p : ℕ) → firstOf (settleSinceChecks s (length table) (length marks)) ≡ refusal k p
+      → settleSinceOf s table marks ≡ record { answer = refused k p; table = table; marks = marks }
+  -- Mark k is that of kind k, and there are n. "Bytes of a lent buffer past those named keep their values", and it keeps its length.
+  pub since-marks : (k : ℕ) → k < kindCount s → at (marksOf s) k ≡ since (cardOf s) k
+  pub marks-size : length (marksOf s) ≡ kindCount s
+  pub since-lengths : (table marks : List ℕ) → (length (settleSinceOf s table marks .table) ≡ length table) × (length (settleSinceOf s table marks .marks) ≡ length marks)
+  pub since-past : (table marks : List ℕ) (e : ℕ) → (kindCount s * kindCount s ≤ e → at (settleSinceOf s table marks .table) e ≡ at table e)
+      × (kindCount s ≤ e → at (settleSinceOf s table marks .marks) e ≡ at marks e)
 
 -- Demand 2, of fields i and j of an accepted sheet, with bisimulations of every universe.
 pub record Demand2 {ℓ} (m : Sense) (s : List ℕ) (i j : ℕ) : Type (ℓ + 1) where

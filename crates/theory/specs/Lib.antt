@@ -6,11 +6,12 @@ pub mod Game
 pub mod FinerGame
 -- Pairs examined and counted, where an allowance may end the count.
 pub mod Counted
--- What is claimed: how large numbers grow, shelf numbers, squads, frequencies, the finer comparison, the desks of a session, what the terms that compute mean, and the demands.
+-- What is claimed: how large numbers grow, shelf numbers, squads, frequencies, the marks of the base, the finer comparison, the desks of a session, what the terms that compute mean, and the demands.
 pub mod Widths
 pub mod Shelves
 pub mod Squads
 pub mod Frequencies
+pub mod Since
 pub mod Finer
 pub mod Days
 pub mod Meanings

@@ -13,7 +13,7 @@ use Rattle.model.specs.Norm.{Clears, IsNorm, cardNorm, kindNorm, norm}
 use Rattle.theory.specs.Expansion.{Bisimulation, StepBisimulation}
 use Rattle.theory.specs.Stages.{Lowers, StagesIn}
 use Rattle.model.specs.Sense.{Sense}
-use Rattle.model.specs.Base.{stageRowIn, settledStageIn, settledRow, settledRowIn, settledFormIn, gain}
+use Rattle.model.specs.Base.{stageRowIn, stageSinceIn, settledStageIn, settledRow, settledRowIn, settledFormIn, sinceIn, since, gain}
 use Rattle.theory.specs.Game.{Challenge, sideOf, Holds, Strategy}
 use Rattle.theory.specs.FinerGame.{HoldsIn, PartedIn, AnsweredIn}
 use Rattle.model.specs.Walk.{apart, together}
@@ -24,10 +24,11 @@ use Rattle.model.specs.Answer.{verdictIn, tableOf, rowOf, Session, fullWalk}
 use Rattle.model.specs.Days.{WalkCall}
 use Rattle.model.specs.Plain.{headerBytes}
 use Rattle.theory.specs.Widths.{Bytes, Widths}
-use Rattle.model.specs.Page.{bytes, number, newline, itself, wordsOf, kindLine, refusedLine, pageOf, printed}
+use Rattle.model.specs.Page.{bytes, number, newline, countsOf, itself, kindLine, refusedLine, pageOf, printed}
 use Rattle.theory.specs.Shelves.{Shelves, EntriesFit}
 use Rattle.theory.specs.Squads.{Squads}
 use Rattle.theory.specs.Frequencies.{Frequencies}
+use Rattle.theory.specs.Since.{Sinces}
 use Rattle.theory.specs.Finer.{Totals, Finer}
 use Rattle.theory.specs.Days.{Day}
 use Rattle.theory.specs.Terms.{IsGain, StageIn, BaseOf, Prime, PrimeIn, SettledIn, OnReached, OfKinds}
@@ -82,6 +83,8 @@ pub record Parts (c : Card) : Type 0 where
   pub stage : (m : Sense) → settledStageIn m (part c) ≡ settledStageIn m c
   pub stage-rows : (m : Sense) (s : ℕ) → stageRowIn m (part c) s ≡ stageRowIn m c s
   pub rows : (m : Sense) → settledRowIn m (part c) ≡ settledRowIn m c
+  pub stage-sinces : (m : Sense) (s : ℕ) → stageSinceIn m (part c) s ≡ stageSinceIn m c s
+  pub sinces : (m : Sense) → sinceIn m (part c) ≡ sinceIn m c
   pub forms : (m : Sense) → settledFormIn m (part c) ≡ settledFormIn m c
   pub verdicts : (m : Sense) (a b : Field) → verdictIn m (part c) (kindNorm (part c)) a b ≡ verdictIn m c (kindNorm c) a b
 
@@ -151,8 +154,12 @@ pub record Pages {ℓ} (s : List ℕ) : Type (ℓ + 1) where
   pub too-long : mostInput ≤ length s → (k : ℕ) × (p : ℕ) × (firstOf (headerChecks s) ≡ refusal k p) × (printed s ≡ refusedLine k p)
   -- "Other kinds .. the page prints `kind I out`."
   pub out-line : (k : ℕ) → ¬ Reached (cardOf s) k → kindLine s (tableOf s) (kindNorm (cardOf s)) k ≡ bytes "kind " ++ number k ++ bytes " out" ++ newline
-  pub reached-line : (k : ℕ) → Reached (cardOf s) k
-      → kindLine s (tableOf s) (kindNorm (cardOf s)) k ≡ bytes "kind " ++ number k ++ wordsOf s (tableOf s) (kindNorm (cardOf s)) k ++ newline
+  -- "The page adds `since S` to each kind line, before the word prime or the equals sign" (request 9 of document 02): the line of a prime kind, and that of any other reached kind.
+  pub prime-line : Accepted s → (k : ℕ) → Prime {ℓ} (cardOf s) k → kindLine s (tableOf s) (kindNorm (cardOf s)) k
+      ≡ bytes "kind " ++ number k ++ (bytes " norm " ++ number (kindNorm (cardOf s) k) ++ bytes " since " ++ number (since (cardOf s) k) ++ bytes " " ++ bytes "prime") ++ newline
+  pub made-line : Accepted s → (k : ℕ) → Reached (cardOf s) k → ¬ Prime {ℓ} (cardOf s) k → kindLine s (tableOf s) (kindNorm (cardOf s)) k
+      ≡ bytes "kind " ++ number k
+      ++ (bytes " norm " ++ number (kindNorm (cardOf s) k) ++ bytes " since " ++ number (since (cardOf s) k) ++ bytes " " ++ countsOf (rowOf (kindCount s) k (tableOf s))) ++ newline
   -- The row that the page shows, and its word prime, which is given to the prime kinds alone.
   pub row-shown : Accepted s → (k j : ℕ) → k < kindCount s → j < kindCount s → at (rowOf (kindCount s) k (tableOf s)) j ≡ settledRow (cardOf s) k j
   pub prime-word : Accepted s → (k : ℕ) → k < kindCount s → T (itself k (rowOf (kindCount s) k (tableOf s))) ↔ Prime {ℓ} (cardOf s) k
@@ -182,6 +189,8 @@ pub record Meanings {ℓ} : Type (ℓ + 1) where
   pub entries-fit : EntriesFit
   pub squads : (s : List ℕ) → Accepted s → (i j : ℕ) → Squads {ℓ} s i j
   pub frequencies : (s : List ℕ) → Accepted s → (i t : ℕ) → Frequencies {ℓ} s i t
+  -- The marks of the base, in each sense.
+  pub sinces : (m : Sense) (s : List ℕ) → Accepted s → Sinces {ℓ} m (cardOf s)
   -- The finer sense.
   pub totals : (c : Card) → Totals c
   pub finer : (s : List ℕ) → Finer s

@@ -3,7 +3,7 @@
 use std::collections::BTreeMap;
 use std::ops::Range;
 
-use crate::calls::{Answer, Call, Implementation, form_of, make, verdict_of};
+use crate::calls::{Answer, Call, Implementation, form_of, make, page_of, verdict_of};
 use crate::filer::Verdict;
 use crate::generator::sample;
 use crate::norm::{NormedCard, accept};
@@ -31,11 +31,31 @@ impl Asked<'_> {
 
     /// The settled stage of the sheet.
     pub fn settled_stage(&self) -> u32 {
+        self.settled().0
+    }
+
+    /// The settled stage of the sheet, and its table.
+    pub fn settled(&self) -> (u32, Vec<u32>) {
         let kinds = self.normed.card.kinds;
-        match make(self.implementation, &Call::Settle { entries: kinds * kinds }, self.bytes).0 {
-            Answer::Settled { stage } => stage,
-            other => panic!("{other:?} is no settled stage"),
+        match make(self.implementation, &Call::Settle { entries: kinds * kinds }, self.bytes) {
+            (Answer::Settled { stage }, lent) => (stage, lent.table.lent().to_vec()),
+            (other, _) => panic!("{other:?} is no settled stage"),
         }
+    }
+
+    /// The settled stage of the sheet, its table and the marks of its kinds.
+    pub fn settled_since(&self) -> (u32, Vec<u32>, Vec<u32>) {
+        let kinds = self.normed.card.kinds;
+        let call = Call::SettleSince { entries: kinds * kinds, marks: kinds };
+        match make(self.implementation, &call, self.bytes) {
+            (Answer::Settled { stage }, lent) => (stage, lent.table.lent().to_vec(), lent.since.lent().to_vec()),
+            (other, _) => panic!("{other:?} is no settled stage"),
+        }
+    }
+
+    /// The page of the sheet.
+    pub fn page(&self) -> String {
+        page_of(self.implementation, self.bytes)
     }
 
     /// The field of a size and a number, if there are so many.

@@ -15,16 +15,24 @@ pub type Counts = [i64; MOST_KINDS];
 
 /// "A base at a stage gives each kind the counts of earlier atoms that the stage relates to it; where
 /// there are none it gives the kind itself, an atom." It speaks of the kinds that are reached: "other kinds get
-/// a row of zeros".
+/// a row of zeros". "The base now keeps, for each kind, the first stage, from 1 up, at which its row became the one"
+/// that it is, its mark (request 9 of document 02); "a kind that is out has no such mark".
 #[derive(Clone, Debug)]
 pub struct Base {
     rows: Vec<Counts>,
+    /// The mark of each kind; 0 for one that is out.
+    since: Vec<u32>,
 }
 
 impl Base {
     /// The row of a kind.
     pub fn row(&self, kind: usize) -> &[i64] {
         &self.rows[kind][..self.rows.len()]
+    }
+
+    /// The mark of a kind: the first stage, from 1 up, from which on its row is the one that it is. 0 for a kind that is out.
+    pub fn since(&self, kind: usize) -> u32 {
+        self.since[kind]
     }
 
     /// Whether a kind is an atom.
@@ -142,7 +150,7 @@ pub struct Refinement<'a, 'b> {
 impl<'a, 'b> Refinement<'a, 'b> {
     /// Stage 1: "a pair in stage 0 that satisfies norm-reducing expansion in stage 1".
     pub fn first(normed: &'a NormedCard<'b>, sense: Sense) -> Refinement<'a, 'b> {
-        let base = Extension::new(normed, sense, None).finish();
+        let base = Extension::new(normed, sense, None).finish(1);
         let classes = Classes::new(normed, &base);
         Refinement { normed, sense, base, classes, stage: 1 }
     }
@@ -150,9 +158,9 @@ impl<'a, 'b> Refinement<'a, 'b> {
     /// The next stage: "a pair in stage s that satisfies expansion in stage s and norm-reducing
     /// expansion in stage s + 1".
     pub fn refine(&mut self) {
-        self.base = Extension::new(self.normed, self.sense, Some((&self.base, &self.classes))).finish();
-        self.classes = Classes::new(self.normed, &self.base);
         self.stage += 1;
+        self.base = Extension::new(self.normed, self.sense, Some((&self.base, &self.classes))).finish(self.stage);
+        self.classes = Classes::new(self.normed, &self.base);
     }
 
     /// The settled stage: refines until each kind's pair with its row satisfies expansion.
@@ -202,18 +210,21 @@ impl<'a, 'b> Extension<'a, 'b> {
                 reducing_lines[leaves.kind].push(line);
             }
         }
-        let base = Base { rows: vec![[0; MOST_KINDS]; normed.card.kinds] };
+        let base = Base { rows: vec![[0; MOST_KINDS]; normed.card.kinds], since: vec![0; normed.card.kinds] };
         Extension { normed, sense, before, base, reductions: Vec::new(), reducing_lines }
     }
 
-    /// Gives each kind that is reached its row.
-    fn finish(mut self) -> Base {
+    /// Gives each kind that is reached its row at a stage, and its mark: that of the stage before where the row is the
+    /// one that it was there.
+    fn finish(mut self, stage: u32) -> Base {
         for &kind in &self.normed.order {
             let lefts = self.lefts(kind);
             match self.decomposition(kind, &lefts) {
                 Some(row) => self.base.rows[kind] = row,
                 None => self.add_atom(kind, &lefts),
             }
+            let kept = self.before.filter(|(base, _)| base.rows[kind] == self.base.rows[kind]);
+            self.base.since[kind] = kept.map_or(stage, |(base, _)| base.since[kind]);
         }
         self.base
     }

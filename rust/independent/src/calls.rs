@@ -9,7 +9,7 @@
 
 use std::collections::BTreeMap;
 
-use crate::filer::{Verdict, compare, prime_form, row, row_check, settle};
+use crate::filer::{Verdict, compare, prime_form, row, row_check, settle, settle_since};
 use crate::frequencies::{MOST_LISTED, frequencies};
 use crate::generator::sample;
 use crate::page::{page, write_page};
@@ -28,6 +28,7 @@ pub type Implementation = fn(&Call, &mut Lent) -> Answer;
 #[derive(Clone, Debug, PartialEq, Eq)]
 pub enum Call {
     Settle { entries: usize },
+    SettleSince { entries: usize, marks: usize },
     RowCheck { kinds: usize, kind: usize, entries: usize },
     Row { kinds: usize, kind: usize, entries: usize },
     Compare { sense: Sense, first: usize, second: usize },
@@ -86,7 +87,7 @@ impl Day {
 #[derive(Clone, Debug, PartialEq, Eq)]
 pub enum Answer {
     Refused(Refusal),
-    /// Settle, with the settled stage.
+    /// Settle, alone or with the marks, with the settled stage.
     Settled {
         stage: u32,
     },
@@ -121,6 +122,13 @@ pub enum Answer {
     FrequenciesWritten,
 }
 
+impl Answer {
+    /// Whether it is that of Settle, alone or with the marks, and no refusal.
+    pub fn is_settled(&self) -> bool {
+        matches!(self, Answer::Settled { .. })
+    }
+}
+
 /// Entries before and past each buffer that must stay as they are.
 pub const MARGIN: usize = 8;
 
@@ -153,8 +161,10 @@ impl<T: Copy> Margined<T> {
 pub struct Lent {
     /// The sheets of a day; of any other call the one that it reads.
     pub sheets: Vec<Margined<u8>>,
-    /// The table of Settle and Row.
+    /// The table of Settle, alone and with the marks, and of Row.
     pub table: Margined<u32>,
+    /// The marks of Settle with the marks.
+    pub since: Margined<u32>,
     /// The buffer of Prime form in either sense, and that of the remainder of Squads.
     pub counts: Margined<u64>,
     /// The buffer of the page.
@@ -172,9 +182,13 @@ impl Lent {
     /// with contents that no call writes by chance.
     pub fn new(call: &Call, sheets: &[Vec<u8>]) -> Lent {
         let table = match *call {
-            Call::Settle { entries } | Call::RowCheck { entries, .. } | Call::Row { entries, .. } => entries,
+            Call::Settle { entries }
+            | Call::SettleSince { entries, .. }
+            | Call::RowCheck { entries, .. }
+            | Call::Row { entries, .. } => entries,
             _ => 0,
         };
+        let since = if let Call::SettleSince { marks, .. } = *call { marks } else { 0 };
         let counts = match *call {
             Call::PrimeForm { entries, .. } | Call::Squads { entries, .. } => entries,
             _ => 0,
@@ -190,6 +204,7 @@ impl Lent {
         Lent {
             sheets: read.iter().map(|sheet| Margined::new(sheet.len(), or_else(sheet, |_| 0xa5))).collect(),
             table: Margined::new(table, |index| 0xa5a5_0000 + index as u32),
+            since: Margined::new(since, |index| 0xa5a5_0000 + index as u32),
             counts: Margined::new(counts, |index| 0xa5a5_a5a5_0000_0000 + index as u64),
             page: Margined::new(page, |index| 0x80 | index as u8),
             field: Margined::new(field, |index| 0xa500 + index as u16),
@@ -209,6 +224,9 @@ pub fn independent(call: &Call, lent: &mut Lent) -> Answer {
     let sheet = lent.sheets[0].lent();
     let answer = match *call {
         Call::Settle { .. } => settle(sheet, lent.table.lent_mut()).map(|stage| Answer::Settled { stage }),
+        Call::SettleSince { .. } => {
+            settle_since(sheet, lent.table.lent_mut(), lent.since.lent_mut()).map(|stage| Answer::Settled { stage })
+        }
         Call::RowCheck { kinds, kind, .. } => row_check(lent.table.lent(), kinds, kind).map(|()| Answer::RowThere),
         Call::Row { kinds, kind, .. } => Ok(row_place(lent.table.lent(), row(lent.table.lent(), kinds, kind))),
         Call::Compare { sense, first, second } => compare(sense, sheet, first, second).map(Answer::Verdict),
@@ -251,6 +269,16 @@ pub fn form_of(implementation: Implementation, sense: Sense, sheet: &[u8], field
     match make(implementation, &Call::PrimeForm { sense, field, entries: kinds }, sheet) {
         (Answer::FormWritten, lent) => lent.counts.lent().to_vec(),
         (other, _) => panic!("{other:?} is no prime form"),
+    }
+}
+
+/// The page of a sheet.
+pub fn page_of(implementation: Implementation, sheet: &[u8]) -> String {
+    match make(implementation, &Call::Page { bytes: 1 << 17 }, sheet) {
+        (Answer::PageWritten { bytes }, lent) => {
+            std::str::from_utf8(&lent.page.lent()[..bytes]).expect("a page is text").to_owned()
+        }
+        (other, _) => panic!("{other:?} is no page"),
     }
 }
 
@@ -323,6 +351,7 @@ pub fn calls(sheets: &[Vec<u8>], random: &mut Random) -> Vec<Call> {
         };
         calls.push(Call::Frequencies { field, size, entries: around(kinds + 2, random) });
     }
+    calls.push(Call::SettleSince { entries: around(kinds * kinds, random), marks: around(kinds, random) });
     calls
 }
 
@@ -519,6 +548,7 @@ pub fn compare_implementations(
 fn names(call: &Call, answer: &Answer) -> Vec<String> {
     let entry = match call {
         Call::Settle { .. } => "settle",
+        Call::SettleSince { .. } => "settle since",
         Call::RowCheck { .. } => "row check",
         Call::Row { .. } => "row",
         Call::Compare { sense: Sense::Plain, .. } => "compare",

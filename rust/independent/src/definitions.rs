@@ -1,4 +1,4 @@
-//! The reached kinds, norms, stages, rows, primes, the settled stage, squads, how common each answer is, the round game,
+//! The reached kinds, norms, stages, rows, their marks, primes, the settled stage, squads, how common each answer is, the round game,
 //! bisimilar fields, the walk and the list of the fields of a size straight from their definitions, by search, in the plain
 //! and the finer sense where there are two. Only for small cards: nothing here is meant to be fast, and nothing here uses
 //! `reached`, `base`, `filer`, `walker`, `shelf`, `squads` or `frequencies`.
@@ -245,6 +245,17 @@ impl<'a> Definitions<'a> {
             }
         }
         unreachable!("the stages do not end")
+    }
+
+    /// "For each kind, the first stage, from 1 up, at which its row became the one" that it is at a stage, the settled one
+    /// where this is asked of it: the rows of all stages up to it are found, and looked through from stage 1 on. "A kind
+    /// that is out has no such mark", and 0 stands for it.
+    pub fn marks(&mut self, stage: u32) -> Result<Vec<u32>, TooLarge> {
+        let bases = (1..=stage).map(|stage| self.base(stage)).collect::<Result<Vec<_>, _>>()?;
+        let last = bases.last().expect("a stage from 1 up");
+        let first_like_last = |kind: usize| bases.iter().position(|rows| rows[kind] == last[kind]).expect("the last");
+        let mark = |kind| if self.reached.contains(&kind) { first_like_last(kind) as u32 + 1 } else { 0 };
+        Ok((0..self.card.kinds).map(mark).collect())
     }
 
     /// "A kind is prime if no field of earlier kinds is bisimilar to it": the settled stage is bisimilarity. The kind is

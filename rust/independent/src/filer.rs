@@ -1,4 +1,5 @@
-//! "What the filer offers": Settle, Row, Compare, Prime form, and the last two in the finer sense as well.
+//! "What the filer offers": Settle, alone and with the marks, Row, Compare, Prime form, and the last two in the finer
+//! sense as well.
 
 use crate::base::{Base, Refinement};
 use crate::norm::{NormedCard, accept};
@@ -22,12 +23,34 @@ pub fn settle(sheet: &[u8], table: &mut [u32]) -> Result<u32, Refusal> {
         return refused(12, 0);
     }
     let settled = Refinement::first(&normed, Sense::Plain).settle();
+    write_table(settled.base(), kinds, table);
+    Ok(settled.stage())
+}
+
+/// Settle with the marks: writes what Settle writes, and to a second lent buffer of 32-bit numbers, "for each kind, the
+/// first stage, from 1 up, at which its row became the one finally settled", in kind number, n of them; 0 for a kind
+/// that is out. It reports the settled stage, and checks 1 to 10 and 12.
+pub fn settle_since(sheet: &[u8], table: &mut [u32], since: &mut [u32]) -> Result<u32, Refusal> {
+    let normed = accept(sheet)?;
+    let kinds = normed.card.kinds;
+    if table.len() < kinds * kinds || since.len() < kinds {
+        return refused(12, 0);
+    }
+    let settled = Refinement::first(&normed, Sense::Plain).settle();
+    write_table(settled.base(), kinds, table);
+    for (kind, mark) in since[..kinds].iter_mut().enumerate() {
+        *mark = settled.base().since(kind);
+    }
+    Ok(settled.stage())
+}
+
+/// Writes the rows of so many kinds.
+fn write_table(base: &Base, kinds: usize, table: &mut [u32]) {
     for kind in 0..kinds {
-        for (entry, &count) in table[kind * kinds..].iter_mut().zip(settled.base().row(kind)) {
+        for (entry, &count) in table[kind * kinds..].iter_mut().zip(base.row(kind)) {
             *entry = count as u32;
         }
     }
-    Ok(settled.stage())
 }
 
 /// Row's check: "Row checks 2, 11, 12 only".

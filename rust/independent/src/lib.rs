@@ -1,5 +1,5 @@
 //! Document 01 ("Race cards, fields and their prime forms", the paper that asks for Limbatue), as
-//! requests 1, 2 and 4 to 8 of document 02 change it, implemented a second time, from that document's definitions
+//! requests 1, 2 and 4 to 9 of document 02 change it, implemented a second time, from that document's definitions
 //! and document 000 (Hirshfeld, Jerrum, Moller, 1996, the algorithm). It shares no code with the verified library. The tests hold the two against each other, and the measurements compare
 //! their times. Sentences in quotes are these documents' own.
 
@@ -13,9 +13,9 @@ pub mod calls;
 pub mod counting;
 /// What is promised of the desks of a session, over whole days.
 pub mod days;
-/// Stages, rows, primes and the round game straight from their definitions, for small cards.
+/// Stages, rows and their marks, primes and the round game straight from their definitions, for small cards.
 pub mod definitions;
-/// Settle, Row, Compare and Prime form.
+/// Settle, alone and with the marks, Row, Compare and Prime form.
 pub mod filer;
 /// What is promised of the finer Compare and Prime form, held against the plain ones and the totals.
 pub mod finer;
@@ -25,6 +25,8 @@ pub mod frequencies;
 pub mod generator;
 /// What is promised of squads, held against Compare and Prime form.
 pub mod joining;
+/// What is promised of the marks, held against Settle, Compare and the page.
+pub mod marks;
 /// Norms of the reached kinds, their order, g, and refusals 9 and 10.
 pub mod norm;
 /// The printed page.

@@ -53,12 +53,13 @@ fn accepted_page(normed: &NormedCard) -> String {
     page
 }
 
-/// Adds the line of a kind: its norm, and that it is prime or what its row is; or that it is out.
+/// Adds the line of a kind: its norm, "`since S` .. before the word prime or the equals sign", and that it is prime or what
+/// its row is; or that it is out.
 fn push_kind(page: &mut String, kind: usize, normed: &NormedCard, settled: &Base) {
     if !normed.is_reached(kind) {
         return push(page, format_args!("kind {kind} out\n"));
     }
-    push(page, format_args!("kind {kind} norm {}", normed.norms[kind]));
+    push(page, format_args!("kind {kind} norm {} since {}", normed.norms[kind], settled.since(kind)));
     if settled.is_atom(kind) {
         page.push_str(" prime\n");
     } else {

@@ -1,12 +1,13 @@
 //! What is promised of a sheet that uses a part of its card: "Numbers 9 and 10, the order of kinds, the fields that the
 //! stages and the settled stage speak of, g and the greatest stage are taken over" the reached kinds alone, "other kinds
-//! get a row of zeros", and "shelf numbers run over the reached kinds alone". Its answers are held against those of the
-//! sheet without the lines of the other kinds, and of the sheet that has the reached kinds alone.
+//! get a row of zeros", "shelf numbers run over the reached kinds alone", and "a kind that is out has no .. mark". Its
+//! answers are held against those of the sheet without the lines of the other kinds, and of the sheet that has the
+//! reached kinds alone.
 
 use std::collections::BTreeMap;
 use std::ops::Range;
 
-use crate::calls::{Answer, Call, Implementation, calls, make};
+use crate::calls::{Answer, Call, Implementation, calls, make, page_of};
 use crate::filer::Verdict;
 use crate::generator::{Draft, DraftLine, sample};
 use crate::random::Random;
@@ -79,6 +80,7 @@ pub fn bytes_of(card: &Card, kinds: &[usize], of_lines: &[usize]) -> Vec<u8> {
 fn with_room(call: &Call, kinds: usize) -> Option<Call> {
     match *call {
         Call::Settle { .. } => Some(Call::Settle { entries: kinds * kinds }),
+        Call::SettleSince { .. } => Some(Call::SettleSince { entries: kinds * kinds, marks: kinds }),
         Call::PrimeForm { sense, field, .. } => Some(Call::PrimeForm { sense, field, entries: kinds }),
         Call::ShelfField { size, number, .. } => Some(Call::ShelfField { size, number, entries: kinds }),
         Call::Squads { whole, squad, .. } => Some(Call::Squads { whole, squad, entries: kinds }),
@@ -94,6 +96,8 @@ struct Found {
     answer: Answer,
     /// The rows of Settle, else the counts of the form, of the remainder or of the field that was found.
     counts: Vec<Vec<u64>>,
+    /// The marks, of Settle with the marks.
+    since: Vec<u32>,
     /// The counts of Frequencies, which are of no kinds.
     frequencies: Vec<u32>,
 }
@@ -118,7 +122,8 @@ impl Asked<'_> {
             }
         };
         if let Call::Page { .. } = call {
-            hold(Promise::Dropped, self.page(self.bytes) == self.page(&dropped));
+            let [page, of_dropped] = [self.bytes, &dropped].map(|bytes| page_of(self.implementation, bytes));
+            hold(Promise::Dropped, page == of_dropped);
         }
         let Some(asked) = with_room(call, self.card.kinds) else { return };
         let found = self.found(self.bytes, &asked, self.card.kinds);
@@ -129,15 +134,6 @@ impl Asked<'_> {
             hold(Promise::Alone, found == self.of_reached(call));
         }
         tried.refused += u64::from(matches!(found.answer, Answer::Refused(Refusal { number: 9 | 10, .. })));
-    }
-
-    /// The page of a sheet.
-    fn page(&self, bytes: &[u8]) -> Vec<u8> {
-        let call = Call::Page { bytes: 1 << 17 };
-        match make(self.implementation, &call, bytes) {
-            (Answer::PageWritten { bytes }, lent) => lent.page.lent()[..bytes].to_vec(),
-            (other, _) => panic!("{other:?} is no page"),
-        }
     }
 
     /// Makes a call on a sheet of so many kinds.
@@ -151,7 +147,8 @@ impl Asked<'_> {
         };
         let frequencies =
             if answer == Answer::FrequenciesWritten { lent.frequencies.lent().to_vec() } else { Vec::new() };
-        Found { answer, counts: written.chunks(kinds).map(<[u64]>::to_vec).collect(), frequencies }
+        let since = if answer.is_settled() { lent.since.lent().to_vec() } else { Vec::new() };
+        Found { answer, counts: written.chunks(kinds).map(<[u64]>::to_vec).collect(), since, frequencies }
     }
 
     /// Makes a call on the sheet that has the reached kinds alone, and gives the kinds their numbers again. No field
@@ -160,7 +157,7 @@ impl Asked<'_> {
         let kinds = self.reached.len();
         let bytes = bytes_of(self.card, self.reached, self.reached);
         let call = with_room(call, kinds).expect("a call with room");
-        let Found { answer, counts, mut frequencies } = self.found(&bytes, &call, kinds);
+        let Found { answer, counts, mut since, mut frequencies } = self.found(&bytes, &call, kinds);
         let answer = match answer {
             Answer::Refused(Refusal { number: number @ (9 | 10), place }) => {
                 Answer::Refused(Refusal { number, place: self.reached[place as usize] as u32 })
@@ -168,13 +165,16 @@ impl Asked<'_> {
             other => other,
         };
         let mut rows: Vec<Vec<u64>> = counts.into_iter().map(|row| self.spread(&row, 0)).collect();
-        if let Answer::Settled { .. } = answer {
+        if answer.is_settled() {
             rows = self.spread(&rows, vec![0; self.card.kinds]);
+        }
+        if !since.is_empty() {
+            since = self.spread(&since, 0);
         }
         if answer == Answer::FrequenciesWritten {
             frequencies.resize(self.card.kinds + 2, 0);
         }
-        Found { answer, counts: rows, frequencies }
+        Found { answer, counts: rows, since, frequencies }
     }
 
     /// What the reached kinds have, in number order, and for any other kind something else.
@@ -198,7 +198,7 @@ impl Asked<'_> {
             {
                 refused(11, 0)
             }
-            Call::Settle { .. } => Answer::Settled { stage: 1 },
+            Call::Settle { .. } | Call::SettleSince { .. } => Answer::Settled { stage: 1 },
             Call::Compare { .. } => Answer::Verdict(Verdict::Same),
             Call::PrimeForm { .. } => Answer::FormWritten,
             Call::ShelfNumber { .. } => Answer::ShelfNumber(ShelfNumber { size: 0, number: 0 }),
@@ -221,6 +221,7 @@ impl Asked<'_> {
             frequencies.resize(self.card.kinds + 2, 0);
             frequencies[0] = u32::from(*size == 0);
         }
-        Found { answer, counts: vec![vec![0; self.card.kinds]; rows], frequencies }
+        let marks = if let Call::SettleSince { marks, .. } = *call { marks } else { 0 };
+        Found { answer, counts: vec![vec![0; self.card.kinds]; rows], since: vec![0; marks], frequencies }
     }
 }

@@ -12,10 +12,10 @@ use Rattle.frequencies.proofs.related.count_forms.Statement.{statement}
 use Rattle.frequencies.proofs.related.count_forms.Tie as tie
 
 abbrev Inv-loop : tie.InvT-loop
-Inv-loop stage kinds size since before table₀ given₀ related₀ t₀ table given related t = (1 ≤ t) × (t ≤ stage) × (length table ≡ 1024) × (length given ≡ mostKinds) × (length related ≡ 33) × ((s : List ℕ) (i : ℕ) → RowsAt s i stage kinds since before table₀ given₀ → RowsAt s i t kinds since before table given × CountedTo s i size stage related t)
+Inv-loop kinds size since before table₀ given₀ related₀ t₀ table given related t = (1 ≤ t) × (t ≤ t₀) × (length table ≡ 1024) × (length given ≡ mostKinds) × (length related ≡ 33) × ((s : List ℕ) (i : ℕ) → RowsAt s i t₀ kinds since before table₀ given₀ → RowsAt s i t kinds since before table given × CountedTo s i size t₀ related t)
 
 abbrev μ-loop : tie.MeasureT-loop
-μ-loop stage kinds size since before table₀ given₀ related₀ t₀ table given related t = t
+μ-loop kinds size since before table₀ given₀ related₀ t₀ table given related t = t
 
 slice-aggregate-count-fields : tie.Need-slice-aggregate-count-fields Inv-loop μ-loop
 slice-aggregate-count-fields c = search needs
@@ -25,12 +25,12 @@ slice-aggregate-count-fields-2 c = search needs
 
 count-fields-requires : tie.Need-count-fields-requires Inv-loop μ-loop
 count-fields-requires c κs =
-    let start = c .before .before .before .before .before in
+    let start = c .before .before .before .before .before .before in
     (start .pre .1 .2 .in-order, (start .pre .0 .2, (search needs, search needs)))
 
 loop-holds : tie.Need-loop-holds Inv-loop μ-loop
 loop-holds c =
-    let start = c .before .before .before .before .before .before in
+    let start = c .before .before .before .before .before .before .before in
     (start .pre .0 .0, omega arith, search needs, search needs, refl, λ s i R. (R, counted-last _ (start .pre .0 .1) (c .count-fields .ensures ∙ count-is-related _ (start .pre .0 .0) R _)))
 
 slice-aggregate-lower-rows : tie.Need-slice-aggregate-lower-rows Inv-loop μ-loop
@@ -44,7 +44,7 @@ slice-aggregate-lower-rows-3 c = search needs
 
 lower-rows-requires : tie.Need-lower-rows-requires Inv-loop μ-loop
 lower-rows-requires c κs =
-    let start = c .before .before .before .before .before .before .before .before .before .before .before in
+    let start = c .before .before .before .before .before .before .before .before .before .before .before .before in
     let loop = c .before .before .before .before .loop in
     let given = start .pre .1 in
     let rows = loop .inv .5 (given .0) (given .1) (given .2) .0 in
@@ -61,7 +61,7 @@ slice-aggregate-form-before-3 c = search needs
 
 form-before-requires : tie.Need-form-before-requires Inv-loop μ-loop
 form-before-requires c κs =
-    let start = c .before .before .before .before .before .before .before .before .before .before .before .before .before .before .before .before in
+    let start = c .before .before .before .before .before .before .before .before .before .before .before .before .before .before .before .before .before in
     let loop = c .before .before .before .before .before .before .before .before .before .loop in
     let given = start .pre .1 in
     ((loop .inv .3, search needs, search needs), form-fits (loop .t) (omega (arith, c .before .before .before .before .before .before .before .before .loop-test .taken)) (loop .inv .5 (given .0) (given .1) (given .2) .0))
@@ -77,7 +77,7 @@ slice-aggregate-count-fields-4 c = search needs
 
 count-fields-requires-2 : tie.Need-count-fields-requires-2 Inv-loop μ-loop
 count-fields-requires-2 c κs =
-    let start = c .before .before .before .before .before .before .before .before .before .before .before .before .before .before .before .before .before .before .before in
+    let start = c .before .before .before .before .before .before .before .before .before .before .before .before .before .before .before .before .before .before .before .before in
     (start .pre .1 .2 .in-order, (start .pre .0 .2, (search needs, search needs)))
 
 mul-related : tie.Need-mul-related Inv-loop μ-loop
@@ -91,7 +91,7 @@ loop-less c = search needs
 
 loop-again : tie.Need-loop-again Inv-loop μ-loop
 loop-again c =
-    let start = c .before .before .before .before .before .before .before .before .before .before .before .before .before .before .before .before .before .before .before .before in
+    let start = c .before .before .before .before .before .before .before .before .before .before .before .before .before .before .before .before .before .before .before .before .before in
     let loop = c .before .before .before .before .before .before .before .before .before .before .before .before .before .loop in
     let here : 1 < loop .t = omega (arith, c .before .before .before .before .before .before .before .before .before .before .before .before .loop-test .taken) in
     let table = c .before .before .before .before .before .before .before .before .lower-rows in

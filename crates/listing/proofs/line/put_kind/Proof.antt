@@ -31,8 +31,8 @@ returns c =
     let args = c .before .before .before .before .before .before .before .before .before .before .before .before .before .before .before .args in
     let put-labelled = c .before .before .before .before .before .before .before .before .before .before .put-labelled in
     let put-words = c .before .before .before .before .before .before .put-words in
-    reads-as (mostKindLine (length (args .row .now))) (kindText (args .kind) (args .norm) (args .row .now)) (then (put-labelled .ensures) (then (put-words .ensures) (c .before .before .put-byte .ensures)))
-    (omega arith) (kind-is (args .kind) (args .norm) (args .row .now))
+    reads-as (mostKindLine (length (args .row .now))) (kindText (args .kind) (args .norm) (args .since) (args .row .now)) (then (put-labelled .ensures) (then (put-words .ensures) (c .before .before .put-byte .ensures)))
+    (omega arith) (kind-is (args .kind) (args .norm) (args .since) (args .row .now))
 
 pub put-kind-spec : {M : Type 1} → statement M
 put-kind-spec =

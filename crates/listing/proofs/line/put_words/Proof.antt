@@ -1,4 +1,4 @@
--- `put_words`: the word for a kind that is out, or the norm and what is shown of the row, one after the other.
+-- `put_words`: the word for a kind that is out, or the norm, the mark and what is shown of the row, one after the other.
 use native.Mathlib.Omega.{arith}
 use lib.ListN.{length}
 use Rattle.model.specs.Page.{bytes}
@@ -23,14 +23,17 @@ returns : tie.Need-returns
 unfolding bytes
 returns c =
     let args = c .before .before .before .before .before .before .before .before .args in
-    reads-as (mostWords (length (args .row .now))) (wordsText (args .kind) (args .norm) (args .row .now)) (c .before .before .put-bytes .ensures) (omega arith)
-    (out-is (args .kind) (args .norm) (args .row .now) (c .before .before .before .before .before .if1 .taken))
+    reads-as (mostWords (length (args .row .now))) (wordsText (args .kind) (args .norm) (args .since) (args .row .now)) (c .before .before .put-bytes .ensures) (omega arith)
+    (out-is (args .kind) (args .norm) (args .since) (args .row .now) (c .before .before .before .before .before .if1 .taken))
 
-slice-aggregate-put-labelled : tie.Need-slice-aggregate-put-labelled
-slice-aggregate-put-labelled c = search needs
+slice-aggregate-put-two-labelled : tie.Need-slice-aggregate-put-two-labelled
+slice-aggregate-put-two-labelled c = search needs
 
-put-labelled-requires : tie.Need-put-labelled-requires
-put-labelled-requires c κs = search needs
+slice-aggregate-put-two-labelled-2 : tie.Need-slice-aggregate-put-two-labelled-2
+slice-aggregate-put-two-labelled-2 c = search needs
+
+put-two-labelled-requires : tie.Need-put-two-labelled-requires
+put-two-labelled-requires c κs = search needs
 
 put-byte-requires : tie.Need-put-byte-requires
 put-byte-requires c κs = search needs
@@ -44,11 +47,11 @@ same-length-2 c = search needs
 returns-2 : tie.Need-returns-2
 unfolding bytes
 returns-2 c =
-    let args = c .before .before .before .before .before .before .before .before .before .before .before .before .before .before .before .before .args in
-    let put-labelled = c .before .before .before .before .before .before .before .before .before .before .put-labelled in
+    let args = c .before .before .before .before .before .before .before .before .before .before .before .before .before .before .before .before .before .args in
+    let put-two-labelled = c .before .before .before .before .before .before .before .before .before .before .put-two-labelled in
     let put-byte = c .before .before .before .before .before .before .put-byte in
-    reads-as (mostWords (length (args .row .now))) (wordsText (args .kind) (args .norm) (args .row .now)) (then (put-labelled .ensures) (then (put-byte .ensures) (c .before .before .put-prime-or-row .ensures)))
-    (omega arith) (words-is (args .kind) (args .norm) (args .row .now) (c .before .before .before .before .before .before .before .before .before .before .before .before .before .if1 .left))
+    reads-as (mostWords (length (args .row .now))) (wordsText (args .kind) (args .norm) (args .since) (args .row .now)) (then (put-two-labelled .ensures) (then (put-byte .ensures) (c .before .before .put-prime-or-row .ensures)))
+    (omega arith) (words-is (args .kind) (args .norm) (args .since) (args .row .now) (c .before .before .before .before .before .before .before .before .before .before .before .before .before .before .if1 .left))
 
 pub put-words-spec : {M : Type 1} → statement M
 put-words-spec =
@@ -58,8 +61,9 @@ put-words-spec =
     put-bytes-requires
     same-length
     returns
-    slice-aggregate-put-labelled
-    put-labelled-requires
+    slice-aggregate-put-two-labelled
+    slice-aggregate-put-two-labelled-2
+    put-two-labelled-requires
     put-byte-requires
     put-prime-or-row-requires
     same-length-2

@@ -19,12 +19,12 @@ use Rattle.page.proofs.sheet_page.put_lines.Tie as tie
 
 mul-size : tie.Need-mul-size
 mul-size c =
-    let start = c .before .before .before .before .before in
+    let start = c .before .before .before .before .before .before in
     omega (arith, square-most (start .args .card .kinds) (kinds-most (start .pre .1 .0 .reads)))
 
 table-of-requires : tie.Need-table-of-requires
 table-of-requires c κs =
-    let start = c .before .before .before .before .before in
+    let start = c .before .before .before .before .before .before in
     kinds-most (start .pre .1 .0 .reads)
 
 put-head-requires : tie.Need-put-head-requires
@@ -32,19 +32,19 @@ put-head-requires c κs = search needs
 
 array-share-prefix-table : tie.Need-array-share-prefix-table
 array-share-prefix-table c =
-    let start = c .before .before .before .before .before .before .before .before .before .before .before in
+    let start = c .before .before .before .before .before .before .before .before .before .before .before .before in
     omega (arith, square-most (start .args .card .kinds) (kinds-most (start .pre .1 .0 .reads)))
 
 slice-aggregate-put-kinds : tie.Need-slice-aggregate-put-kinds
 slice-aggregate-put-kinds c =
-    let start = c .before .before .before .before .before .before .before .before .before .before .before .before in
+    let start = c .before .before .before .before .before .before .before .before .before .before .before .before .before in
     let table-of = c .before .before .before .before .before .before .table-of in
     let square = square-most (start .args .card .kinds) (kinds-most (start .pre .1 .0 .reads)) in
     sym (length-take-le (start .args .card .kinds * start .args .card .kinds) (table-of .result) (omega arith))
 
 put-kinds-requires : tie.Need-put-kinds-requires
 put-kinds-requires c κs =
-    let start = c .before .before .before .before .before .before .before .before .before .before .before .before in
+    let start = c .before .before .before .before .before .before .before .before .before .before .before .before .before in
     let table-of = c .before .before .before .before .before .before .table-of in
     let head = c .before .before .before .before .put-head .ensures in
     let few = kinds-most (start .pre .1 .0 .reads) in
@@ -54,7 +54,7 @@ put-kinds-requires c κs =
 
 put-fields-requires : tie.Need-put-fields-requires
 put-fields-requires c κs =
-    let start = c .before .before .before .before .before .before .before .before .before .before .before .before .before .before .before .before in
+    let start = c .before .before .before .before .before .before .before .before .before .before .before .before .before .before .before .before .before in
     let few = kinds-most (start .pre .1 .0 .reads) in
     let most = fields-most (start .pre .1 .0 .reads) in
     let head = c .before .before .before .before .before .before .before .before .put-head .ensures in
@@ -63,7 +63,7 @@ put-fields-requires c κs =
 
 put-pairs-requires : tie.Need-put-pairs-requires
 put-pairs-requires c κs =
-    let start = c .before .before .before .before .before .before .before .before .before .before .before .before .before .before .before .before .before .before .before .before in
+    let start = c .before .before .before .before .before .before .before .before .before .before .before .before .before .before .before .before .before .before .before .before .before in
     let few = kinds-most (start .pre .1 .0 .reads) in
     let most = fields-most (start .pre .1 .0 .reads) in
     let head = c .before .before .before .before .before .before .before .before .before .before .before .before .put-head .ensures in
@@ -76,7 +76,7 @@ same-length c = search needs
 
 returns : tie.Need-returns
 returns c =
-    let start = c .before .before .before .before .before .before .before .before .before .before .before .before .before .before .before .before .before .before .before .before .before .before .before in
+    let start = c .before .before .before .before .before .before .before .before .before .before .before .before .before .before .before .before .before .before .before .before .before .before .before .before in
     let table = c .before .before .before .before .before .before .before .before .before .before .before .before .before .before .before .before .before .table-of in
     let put-head = c .before .before .before .before .before .before .before .before .before .before .before .before .before .before .before .put-head in
     let put-kinds = c .before .before .before .before .before .before .before .before .before .before .put-kinds in
@@ -87,7 +87,7 @@ returns c =
     let most = fields-most (accepts .reads) in
     let settled = start .pre .0 .settled-is (accepts .accepted) in
     reads-as mostPage (lines s (tableOf s) (kindNorm (cardOf s))) (then (then (then (put-head .ensures) (put-kinds .ensures)) (put-fields .ensures)) (c .before .before .put-pairs .ensures)) (omega arith)
-    (lines-from accepts (start .args .settlement .settled .stage) (take (start .args .card .kinds * start .args .card .kinds) (table .result)) (settled .stage-is)
+    (lines-from accepts (start .args .settlement .settled .stage) (start .args .settlement .settled .base .since) (take (start .args .card .kinds * start .args .card .kinds) (table .result)) (settled .stage-is) (settled .since-are)
     (table-part accepts (start .args .settlement .settled .base .rows) (table .result) (settled .base-is) (table .ensures)))
 
 pub put-lines-spec : {M : Type 1} → statement M

@@ -4,17 +4,16 @@ use mathlib.Core.Path.{_≡_, refl, _∙_}
 use Prim.Native.Nat.{_-_, _≤_}
 use lib.ListN.{length}
 use native.Mathlib.Omega.{arith}
-use Rattle.model.specs.Limits.{mostKinds}
 use Rattle.stages.specs.Kept.{KeptFrom}
 use Rattle.stages.proofs.Keeping.{kept-none, kept-more}
 use Rattle.stages.proofs.kept.keep_stage.Statement.{statement}
 use Rattle.stages.proofs.kept.keep_stage.Tie as tie
 
 abbrev Inv-loop : tie.InvT-loop
-Inv-loop before after stage since₀ rows₀ kind₀ since rows kind = (kind ≤ mostKinds) × (length since ≡ length since₀) × (length rows ≡ length rows₀) × KeptFrom before after stage kind since₀ rows₀ since rows
+Inv-loop kinds before after stage since₀ rows₀ kind₀ since rows kind = (kind ≤ kinds) × (length since ≡ length since₀) × (length rows ≡ length rows₀) × KeptFrom before after stage kind since₀ rows₀ since rows
 
 abbrev μ-loop : tie.MeasureT-loop
-μ-loop before after stage since₀ rows₀ kind₀ since rows kind = 32 - kind
+μ-loop kinds before after stage since₀ rows₀ kind₀ since rows kind = kinds - kind
 
 loop-holds : tie.Need-loop-holds Inv-loop μ-loop
 loop-holds c = (omega arith, refl, refl, kept-none)
@@ -23,8 +22,8 @@ keep-kind-requires : tie.Need-keep-kind-requires Inv-loop μ-loop
 keep-kind-requires c κs =
     let start = c .before .before .before .before .before .before .before .before in
     let loop = c .before .before .before .loop in
-    let long = start .pre in
-    ((long .0, long .1, loop .inv .2 ∙ long .2, loop .inv .1 ∙ long .3), c .before .before .loop-test .taken)
+    let long = start .pre .0 in
+    ((long .0, long .1, loop .inv .2 ∙ long .2, loop .inv .1 ∙ long .3), omega (arith, c .before .before .loop-test .taken, start .pre .1))
 
 add-kind : tie.Need-add-kind Inv-loop μ-loop
 add-kind c = search needs
@@ -48,7 +47,7 @@ same-length-2 c = c .before .loop .inv .2
 returns : tie.Need-returns Inv-loop μ-loop
 returns c =
     let loop = c .before .loop in
-    let all : loop .kind ≡ mostKinds = omega (arith, loop .inv .0, c .loop-test .left) in
+    let all : loop .kind ≡ c .before .before .before .before .before .before .args .kinds = omega (arith, loop .inv .0, c .loop-test .left) in
     rw all at (loop .inv .3)
 
 pub keep-stage-spec : {M : Type 1} → statement M

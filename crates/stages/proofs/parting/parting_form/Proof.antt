@@ -14,14 +14,14 @@ use Rattle.stages.proofs.parting.parting_form.Statement.{statement}
 use Rattle.stages.proofs.parting.parting_form.Tie as tie
 
 abbrev Inv-loop : tie.InvT-loop
-Inv-loop stage since rows one₀ other₀ t₀ one other t =
-    (1 ≤ t) × (t ≤ stage) × (length one ≡ mostKinds) × (length other ≡ mostKinds) × ((sense : Sense) (s : List ℕ) (i j : ℕ) → FormsPart sense s stage i j since rows one₀ other₀ → FormsPart sense s t i j since rows one other)
+Inv-loop since rows one₀ other₀ t₀ one other t =
+    (1 ≤ t) × (t ≤ t₀) × (length one ≡ mostKinds) × (length other ≡ mostKinds) × ((sense : Sense) (s : List ℕ) (i j : ℕ) → FormsPart sense s t₀ i j since rows one₀ other₀ → FormsPart sense s t i j since rows one other)
 
 abbrev μ-loop : tie.MeasureT-loop
-μ-loop stage since rows one₀ other₀ t₀ one other t = t
+μ-loop since rows one₀ other₀ t₀ one other t = t
 
 loop-holds : tie.Need-loop-holds Inv-loop μ-loop
-loop-holds c = (c .before .before .pre .0 .0, omega arith, search needs, search needs, λ sense s i j p. p)
+loop-holds c = (c .before .before .before .pre .0 .0, omega arith, search needs, search needs, λ sense s i j p. p)
 
 slice-aggregate-form-before : tie.Need-slice-aggregate-form-before Inv-loop μ-loop
 slice-aggregate-form-before c = omega (arith, c .before .before .loop .inv .2)
@@ -34,7 +34,7 @@ slice-aggregate-form-before-3 c = search needs
 
 form-before-requires : tie.Need-form-before-requires Inv-loop μ-loop
 form-before-requires c κs =
-    let start = c .before .before .before .before .before .before .before in
+    let start = c .before .before .before .before .before .before .before .before in
     let loop = c .before .before .before .before .loop in
     let part = start .pre .1 in
     ((loop .inv .2, search needs, search needs), forms-fit (loop .t) (c .before .before .before .loop-test .taken) (loop .inv .4 (part .0) (part .1) (part .2) (part .3) (part .4)) .0)
@@ -52,7 +52,7 @@ slice-aggregate-form-before-6 c = search needs
 
 form-before-requires-2 : tie.Need-form-before-requires-2 Inv-loop μ-loop
 form-before-requires-2 c κs =
-    let start = c .before .before .before .before .before .before .before .before .before .before .before in
+    let start = c .before .before .before .before .before .before .before .before .before .before .before .before in
     let loop = c .before .before .before .before .before .before .before .before .loop in
     let loop-test = c .before .before .before .before .before .before .before .loop-test in
     let part = start .pre .1 in

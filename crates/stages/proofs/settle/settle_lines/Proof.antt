@@ -1,6 +1,6 @@
 -- The loop has reached the stage, and none up to it is settled. The measure is what is left of the kinds.
 use borrow.Author.Needs.{needs}
-use mathlib.Core.Path.{_≡_, refl, _∙_}
+use mathlib.Core.Path.{_≡_, refl, sym, _∙_}
 use mathlib.Core.List.{List}
 use Prim.Native.Nat.{ℕ, suc, _-_}
 use lib.ListN.{length}
@@ -19,10 +19,10 @@ use Rattle.stages.proofs.settle.settle_lines.Statement.{statement}
 use Rattle.stages.proofs.settle.settle_lines.Tie as tie
 
 abbrev Inv-loop : tie.InvT-loop
-Inv-loop sense sheet card lines forms₀ norms rows₀ classes₀ since₀ rows-before₀ stage₀ forms rows classes since rows-before stage = Progress (senseOf sense) sheet stage forms rows classes since rows-before
+Inv-loop sense sheet card lines forms₀ norms rows₀ classes₀ since₀ before₀ stage₀ forms rows classes since before stage = Progress (senseOf sense) sheet stage forms rows classes since before
 
 abbrev μ-loop : tie.MeasureT-loop
-μ-loop sense sheet card lines forms₀ norms rows₀ classes₀ since₀ rows-before₀ stage₀ forms rows classes since rows-before stage = card .kinds - stage
+μ-loop sense sheet card lines forms₀ norms rows₀ classes₀ since₀ before₀ stage₀ forms rows classes since before stage = card .kinds - stage
 
 loop-holds : tie.Need-loop-holds Inv-loop μ-loop
 loop-holds c =
@@ -60,9 +60,9 @@ slice-aggregate-line-classes-2 c = search needs
 
 line-classes-requires : tie.Need-line-classes-requires Inv-loop μ-loop
 line-classes-requires c κs =
-    let start = c .before .before .before .before .before .before .before .before .before .before .before .before .before .before in
-    let loop = c .before .before .before .before .before .before .before .before .before .before .loop in
-    let rows = c .before .before .before .before .before .before .stage-rows in
+    let start = c .before .before .before .before .before .before .before .before .before .before .before .before .before in
+    let loop = c .before .before .before .before .before .before .before .before .before .loop in
+    let rows = c .before .before .before .before .before .stage-rows in
     let reached = loop .inv in
     let whole = lines-whole (start .pre .1 .0) (start .pre .0 .reads) in
     let given = held-given (start .pre .0 .reads) (start .pre .0 .accepted) (start .pre .1 .0) (reached .held) in
@@ -70,8 +70,8 @@ line-classes-requires c κs =
 
 add-stage : tie.Need-add-stage Inv-loop μ-loop
 add-stage c =
-    let start = c .before .before .before .before .before .before .before .before .before .before .before .before .before .before .before .before .before in
-    let loop = c .before .before .before .before .before .before .before .before .before .before .before .before .before .loop in
+    let start = c .before .before .before .before .before .before .before .before .before .before .before .before .before .before .before .before in
+    let loop = c .before .before .before .before .before .before .before .before .before .before .before .before .loop in
     omega (arith, unsettled-next (senseOf (start .args .sense)) (start .args .sheet .now) (start .pre .0 .accepted) (loop .inv .unsettled), few-kinds (start .pre .0 .reads))
 
 slice-aggregate-keep-stage : tie.Need-slice-aggregate-keep-stage Inv-loop μ-loop
@@ -88,8 +88,9 @@ slice-aggregate-keep-stage-4 c = search needs
 
 keep-stage-requires : tie.Need-keep-stage-requires Inv-loop μ-loop
 keep-stage-requires c κs =
-    let reached = c .before .before .before .before .before .before .before .before .before .before .before .before .before .before .before .before .before .loop .inv in
-    (reached .rows-long, search needs, reached .before-long, reached .since-long)
+    let start = c .before .before .before .before .before .before .before .before .before .before .before .before .before .before .before .before .before .before .before .before in
+    let reached = c .before .before .before .before .before .before .before .before .before .before .before .before .before .before .before .before .loop .inv in
+    ((reached .rows-long, search needs, reached .before-long, reached .since-long), kinds-most (start .pre .0 .reads))
 
 slice-aggregate-rows-expand : tie.Need-slice-aggregate-rows-expand Inv-loop μ-loop
 slice-aggregate-rows-expand c = search needs
@@ -102,10 +103,10 @@ norms-long c = search needs
 
 slice-aggregate-rows-expand-3 : tie.Need-slice-aggregate-rows-expand-3 Inv-loop μ-loop
 slice-aggregate-rows-expand-3 c =
-    let start = c .before .before .before .before .before .before .before .before .before .before .before .before .before .before .before .before .before .before .before .before .before .before .before .before .before .before .before in
+    let start = c .before .before .before .before .before .before .before .before .before .before .before .before .before .before .before .before .before .before .before .before .before .before .before .before .before .before in
     search (needs, norms-long start)
 
-all-rows : (c : tie.After-stage-rows Inv-loop μ-loop) → length (c .stage-rows .result .rows) ≡ 1024
+all-rows : (c : tie.After-stage-rows Inv-loop μ-loop) → length (c .stage-rows .result) ≡ 1024
 all-rows c = search needs
 
 all-classes : (c : tie.After-line-classes Inv-loop μ-loop) → length (c .line-classes .result) ≡ 256
@@ -113,9 +114,9 @@ all-classes c = search needs
 
 rows-expand-requires : tie.Need-rows-expand-requires Inv-loop μ-loop
 rows-expand-requires c κs =
-    let start = c .before .before .before .before .before .before .before .before .before .before .before .before .before .before .before .before .before .before .before .before .before .before .before .before .before .before .before in
-    let loop = c .before .before .before .before .before .before .before .before .before .before .before .before .before .before .before .before .before .before .before .before .before .before .before .loop in
-    let rows = c .before .before .before .before .before .before .before .before .before .before .before .before .before .before .before .before .before .before .before .stage-rows in
+    let start = c .before .before .before .before .before .before .before .before .before .before .before .before .before .before .before .before .before .before .before .before .before .before .before .before .before .before in
+    let loop = c .before .before .before .before .before .before .before .before .before .before .before .before .before .before .before .before .before .before .before .before .before .before .loop in
+    let rows = c .before .before .before .before .before .before .before .before .before .before .before .before .before .before .before .before .before .before .stage-rows in
     let whole = lines-whole (start .pre .1 .0) (start .pre .0 .reads) in
     let given = held-given (start .pre .0 .reads) (start .pre .0 .accepted) (start .pre .1 .0) (loop .inv .held) in
     let found = rows .ensures (loop .stage) given (loop .inv .held .rows-are) in
@@ -123,34 +124,34 @@ rows-expand-requires c κs =
 
 -- The state in which the next stage has been tested: where the loop began, what it had reached, and what was found since.
 abbrev start : tie.After-rows-expand Inv-loop μ-loop → tie.Start Inv-loop μ-loop
-start c = c .before .before .before .before .before .before .before .before .before .before .before .before .before .before .before .before .before .before .before .before .before .before .before .before .before .before .before .before
+start c = c .before .before .before .before .before .before .before .before .before .before .before .before .before .before .before .before .before .before .before .before .before .before .before .before .before .before .before
 
 abbrev sense : tie.After-rows-expand Inv-loop μ-loop → Sense
 sense c = senseOf (start c .args .sense)
 
 abbrev stage : tie.After-rows-expand Inv-loop μ-loop → ℕ
-stage c = c .before .before .before .before .before .before .before .before .before .before .before .before .before .before .before .before .before .before .before .before .before .before .before .before .loop .stage
+stage c = c .before .before .before .before .before .before .before .before .before .before .before .before .before .before .before .before .before .before .before .before .before .before .before .loop .stage
 
 abbrev next : tie.After-rows-expand Inv-loop μ-loop → List ℕ
-next c = c .before .before .before .before .before .before .before .before .before .before .before .before .before .before .before .before .before .before .before .before .stage-rows .result .rows
+next c = c .before .before .before .before .before .before .before .before .before .before .before .before .before .before .before .before .before .before .before .stage-rows .result
 
 abbrev classes : tie.After-rows-expand Inv-loop μ-loop → List ℕ
 classes c = c .before .before .before .before .before .before .before .before .before .before .before .before .before .line-classes .result
 
 base : (c : tie.After-rows-expand Inv-loop μ-loop) → BaseAt (sense c) (start c .args .sheet .now) (suc (stage c)) (next c)
 base c =
-    let reached = c .before .before .before .before .before .before .before .before .before .before .before .before .before .before .before .before .before .before .before .before .before .before .before .before .loop .inv in
+    let reached = c .before .before .before .before .before .before .before .before .before .before .before .before .before .before .before .before .before .before .before .before .before .before .before .loop .inv in
     let given = held-given (start c .pre .0 .reads) (start c .pre .0 .accepted) (start c .pre .1 .0) (reached .held) in
-    c .before .before .before .before .before .before .before .before .before .before .before .before .before .before .before .before .before .before .before .before .stage-rows .ensures (stage c) given (reached .held .rows-are) .base-is
+    c .before .before .before .before .before .before .before .before .before .before .before .before .before .before .before .before .before .before .before .stage-rows .ensures (stage c) given (reached .held .rows-are) .base-is
 
 told : (c : tie.After-rows-expand Inv-loop μ-loop) → Classes (sense c) (start c .args .sheet .now) (stage c) (classes c) × BoundsAt (sense c) (start c .args .sheet .now) (stage c) (classes c)
 told c = c .before .before .before .before .before .before .before .before .before .before .before .before .before .line-classes .ensures .0 (sense c) (stage c) (base c)
 
-kept : (c : tie.After-rows-expand Inv-loop μ-loop) → let keep = c .before .before .before .before .before .before .keep-stage .last in KeptTo (sense c) (start c .args .sheet .now) (suc (stage c)) (keep .1 .1 .1 .0) (keep .1 .1 .1 .1 .0)
+kept : (c : tie.After-rows-expand Inv-loop μ-loop) → let keep = c .before .before .before .before .before .before .keep-stage .last in KeptTo (sense c) (start c .args .sheet .now) (suc (stage c)) (keep .1 .1 .1 .1 .0) (keep .1 .1 .1 .1 .1 .0)
 kept c =
-    let reached = c .before .before .before .before .before .before .before .before .before .before .before .before .before .before .before .before .before .before .before .before .before .before .before .before .loop .inv in
+    let reached = c .before .before .before .before .before .before .before .before .before .before .before .before .before .before .before .before .before .before .before .before .before .before .before .loop .inv in
     let keep = c .before .before .before .before .before .before .keep-stage in
-    kept-stage (sense c) (start c .args .sheet .now) (start c .pre .0 .accepted) (stage c) (reached .kept) (base c) (reached .held .rows-are .follows) (rw (add-one (stage c)) at (keep .ensures)) (few-kinds (start c .pre .0 .reads))
+    kept-stage (sense c) (start c .args .sheet .now) (start c .pre .0 .accepted) (stage c) (reached .kept) (base c) (reached .held .rows-are .follows) (reached .held .no-rows) (rw (add-one (stage c)) at (keep .ensures)) (sym (kinds-are (start c .pre .0 .reads)))
 
 same-length : tie.Need-same-length Inv-loop μ-loop
 same-length c = omega (arith, c .before .before .before .before .before .before .before .before .before .before .before .before .before .before .line-classes .ensures .1 .long, start (c .before) .pre .1 .1 .long)
@@ -159,14 +160,14 @@ returns : tie.Need-returns Inv-loop μ-loop
 returns c =
     let tested = c .before in
     let begun = start tested in
-    let unsettled = c .before .before .before .before .before .before .before .before .before .before .before .before .before .before .before .before .before .before .before .before .before .before .before .before .before .loop .inv .unsettled in
+    let unsettled = c .before .before .before .before .before .before .before .before .before .before .before .before .before .before .before .before .before .before .before .before .before .before .before .before .loop .inv .unsettled in
     let passes = tested .rows-expand .ensures .0 (c .if1 .taken) in
-    rw (add-one (stage tested)) (held-end (sense tested) (begun .pre .0) (begun .pre .1 .0) (stage tested) (next tested) (classes tested) (base tested) (told tested .0) unsettled passes _ refl (kept tested))
+    rw (add-one (stage tested)) (held-end (sense tested) (begun .pre .0) (begun .pre .1 .0) (stage tested) (next tested) (classes tested) (base tested) (told tested .0) unsettled passes (kept tested))
 
 loop-less : tie.Need-loop-less Inv-loop μ-loop
 loop-less c =
     let begun = start (c .before) in
-    let unsettled = c .before .before .before .before .before .before .before .before .before .before .before .before .before .before .before .before .before .before .before .before .before .before .before .before .before .loop .inv .unsettled in
+    let unsettled = c .before .before .before .before .before .before .before .before .before .before .before .before .before .before .before .before .before .before .before .before .before .before .before .before .loop .inv .unsettled in
     omega (arith, unsettled-next (sense (c .before)) (begun .args .sheet .now) (begun .pre .0 .accepted) unsettled, kinds-are (begun .pre .0 .reads))
 
 loop-again : tie.Need-loop-again Inv-loop μ-loop
@@ -175,7 +176,7 @@ loop-again c =
     let begun = start tested in
     let sheet = begun .args .sheet .now in
     let ok = begun .pre .0 .accepted in
-    let reached = c .before .before .before .before .before .before .before .before .before .before .before .before .before .before .before .before .before .before .before .before .before .before .before .before .before .loop .inv in
+    let reached = c .before .before .before .before .before .before .before .before .before .before .before .before .before .before .before .before .before .before .before .before .before .before .before .before .loop .inv in
     let keep = c .before .before .before .before .before .before .before .keep-stage in
     let settled = held-settled (sense tested) (begun .pre .0) (begun .pre .1 .0) (stage tested) (next tested) (classes tested) (base tested) (told tested .0) in
     rw (add-one (stage tested)) (record {
@@ -183,10 +184,10 @@ loop-again c =
       unsettled = unsettled-more (sense tested) sheet ok (reached .unsettled) (λ y. told-not (tested .rows-expand .ensures) (c .if1 .left) (settled .1 y));
       table = c .before .before .before .before .before .before .before .before .before .before .before .before .before .before .line-classes .ensures .1;
       kept = kept tested;
-      rows-long = all-rows (c .before .before .before .before .before .before .before .before .before .before .before .before .before .before .before .before .before .before .before .before .before);
+      rows-long = all-rows (c .before .before .before .before .before .before .before .before .before .before .before .before .before .before .before .before .before .before .before .before);
       classes-long = all-classes (c .before .before .before .before .before .before .before .before .before .before .before .before .before .before);
-      since-long = keep .kept .1 .1 .1 .0 ∙ reached .since-long;
-      before-long = keep .kept .1 .1 .1 .1 .0 ∙ reached .before-long;
+      since-long = keep .kept .1 .1 .1 .1 .0 ∙ reached .since-long;
+      before-long = keep .kept .1 .1 .1 .1 .1 .0 ∙ reached .before-long;
     })
 
 pub settle-lines-spec : {M : Type 1} → statement M
