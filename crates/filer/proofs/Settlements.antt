@@ -24,7 +24,7 @@ use Rattle.acceptance.proofs.Acceptances.{accepts, refused as found-refused}
 use Rattle.stages.specs.declared.settle.Settled.{Settled}
 use Rattle.stages.specs.Settle.{IsSettled}
 use Rattle.stages.specs.Parting.{partedBy}
-use Rattle.stages.proofs.Outcomes.{compare-different, compare-same}
+use Rattle.stages.proofs.Outcomes.{settled-marks, compare-different, compare-same}
 use Rattle.filer.specs.declared.settlement.Settlement.{Settlement}
 use Rattle.filer.specs.Settlement.{IsSettlement, tableIn}
 use Rattle.theory.proofs.Told.{gives}
@@ -134,7 +134,7 @@ pub marks-fit : {s : List ℕ} {x : Settlement} (X : IsSettlement plain s x) (c 
     → (k : ℕ) → k < length (take (c .kinds) (x .settled .base .since)) → at (take (c .kinds) (x .settled .base .since)) k < 2 ^ 32
 marks-fit {s} {x} X c e long bytes k l =
     let u : k < c .kinds = omega (arith, length-take-le (c .kinds) (x .settled .base .since) long) in
-    let small = marks-small s (ok X c e) (x .settled .base .since) (rw (kinds X c e) at long) (was-settled X c e .since-are) bytes k (omega (arith, kinds X c e)) in
+    let small = marks-small s (ok X c e) (x .settled .base .since) (rw (kinds X c e) at long) (settled-marks plain s (ok X c e) (was-settled X c e)) bytes k (omega (arith, kinds X c e)) in
     omega (arith, getD-take (c .kinds) (x .settled .base .since) k 0 u, small)
 
 -- What a contract asks of the call with the marks, from what it comes to.
@@ -162,7 +162,7 @@ module _ {s : List ℕ} {x : Settlement} (X : IsSettlement plain s x) (table mar
           → marked ≡ written (take (c .kinds) (x .settled .base .since)) marks → Tells (given (x .settled .stage)) after marked
       since-writes after marked long l w v =
           let S = was-settled X c e in
-          let g = marked-gives (since-given s (ok X c e) (x .settled .base .since) (rw (kinds X c e) at long) (S .since-are) (x .settled .base .rows) table marks (S .base-is) (rw (kinds X c e) at h) (rw (kinds X c e) at l)) in (
+          let g = marked-gives (since-given s (ok X c e) (x .settled .base .since) (rw (kinds X c e) at long) (settled-marks plain s (ok X c e) S) (x .settled .base .rows) table marks (S .base-is) (rw (kinds X c e) at h) (rw (kinds X c e) at l)) in (
             ap given (S .stage-is) ∙ g .0,
             (
               w ∙ ap (λ (n : ℕ). written (tableIn n (x .settled .base .rows)) table) (kinds X c e) ∙ g .1 .0,

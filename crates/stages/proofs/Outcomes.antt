@@ -8,7 +8,7 @@ use Rattle.model.specs.Finite.{listFrom}
 use Rattle.model.specs.Field.{Field, at}
 use Rattle.model.specs.Limits.{mostKinds}
 use Rattle.model.specs.Norm.{kindNorm}
-use Rattle.model.specs.Base.{roundsAt, settledStageIn, settledFormIn}
+use Rattle.model.specs.Base.{roundsAt, settledStageIn, settledFormIn, sinceIn}
 use Rattle.model.specs.Sheet.{kindCount, fieldCount, cardOf, fieldOf}
 use Rattle.model.specs.Refusal.{Accepted}
 use Rattle.theory.specs.Stages.{Start}
@@ -26,6 +26,10 @@ use Rattle.stages.proofs.Fields.{fields-fit}
 use Rattle.stages.proofs.Verdict.{verdict-same, verdict-different}
 
 module _ (sense : Sense) (s : List ℕ) (ok : Accepted s) where
+  -- The marks of the settled stage are those of the final base.
+  pub settled-marks : {r : Settled} → IsSettled sense s r → (k : ℕ) → k < kindCount s → at (r .base .since) k ≡ sinceIn sense (cardOf s) k
+  settled-marks S k h = S .kept-is .marks k h (sheet-settles sense s ok .from)
+
   -- Where the rows are the settled stage's.
   module _ (rows : List ℕ) (B : BaseAt sense s (settledStageIn sense (cardOf s)) rows) where
     later : (t : ℕ) → 1 ≤ t → (q : ℕ) × (t ≡ suc q)

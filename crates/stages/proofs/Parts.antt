@@ -46,7 +46,6 @@ module _ (sense : Sense) {s : List ℕ} {d : Card} {t : List ℕ} (clean : first
   settled {r} S = record {
     stage-is = S .stage-is ∙ same-stage;
     base-is = λ k h. S .base-is k (under k h) ∙ same-row (settledStageIn sense (cardOf u)) k ∙ ap (λ q. stageRowIn sense (cardOf s) q k) same-stage;
-    since-are = λ k h. S .since-are k (under k h) ∙ same-mark (settledStageIn sense (cardOf u)) k ∙ ap (λ q. stageSinceIn sense (cardOf s) q k) same-stage;
     kept-is = subst (λ q. KeptTo sense s q (r .base .since) (r .before)) same-stage (kept-part (S .kept-is));
   }
 

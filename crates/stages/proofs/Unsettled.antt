@@ -1,14 +1,14 @@
 -- The loop over the stages: what is held at each, and that none before the present one is settled.
 use mathlib.Core.List.{List}
 use mathlib.Core.Logic.{_↔_}
-use mathlib.Core.Path.{_≡_, _∙_, ap, subst}
+use mathlib.Core.Path.{_≡_, subst}
 use Prim.Native.Nat.{ℕ, suc, _≤_, _<_}
 use native.Mathlib.Decide.{decLt}
 use native.Mathlib.Omega.{arith}
 use lib.ListN.{length, replicate}
 use Rattle.model.specs.Sense.{Sense}
 use Rattle.model.specs.Field.{unit}
-use Rattle.model.specs.Base.{settledStageIn, stageRowIn, stageSinceIn}
+use Rattle.model.specs.Base.{settledStageIn, stageRowIn}
 use Rattle.model.specs.Limits.{mostKinds, mostLines}
 use Rattle.model.specs.Refusal.{Accepted}
 use Rattle.model.specs.Sheet.{kindCount, cardOf}
@@ -121,6 +121,5 @@ module _ (sense : Sense) {s lines norms : List ℕ} {c : Card} (A : Accepts s c 
       record {
         stage-is = e;
         base-is = subst (λ (v : ℕ). BaseAt sense s v rows) e B;
-        since-are = λ k h. H .marks k h (omega arith) ∙ ap (λ (v : ℕ). stageSinceIn sense (cardOf s) v k) e;
         kept-is = subst (λ (v : ℕ). KeptTo sense s v since rowsBefore) e H;
       }

@@ -1,11 +1,11 @@
 -- What the settle loop holds at a stage of a sense, and what it answers.
 use mathlib.Core.List.{List}
 use mathlib.Core.Path.{_≡_}
-use Prim.Native.Nat.{ℕ, suc, _<_}
+use Prim.Native.Nat.{ℕ, suc}
 use Rattle.model.specs.Sense.{Sense}
 use Rattle.model.specs.Field.{none, at}
-use Rattle.model.specs.Base.{settledStageIn, sinceIn}
-use Rattle.model.specs.Sheet.{kindCount, cardOf}
+use Rattle.model.specs.Base.{settledStageIn}
+use Rattle.model.specs.Sheet.{cardOf}
 use Rattle.tables.specs.Table.{rowIn}
 use Rattle.rows.specs.Stage.{BaseAt, Classes, BoundsAt}
 use Rattle.rows.specs.StageRows.{RowsBefore}
@@ -20,9 +20,8 @@ pub record AtStage (sense : Sense) (s : List ℕ) (t : ℕ) (rows classes : List
   pub one-class : t ≡ 0 → (j : ℕ) → at classes j ≡ 0
   pub bounds : BoundsAt sense s t classes
 
--- "The settled stage", "the final base", its marks, and what is kept of the stages up to that one.
+-- "The settled stage", "the final base", and of the stages up to that one its marks and what is kept beside them.
 pub record IsSettled (sense : Sense) (s : List ℕ) (r : Settled) : Type 0 where
   pub stage-is : r .stage ≡ settledStageIn sense (cardOf s)
   pub base-is : BaseAt sense s (settledStageIn sense (cardOf s)) (r .base .rows)
-  pub since-are : (k : ℕ) → k < kindCount s → at (r .base .since) k ≡ sinceIn sense (cardOf s) k
   pub kept-is : KeptTo sense s (settledStageIn sense (cardOf s)) (r .base .since) (r .before)

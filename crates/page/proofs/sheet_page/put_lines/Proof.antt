@@ -5,11 +5,13 @@ use native.Mathlib.Omega.{arith}
 use lib.ListN.{take}
 use lib.Seq.{length-take-le}
 use Rattle.model.specs.Norm.{kindNorm}
+use Rattle.model.specs.Sense.{plain}
 use Rattle.model.specs.Sheet.{cardOf}
 use Rattle.model.specs.Answer.{tableOf}
 use Rattle.model.specs.Page.{lines}
 use Rattle.sheet.proofs.Laws.{kinds-some, kinds-most, fields-most}
 use Rattle.page.specs.Lengths.{mostPage}
+use Rattle.stages.proofs.Outcomes.{settled-marks}
 use Rattle.filer.proofs.Rows.{square-most}
 use Rattle.text.proofs.Append.{then, reads-as}
 use Rattle.page.proofs.Pages.{table-part, lines-from}
@@ -87,7 +89,7 @@ returns c =
     let most = fields-most (accepts .reads) in
     let settled = start .pre .0 .settled-is (accepts .accepted) in
     reads-as mostPage (lines s (tableOf s) (kindNorm (cardOf s))) (then (then (then (put-head .ensures) (put-kinds .ensures)) (put-fields .ensures)) (c .before .before .put-pairs .ensures)) (omega arith)
-    (lines-from accepts (start .args .settlement .settled .stage) (start .args .settlement .settled .base .since) (take (start .args .card .kinds * start .args .card .kinds) (table .result)) (settled .stage-is) (settled .since-are)
+    (lines-from accepts (start .args .settlement .settled .stage) (start .args .settlement .settled .base .since) (take (start .args .card .kinds * start .args .card .kinds) (table .result)) (settled .stage-is) (settled-marks plain s (accepts .accepted) settled)
     (table-part accepts (start .args .settlement .settled .base .rows) (table .result) (settled .base-is) (table .ensures)))
 
 pub put-lines-spec : {M : Type 1} → statement M
