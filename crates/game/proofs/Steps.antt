@@ -10,14 +10,13 @@ use Rattle.model.specs.Card.{Line, fire}
 use Rattle.model.specs.Sheet.{line_of, card_of}
 use Rattle.model.specs.Walk.{Seen, examine}
 use Rattle.theory.specs.Counted.{Counted, holds, fails, spent, cut}
-use Rattle.theory.proofs.Lists.{least_within, least_test}
+use Rattle.theory.proofs.Lists.{least_within}
 use Rattle.theory.proofs.Counted.{follow, followed, pair_spent, pair_zero, pair_next}
 use Rattle.theory.proofs.Runs.{run_none, run_next, run_halves, replies}
 use Rattle.sheet.specs.Reader.{Reads}
 use Rattle.sheet.specs.declared.reader.Card.{Card}
 use Rattle.sheet.proofs.Laws.{lines_are, card_lines}
 use Rattle.moves.specs.Lines.{between, next_of}
-use Rattle.moves.proofs.Searches.{least_here}
 use Rattle.game.specs.Challenges.{challenge_of, first_line, second_line, may_challenge, may_reply, replied, challenged}
 use Rattle.game.proofs.Sides.{numbered, both_sides_is, left_pair}
 
@@ -55,15 +54,6 @@ module _ {s : List ℕ} {card : Card} (read : Reads s card) where
       challenge_next n known d =
           followed true (Challenged r a b (number + 1) to) (run_next (numbered a b (card_of s).lines r) (challenge_of s) from to v fits number e n)
           (d ∙ ap (λ (ls : List Line). cut v (replied a b (card_of s).lines r (challenge_of s number) ls)) all_lines)
-
-      -- The challenges before the first that can be made are passed over.
-      pub challenge_from : ¬ (number ≡ to) → cut v (Challenged r a b number to) ≡ cut v (Challenged r a b from to)
-      challenge_from n =
-          let w = least_within (λ i. may_challenge a b (challenge_of s i)) from to fits in
-          let l : number < to = omega (arith, w.1, e) in
-          let can : may_challenge a b (challenge_of s number) ≡ true = rw e (least_test (λ i. may_challenge a b (challenge_of s i)) from to fits (rw e at l)) in
-          let here : number ≡ next_of (may_challenge a b) (challenge_of s) number to = sym (least_here (λ i. may_challenge a b (challenge_of s i)) number to l can) in
-          run_next (numbered a b (card_of s).lines r) (challenge_of s) number to v (omega arith) number here n ∙ sym (run_next (numbered a b (card_of s).lines r) (challenge_of s) from to v fits number e n)
 
     module _ (middle : ℕ) (p : from ≤ middle) (q : middle ≤ to) (known : Counted) where
       pub challenge_half : known ≡ cut v (Challenged r a b from middle) → follow true known (Challenged r a b middle to) ≡ cut v (Challenged r a b from to)

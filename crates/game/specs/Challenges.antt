@@ -28,10 +28,6 @@ first_line lines number answer = elim (ltb number lines) [ true ↦ number | fal
 unfoldable pub second_line : ℕ → ℕ → ℕ → ℕ
 second_line lines number answer = elim (ltb number lines) [ true ↦ answer | false ↦ number - lines ]
 
--- The number from which the challenges of the side that replies are numbered: the second's where the first challenges.
-unfoldable pub other_start : ℕ → ℕ → ℕ
-other_start lines number = elim (ltb number lines) [ true ↦ lines | false ↦ 0 ]
-
 module _ (a b : Field) where
   -- Whether the side may use the line, and whether a line is a reply of the other side.
   abbrev pub may_challenge : Challenge → Bool

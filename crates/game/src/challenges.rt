@@ -1,15 +1,15 @@
-// The challenges to a pair of fields by number: the first side's by its lines, then the second's. A line's use in reply is found as the challenge by that line of the side that replies.
-ghost use Rattle.std.specs.Prelude.{◌≡◌, ◌+◌, ◌*◌, ◌≤◌, ◌<◌};
+// The challenges to a pair of fields, `first` the first side's and `second` the second's, by number: the first side's by its lines, then the second's.
+ghost use Rattle.std.specs.Prelude.{◌≡◌, ◌*◌, ◌≤◌, ◌<◌};
 ghost use Rattle.model.specs.Field.{at};
-ghost use Rattle.model.specs.Limits.{most_codes};
-ghost use Rattle.model.specs.Sheet.{line_count, line_of};
+ghost use Rattle.model.specs.Sheet.{line_of};
+ghost use Rattle.sheet.specs.Reader.{Reads};
 ghost use Rattle.moves.specs.Lines.{next_of};
 ghost use Rattle.moves.specs.Following.{Follows};
-ghost use Rattle.game.specs.Challenges.{challenge_of, other_start, first_line, second_line, may_challenge, may_reply};
-ghost use Rattle.game.specs.Marks.{first_in, second_in, Marked};
+ghost use Rattle.game.specs.Challenges.{challenge_of, first_line, second_line, may_challenge, may_reply};
 
-use crate::marks::{CHALLENGES, MARKS, PAIR, mark_at};
-use moves::follow::{ENTRIES, following};
+use moves::follow::ENTRIES;
+use moves::lines::{may_use, next_reply};
+use sheet::Card;
 
 // A part of the walk that is to be examined: the challenges that have the numbers from `from` up to `to`, or the replies by these lines, at a number of rounds and within an allowance.
 #[derive(Drop)]
@@ -34,31 +34,42 @@ impl Part {
     }
 }
 
-// Whether the side of a challenge may use its line. The marks are those of the sheet.
-fn may_challenge(sheet: &[u8], marks: &[u8; MARKS], number: usize, pair: &[u32; PAIR]) -> bool
-    requires marked { Marked sheet.now marks.now }
-    requires number_bound { number < 2 * line_count sheet.now }
-    ensures { result ≡ may_challenge (at (first_in pair.now)) (at (second_in pair.now)) (challenge_of sheet.now number) }
+// Whether the side of a challenge may use its line.
+fn may_challenge(
+    sheet: &[u8],
+    card: Card,
+    number: usize,
+    first: &[u32; 32],
+    second: &[u32; 32],
+) -> bool
+    requires reads { Reads sheet.now card }
+    requires number_bound { number < 2 * card.lines }
+    ensures { result ≡ may_challenge (at first.now) (at second.now) (challenge_of sheet.now number) }
 {
-    let place = mark_at(marks, number);
-    0 < pair[place]
+    let lines = card.lines;
+    if number < lines {
+        may_use(sheet, card, number, first)
+    } else {
+        may_use(sheet, card, number - lines, second)
+    }
 }
 
 // The first challenge from `from` up to `to` whose side may use its line; `to` where there is none.
 pub fn next_challenge(
     sheet: &[u8],
-    marks: &[u8; MARKS],
+    card: Card,
     from: usize,
     to: usize,
-    pair: &[u32; PAIR],
+    first: &[u32; 32],
+    second: &[u32; 32],
 ) -> usize
-    requires marked { Marked sheet.now marks.now }
-    requires from_le_to { (from ≤ to) × (to ≤ 2 * line_count sheet.now) }
-    ensures { result ≡ next_of (may_challenge (at (first_in pair.now)) (at (second_in pair.now))) (challenge_of sheet.now) from to }
+    requires reads { Reads sheet.now card }
+    requires from_le_to { (from ≤ to) × (to ≤ 2 * card.lines) }
+    ensures { result ≡ next_of (may_challenge (at first.now) (at second.now)) (challenge_of sheet.now) from to }
 {
     let mut number = from;
     while number < to {
-        if may_challenge(sheet, marks, number, pair) {
+        if may_challenge(sheet, card, number, first, second) {
             return number;
         }
         number += 1;
@@ -66,69 +77,34 @@ pub fn next_challenge(
     number
 }
 
-// The code of a challenge's line. The marks are those of the sheet.
-fn code_of(sheet: &[u8], marks: &[u8; MARKS], number: usize) -> usize
-    requires marked { Marked sheet.now marks.now }
-    requires number_bound { number < 2 * line_count sheet.now }
-    ensures { result ≡ (challenge_of sheet.now number).line.code }
-{
-    mark_at(marks, CHALLENGES + number)
-}
-
-// The number from which the challenges of the side that replies to a challenge are numbered.
-fn other_start(lines: usize, number: usize) -> usize
-    ensures { result ≡ other_start lines number }
-{
-    if number < lines { lines } else { 0 }
-}
-
-// The first line from a position up that has a code: the line there where it has, and else the table leads to it.
-fn next_of_code(
-    sheet: &[u8],
-    table: &[u16; ENTRIES],
-    marks: &[u8; MARKS],
-    position: usize,
-    to: usize,
-    code: usize,
-) -> usize
-    requires follows { Follows sheet.now table.now × Marked sheet.now marks.now }
-    requires position_le_to { (position ≤ to) × (to ≤ line_count sheet.now) × (code < most_codes) }
-    ensures { result ≡ at table.now (position * most_codes + code) }
-{
-    if position < to {
-        if code_of(sheet, marks, position) == code {
-            return position;
-        }
-    }
-    following(table, position, code)
-}
-
 // The first line of a part that is a reply of the other side to the challenge of a number; the part's end where none is.
 pub fn next_answer(
     sheet: &[u8],
+    card: Card,
     table: &[u16; ENTRIES],
-    marks: &[u8; MARKS],
-    lines: usize,
     number: usize,
     part: Part,
-    pair: &[u32; PAIR],
+    first: &[u32; 32],
+    second: &[u32; 32],
 ) -> usize
-    requires follows { Follows sheet.now table.now × Marked sheet.now marks.now }
-    requires lines_value { (lines ≡ line_count sheet.now) × (number < 2 * lines) × (part.from ≤ part.to) × (part.to ≤ lines) }
-    ensures { result ≡ next_of (may_reply (at (first_in pair.now)) (at (second_in pair.now)) (challenge_of sheet.now number)) (line_of sheet.now) part.from part.to }
+    requires reads { Reads sheet.now card × Follows sheet.now table.now }
+    requires number_bound { (number < 2 * card.lines) × (part.from ≤ part.to) × (part.to ≤ card.lines) }
+    ensures { result ≡ next_of (may_reply (at first.now) (at second.now) (challenge_of sheet.now number)) (line_of sheet.now) part.from part.to }
 {
-    let from = part.from;
-    let to = part.to;
-    let code = code_of(sheet, marks, number);
-    let start = other_start(lines, number);
-    let mut line = following(table, from, code);
-    while line < to {
-        if may_challenge(sheet, marks, start + line, pair) {
-            return line;
-        }
-        line = next_of_code(sheet, table, marks, line + 1, to, code);
+    let lines = card.lines;
+    if number < lines {
+        next_reply(sheet, card, table, number, part.from, part.to, second)
+    } else {
+        next_reply(
+            sheet,
+            card,
+            table,
+            number - lines,
+            part.from,
+            part.to,
+            first,
+        )
     }
-    to
 }
 
 // The line that the first side uses in a round: the challenge's where it challenges, else the reply.

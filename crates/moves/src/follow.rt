@@ -13,7 +13,7 @@ use sheet::Card;
 pub const ENTRIES: usize = 16_448;
 
 // The entry of a row that a line belongs to: its code.
-fn row_entry(sheet: &[u8], card: Card, line: usize) -> usize
+pub fn row_entry(sheet: &[u8], card: Card, line: usize) -> usize
     requires reads { Reads sheet.now card }
     requires line_lt_lines { line < card.lines }
     ensures { (result ≡ (line_of sheet.now line).code) × (result < most_codes) }

@@ -12,7 +12,7 @@ use crate::writing::{put, put_header, put_number};
 // The numbers of a card. Kind k has the number (k + shift) % kinds on the sheet. The lines that clear a kind leave nothing on a `flat` card. On
 // a `chain` the others leave, from kind 1 up, one token of the kind below, so that its kinds part at stages 2, 3, 4. On a `loose` card no line
 // is there to clear a kind. Fields have tokens of the first kinds alone, so many as `held`.
-#[derive(Drop)]
+#[derive(Clone, Copy)]
 struct Shape {
     seed: u64,
     kinds: usize,

@@ -3,9 +3,10 @@ ghost use Rattle.std.specs.Prelude.{◌≡◌, true, List, ◌↔◌, ℕ, ◌�
 ghost use Rattle.model.specs.Field.{unit, at};
 ghost use Rattle.model.specs.Limits.{most_kinds};
 ghost use Rattle.tables.specs.Table.{row_in, Atoms};
+ghost use Rattle.tables.specs.Lines.{lines_in, LineTable};
 ghost use Rattle.tables.specs.Class.{AlikeIn, KindMarks, RowsExpand};
 
-use tables::marks::{marks_of_field, marks_of_kind, same_marks};
+use tables::marks::{kind_marks, marks_of_field, marks_of_kind, same_marks};
 use tables::table::{is_atom, row_of};
 
 // One token of a kind, as counts.
@@ -43,15 +44,18 @@ fn row_expands(marks: &[bool], rows: &[u32], norms: &[u32], kind: usize) -> bool
     uses_alike(marks, kind, row_of(rows, kind))
 }
 
-// Whether each of this many kinds that has a norm, and its row, may use lines of the same classes, by the marks of these: "every row must".
-pub fn rows_expand(marks: &[bool], rows: &[u32], norms: &[u32], kinds: usize) -> bool
-    requires marks_len { (length marks.now ≡ 8192) × (length rows.now ≡ 1024) × (kinds ≤ most_kinds) × (kinds ≤ length norms.now) }
+// Whether each of this many kinds that has a norm, and its row, may use lines of the same classes: "every row must".
+pub fn rows_expand(lines: &[u8], classes: &[u8], rows: &[u32], norms: &[u32], kinds: usize) -> bool
+    requires line_table { LineTable lines.now × (lines_in lines.now ≤ length classes.now) }
+    requires rows_len { (length rows.now ≡ 1024) × (kinds ≤ most_kinds) × (kinds ≤ length norms.now) }
     requires atoms { Atoms rows.now kinds }
-    ensures { (lines classes : List ℕ) → KindMarks lines classes marks.now → (result ≡ true) ↔ RowsExpand lines classes rows.now norms.now kinds }
+    ensures { (result ≡ true) ↔ RowsExpand lines.now classes.now rows.now norms.now kinds }
 {
+    let mut marks = [false; 8192];
+    kind_marks(lines, classes, &mut marks);
     let mut kind = 0;
     while kind < kinds {
-        if row_expands(marks, rows, norms, kind) {
+        if row_expands(&marks, rows, norms, kind) {
             kind += 1;
         } else {
             return false;

@@ -1,26 +1,13 @@
 // Norm-reducing expansion of a kind against its row in a table: "Norm-reducing expansion considers only reads that lower the norm, for challenge and reply alike."
 ghost use Rattle.std.specs.Prelude.{◌≡◌, true, ◌↔◌, ℕ, ◌≤◌, ◌<◌, length, take};
 ghost use Rattle.model.specs.Field.{unit, at};
-ghost use Rattle.model.specs.Limits.{most_kinds, most_lines};
+ghost use Rattle.model.specs.Limits.{most_kinds};
 ghost use Rattle.tables.specs.Lines.{lines_in, kind_in, LowersIn, LineTable};
 ghost use Rattle.tables.specs.Match.{EachMatched, AllMatched, Among, Lists, MatchTables, MatchIn, UsableIn, Answered};
-ghost use Rattle.row_tests.specs.Tested.{passed};
 
-use ranks::matched::all_matched_sorted;
 use tables::class::lines_match;
 use tables::lines::{kind_of, lowers};
 use tables::table::row_of;
-
-// What the test of a row comes to: it passes or fails, and if it fails, whether at once or late, after long lists of lines were compared.
-#[derive(Drop)]
-pub enum Tested {
-    Passed,
-    Failed,
-    FailedLate,
-}
-
-// From how many lines on, of two lists together, these are put in order before they are compared.
-const MANY: usize = 24;
 
 // Whether a line lowers the norm and a field may use it.
 fn is_usable(lines: &[u8], field: &[u32], line: usize) -> bool
@@ -54,7 +41,7 @@ pub fn usable_lines(lines: &[u8], field: &[u32], list: &mut [u8]) -> usize
 }
 
 // Whether some line of a list matches a line.
-pub fn some_match(lines: &[u8], rows: &[u32], forms: &[u64], list: &[u8], line: usize) -> bool
+fn some_match(lines: &[u8], rows: &[u32], forms: &[u64], list: &[u8], line: usize) -> bool
     requires cases { MatchTables lines.now rows.now forms.now }
     requires by_index { (j : ℕ) → Among list.now j → j < lines_in lines.now }
     requires line_bound { line < lines_in lines.now }
@@ -90,9 +77,8 @@ fn each_matched(lines: &[u8], rows: &[u32], forms: &[u64], list: &[u8], others: 
     true
 }
 
-// Whether each line of either list has a match in the other: each is sought in the whole of the other. The lines of the longer list are the first to challenge: unless some have the same effect, the shorter has
-// too few replies.
-fn few_matched(lines: &[u8], rows: &[u32], forms: &[u64], list: &[u8], others: &[u8]) -> bool
+// Whether each line of either list has a match in the other. The lines of the longer list are the first to challenge: unless some have the same effect, the shorter has too few replies.
+fn all_matched(lines: &[u8], rows: &[u32], forms: &[u64], list: &[u8], others: &[u8]) -> bool
     requires cases { MatchTables lines.now rows.now forms.now }
     requires by_index { (i : ℕ) → Among list.now i → i < lines_in lines.now }
     requires by_index_2 { (j : ℕ) → Among others.now j → j < lines_in lines.now }
@@ -110,51 +96,11 @@ fn few_matched(lines: &[u8], rows: &[u32], forms: &[u64], list: &[u8], others: &
     false
 }
 
-// Whether the last line of a list has a match in another list; true of an empty list.
-fn last_matched(lines: &[u8], rows: &[u32], forms: &[u64], list: &[u8], others: &[u8]) -> bool
-    requires cases { MatchTables lines.now rows.now forms.now }
-    requires by_index { (i : ℕ) → Among list.now i → i < lines_in lines.now }
-    requires by_index_2 { (j : ℕ) → Among others.now j → j < lines_in lines.now }
-    ensures { EachMatched (MatchIn lines.now rows.now forms.now) (Among list.now) (Among others.now) → result ≡ true }
-{
-    let count = list.len();
-    if count == 0 {
-        return true;
-    }
-    let line = list[count - 1] as usize;
-    some_match(lines, rows, forms, others, line)
-}
-
-// Whether each line of either list has a match in the other. Long lists are put in order, and compared in one pass over both; before that the last line of each is tried, since most candidates fail at any.
-fn all_matched(lines: &[u8], rows: &[u32], forms: &[u64], list: &[u8], others: &[u8]) -> Tested
-    requires cases { MatchTables lines.now rows.now forms.now }
-    requires by_index { (i : ℕ) → Among list.now i → i < lines_in lines.now }
-    requires by_index_2 { (j : ℕ) → Among others.now j → j < lines_in lines.now }
-    requires list_len_bound { (length list.now ≤ most_lines) × (length others.now ≤ most_lines) }
-    ensures { (passed result ≡ true) ↔ AllMatched (MatchIn lines.now rows.now forms.now) (Among list.now) (Among others.now) }
-{
-    if list.len() + others.len() < MANY {
-        if few_matched(lines, rows, forms, list, others) {
-            return Tested::Passed;
-        }
-        return Tested::Failed;
-    }
-    if last_matched(lines, rows, forms, list, others) {
-        if last_matched(lines, rows, forms, others, list) {
-            if all_matched_sorted(lines, rows, forms, list, others) {
-                return Tested::Passed;
-            }
-            return Tested::FailedLate;
-        }
-    }
-    Tested::Failed
-}
-
 // Whether every challenge of the kind or of its row that lowers the norm has a reply by the other that does. The kind's own lines that do are given.
-pub fn all_answered(lines: &[u8], rows: &[u32], forms: &[u64], own: &[u8], kind: usize) -> Tested
+pub fn all_answered(lines: &[u8], rows: &[u32], forms: &[u64], own: &[u8], kind: usize) -> bool
     requires cases { MatchTables lines.now rows.now forms.now × (kind < most_kinds) }
-    requires lists { Lists (UsableIn lines.now (unit kind)) own.now × (length own.now ≤ most_lines) }
-    ensures { (passed result ≡ true) ↔ Answered lines.now rows.now forms.now kind }
+    requires lists { Lists (UsableIn lines.now (unit kind)) own.now }
+    ensures { (result ≡ true) ↔ Answered lines.now rows.now forms.now kind }
 {
     let mut its = [0u8; 256];
     let count = usable_lines(lines, row_of(rows, kind), &mut its);

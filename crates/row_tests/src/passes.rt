@@ -1,14 +1,13 @@
 // The tests that tell whether the row of a kind in a table, a product of atoms, is its row at a stage.
-ghost use Rattle.std.specs.Prelude.{◌≡◌, true, List, ◌↔◌, ℕ, ◌≤◌, ◌<◌, length};
+ghost use Rattle.std.specs.Prelude.{◌≡◌, true, List, ◌↔◌, ℕ, ◌<◌, length};
 ghost use Rattle.model.specs.Field.{unit};
-ghost use Rattle.model.specs.Limits.{most_kinds, most_lines};
+ghost use Rattle.model.specs.Limits.{most_kinds};
 ghost use Rattle.tables.specs.Match.{Lists, MatchTables, UsableIn};
 ghost use Rattle.tables.specs.Senses.{sense_of};
 ghost use Rattle.tables.specs.Class.{KindMarks, Passes};
-ghost use Rattle.row_tests.specs.Tested.{passed};
 
 use crate::expansion::uses_alike;
-use crate::norm_reducing::{Tested, all_answered};
+use crate::norm_reducing::all_answered;
 use crate::total::shares_total;
 use tables::sense::Sense;
 use tables::table::row_of;
@@ -23,11 +22,11 @@ pub fn passes(
     forms: &[u64],
     own: &[u8],
     kind: usize,
-) -> Tested
+) -> bool
     requires cases { MatchTables lines.now rows.now forms.now }
     requires kind_lt_most_kinds { (kind < most_kinds) × (length marks.now ≡ 8192) }
-    requires lists { Lists (UsableIn lines.now (unit kind)) own.now × (length own.now ≤ most_lines) }
-    ensures { (classes : List ℕ) → KindMarks lines.now classes marks.now → (passed result ≡ true) ↔ Passes (sense_of sense) lines.now rows.now forms.now classes kind }
+    requires lists { Lists (UsableIn lines.now (unit kind)) own.now }
+    ensures { (classes : List ℕ) → KindMarks lines.now classes marks.now → (result ≡ true) ↔ Passes (sense_of sense) lines.now rows.now forms.now classes kind }
 {
     let row = row_of(rows, kind);
     if shares_total(sense, row) {
@@ -36,5 +35,5 @@ pub fn passes(
             return all_answered(lines, rows, forms, own, kind);
         }
     }
-    Tested::Failed
+    false
 }

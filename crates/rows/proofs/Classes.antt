@@ -1,7 +1,7 @@
 -- Bounds of the classes of the lines, from stage to stage.
 use mathlib.Core.List.{List}
 use mathlib.Core.Path.{◌≡◌, sym, ◌∙◌, ap}
-use Prim.Native.Nat.{ℕ, suc, ◌<◌}
+use Prim.Native.Nat.{ℕ, suc}
 use native.Mathlib.Omega.{arith}
 use lib.ListN.{replicate}
 use Rattle.model.specs.Sense.{Sense}
@@ -9,12 +9,12 @@ use Rattle.model.specs.Field.{Field, ◌⊕◌, unit}
 use Rattle.model.specs.Card.{Line, Card, On}
 use Rattle.model.specs.Norm.{kind_norm}
 use Rattle.model.specs.Base.{stage_row_in, stage_form_in}
-use Rattle.model.specs.Sheet.{line_count, line_of, card_of}
+use Rattle.model.specs.Sheet.{line_of, card_of}
 use Rattle.model.specs.Refusal.{Accepted}
 use Rattle.theory.proofs.Certified.{Found}
 use Rattle.theory.proofs.Program.{Equal}
 use Rattle.theory.proofs.Sheets.{certified}
-use Rattle.rows.specs.Stage.{MatchAt, LinesMatch, BoundsAt}
+use Rattle.rows.specs.Stage.{MatchAt, BoundsAt}
 use Rattle.tables.proofs.Tables.{zero_counts}
 use Rattle.rows.proofs.Forms.{form_plus, form_unit, equal_before}
 use Rattle.rows.proofs.Lines.{line_on}
@@ -34,20 +34,12 @@ module _ (sense : Sense) (c : Card) (F : Found c (kind_norm c)) (l m : Line) (o 
 
 -- Bounds of the classes at a stage are bounds at the next. Line 0 is a bound for every line at every stage.
 pub bounds_next : (sense : Sense) (s : List ℕ) → Accepted s → (q : ℕ) (bounds : List ℕ) → BoundsAt sense s q bounds → BoundsAt sense s (suc q) bounds
-bounds_next sense s ok q bounds f =
+bounds_next sense s ok q bounds f j h =
+    let b = f j h in
     record {
-      none_before = λ j h.
-          let b = f.none_before j h in
-          record { within = b.within; none = λ i l m. b.none i l (earlier i j (omega (arith, b.within)) h m) };
-      alike = λ i j a b m. f.alike i j a b (earlier i j a b m);
+      within = b.within;
+      none = λ i l m. b.none i l (match_before sense (card_of s) (certified s ok) (line_of s i) (line_of s j) (line_on s i (omega (arith, b.within))) (line_on s j h) q m);
     }
-  where
-    earlier : (i j : ℕ) → i < line_count s → j < line_count s → LinesMatch sense s (suc q) i j → LinesMatch sense s q i j
-    earlier i j a b m = match_before sense (card_of s) (certified s ok) (line_of s i) (line_of s j) (line_on s i a) (line_on s j b) q m
 
 pub bounds_first : (sense : Sense) (s : List ℕ) (q n : ℕ) → BoundsAt sense s q (replicate n 0)
-bounds_first sense s q n =
-    record {
-      none_before = λ j h. record { within = omega (arith, zero_counts n j); none = λ i l. absurd (omega (arith, zero_counts n j)) };
-      alike = λ i j _ _ _. zero_counts n i ∙ sym (zero_counts n j);
-    }
+bounds_first sense s q n j h = record { within = omega (arith, zero_counts n j); none = λ i l. absurd (omega (arith, zero_counts n j)) }

@@ -1,13 +1,13 @@
 -- The search for the row of a kind k: the candidates that its lines tell are set in the table and tested there, one after the other.
-use mathlib.Core.Bool.{Bool, true, false, not}
-use mathlib.Core.List.{List, [], ◌∷◌, ◌++◌}
-use mathlib.Core.Logic.{◌↔◌, ◌⊎◌, inl, inr, ⊎_elim}
+use mathlib.Core.Bool.{Bool, true, false}
+use mathlib.Core.List.{List}
+use mathlib.Core.Logic.{◌↔◌}
 use mathlib.Core.Path.{◌≡◌, refl, sym, ap, ◌∙◌}
 use Prim.Native.Nat.{ℕ, suc, ◌+◌, ◌*◌, ◌≤◌, ◌<◌}
 use borrow.Author.Count.{below_more}
 use native.Mathlib.Decide.{ℕ_discrete}
 use native.Mathlib.Omega.{arith}
-use lib.ListN.{length, length-append}
+use lib.ListN.{length}
 use Rattle.model.specs.Sense.{Sense}
 use Rattle.model.specs.Field.{Field, unit, at}
 use Rattle.model.specs.Base.{stage_row_in}
@@ -20,64 +20,36 @@ use Rattle.theory.proofs.Base.{unit_some}
 use Rattle.theory.proofs.Sheets.{certified}
 use Rattle.tables.specs.Table.{row_in, with_row, IsCandidate}
 use Rattle.tables.specs.Lines.{lines_in, kind_in}
-use Rattle.tables.specs.Match.{Among, Lists, MatchIn, UsableIn}
+use Rattle.tables.specs.Match.{Lists, UsableIn}
 use Rattle.tables.specs.Class.{Passes}
 use Rattle.rows.specs.Stage.{ToldAt, line_kind, LowersAt}
 use Rattle.rows.specs.Forms.{OthersKept, RowSet}
-use Rattle.rows.specs.Row.{LowersKind, Suits, Untried, ToldIn}
+use Rattle.rows.specs.Row.{LowersKind, Suits, ToldIn}
 use Rattle.rows.specs.StageRows.{StageGiven, RowSought}
 use Rattle.tables.proofs.Answers.{not_both}
-use Rattle.tables.proofs.LineLists.{among_less}
 use Rattle.tables.proofs.Stores.{with_row_is, with_others}
 use Rattle.rows.proofs.Forms.{earlier_not}
 use Rattle.rows.proofs.Candidates.{Product, TellsNone, no_line_tells}
-use Rattle.rows.proofs.RowTests.{Telling, ll, lk, told_is, suits_telling, suits_product, suits_form, row_suits, none_matched, product_narrow, passes_iff}
+use Rattle.rows.proofs.RowTests.{ll, lk, told_is, suits_product, suits_form, none_suited, product_narrow, passes_iff}
 
--- Every entry of the list of a kind's own lines is one, and there is one.
+-- The first of a kind's own lines is one, and there is one.
 module _ (lines : List ℕ) {own : List ℕ} {k : ℕ} (L : Lists (UsableIn lines (unit k)) own) where
-  pub own_line : (x : ℕ) → x < length own → LowersKind lines k (at own x)
-  own_line x h = let u = (L.entries (at own x)).0 (x, h, refl) in (u.0, unit_some k (kind_in lines (at own x)) u.1)
+  pub own_first : 0 < length own → LowersKind lines k (at own 0)
+  own_first h = let u = (L.entries (at own 0)).0 (0, h, refl) in (u.0, unit_some k (kind_in lines (at own 0)) u.1)
 
   pub own_some : ((l : ℕ) × LowersKind lines k l) → 0 < length own
   own_some w = omega (arith, ((L.entries w.0).1 (w.1.0, rw w.1.1 (omega (arith, unit_same k)))).1)
 
--- A line that suits is untried just when no line that was tried matches it.
-pub untried_tells : {r : Bool} {lines classes rows forms tried : List ℕ} {l m : ℕ} → Suits lines classes rows l m → (r ≡ true) ↔ ((j : ℕ) × Among tried j × MatchIn lines rows forms m j)
-    → (not r ≡ true) ↔ Untried lines classes rows forms tried l m
-untried_tells {r = true} suited some = (λ e. absurd (not_both refl e), λ w. let u = some.0 refl in absurd (w.unmatched u.0 u.1 u.2))
-untried_tells {r = false} suited some = (λ _. record { suited = suited; unmatched = λ j a m. not_both refl (some.1 (j, a, m)) }, λ _. refl)
-
--- An entry of a list with one number more is one of the list, or that number.
-among_split : (xs : List ℕ) (n : ℕ) {i : ℕ} → Among (xs ++ n ∷ []) i → Among xs i ⊎ (i ≡ n)
-among_split xs n {i} a = go (ℕ_discrete i n)
-  where
-    go : Dec (i ≡ n) → Among xs i ⊎ (i ≡ n)
-    go (yes e) = inr e
-    go (no d) = inl (among_less xs n a d)
-
--- The lines before line m are tried: none of them tells the row, and all rows of the table but k's are as they were. The lines of the list are among them, and suited.
-pub record Searched (sense : Sense) (lines classes forms : List ℕ) (k l : ℕ) (old rows tried : List ℕ) (m : ℕ) : Type 0 where
+-- The lines before line m are tried: none of them tells the row, and all rows of the table but k's are as they were.
+pub record Searched (sense : Sense) (lines classes forms : List ℕ) (k l : ℕ) (old rows : List ℕ) (m : ℕ) : Type 0 where
   pub within : m ≤ lines_in lines
   pub long : length rows ≡ length old
   pub others : OthersKept k old rows
-  pub few : length tried ≤ m
-  pub passed : (j : ℕ) → Among tried j → j < m
   pub sought : (s : List ℕ) (t : ℕ) → StageGiven sense s t lines classes → RowSought sense s t k old forms → RowSought sense s t k rows forms
-  pub telling : (s : List ℕ) (t : ℕ) → StageGiven sense s t lines classes → RowSought sense s t k old forms → (j : ℕ) → Among tried j → Telling sense s t k l j
   pub none : (s : List ℕ) (t : ℕ) → StageGiven sense s t lines classes → RowSought sense s t k old forms → (x : ℕ) → x < m → TellsNone sense s t k l x
 
-pub searched_none : {sense : Sense} {lines classes forms : List ℕ} {k l : ℕ} {rows : List ℕ} → Searched sense lines classes forms k l rows rows [] 0
-searched_none =
-    record {
-      within = omega arith;
-      long = refl;
-      others = λ i _. refl;
-      few = omega arith;
-      passed = λ j a. absurd (omega (arith, a.1));
-      sought = λ s t _ K. K;
-      telling = λ s t _ _ j a. absurd (omega (arith, a.1));
-      none = λ s t _ _ x h. absurd (omega arith);
-    }
+pub searched_none : {sense : Sense} {lines classes forms : List ℕ} {k l : ℕ} {rows : List ℕ} → Searched sense lines classes forms k l rows rows 0
+searched_none = record { within = omega arith; long = refl; others = λ i _. refl; sought = λ s t _ K. K; none = λ s t _ _ x h. absurd (omega arith) }
 
 -- The table with another row k, whose own count is not 1, tells as much of the earlier kinds.
 sought_kept : {sense : Sense} {s : List ℕ} {t k : ℕ} {rows new forms : List ℕ} → Accepted s → OthersKept k rows new → ¬ (row_in new k k ≡ 1) → RowSought sense s t k rows forms → RowSought sense s t k new forms
@@ -102,22 +74,16 @@ sought_kept {sense} {s} {t} {k} {rows} {new} ok o n K =
     early j one (yes e) f = absurd (n (rw e at one))
     early j one (no d) f = f (ap (λ (g : Field). g j) (sym (o j d)) ∙ one)
 
-module _ {sense : Sense} {lines classes forms : List ℕ} {k l : ℕ} {old rows tried : List ℕ} {m : ℕ} (H : Searched sense lines classes forms k l old rows tried m) (lw : LowersKind lines k l) (hm : m < lines_in lines) where
-  -- Line m does not suit, or matches one that was tried.
-  pub searched_skip : (Untried lines classes rows forms tried l m → ⊥) → Searched sense lines classes forms k l old rows tried (m + 1)
+module _ {sense : Sense} {lines classes forms : List ℕ} {k l : ℕ} {old rows : List ℕ} {m : ℕ} (H : Searched sense lines classes forms k l old rows m) (lw : LowersKind lines k l) (hm : m < lines_in lines) where
+  -- Line m does not suit.
+  pub searched_skip : (Suits lines classes rows l m → ⊥) → Searched sense lines classes forms k l old rows (m + 1)
   searched_skip n =
       record {
         within = omega arith;
         long = H.long;
         others = H.others;
-        few = omega (arith, H.few);
-        passed = λ j a. omega (arith, H.passed j a);
         sought = H.sought;
-        telling = H.telling;
-        none = λ s t G K. below_more _ _ (H.none s t G K) (λ w d i own b q r. n (record {
-          suited = row_suits G (H.sought s t G K) lw w d i own b q r;
-          unmatched = λ j a M. none_matched G (H.sought s t G K) lw (H.telling s t G K j a) M (H.none s t G K j (H.passed j a)) w d i own b q r;
-        }));
+        none = λ s t G K. below_more _ _ (H.none s t G K) (none_suited G (H.sought s t G K) lw n);
       }
 
   -- Line m suits, and tells the candidate with l.
@@ -130,16 +96,13 @@ module _ {sense : Sense} {lines classes forms : List ℕ} {k l : ℕ} {old rows 
         I.only b (product_narrow G now lw b (suits_product G now lw hm S b told)) told
 
     -- There is none.
-    pub searched_unfound : found ≡ false → Searched sense lines classes forms k l old rows tried (m + 1)
+    pub searched_unfound : found ≡ false → Searched sense lines classes forms k l old rows (m + 1)
     searched_unfound e =
         record {
           within = omega arith;
           long = H.long;
           others = H.others;
-          few = omega (arith, H.few);
-          passed = λ j a. omega (arith, H.passed j a);
           sought = H.sought;
-          telling = H.telling;
           none = λ s t G K. below_more _ _ (H.none s t G K) (λ w _ i _ b q _. not_both e (only_told G K w i b q).0);
         }
 
@@ -165,32 +128,14 @@ module _ {sense : Sense} {lines classes forms : List ℕ} {k l : ℕ} {old rows 
         passes_row = passes_iff G now_sought product (suits_form G (H.sought s t G K) lw hm S (row_in new k) row_told)
 
       -- It does not pass.
-      pub searched_failed : length new ≡ length rows → (Passes sense lines new forms classes k → ⊥) → Searched sense lines classes forms k l old new tried (m + 1)
+      pub searched_failed : length new ≡ length rows → (Passes sense lines new forms classes k → ⊥) → Searched sense lines classes forms k l old new (m + 1)
       searched_failed same n =
           record {
             within = omega arith;
             long = same ∙ H.long;
             others = λ i d. kept i d ∙ H.others i d;
-            few = omega (arith, H.few);
-            passed = λ j a. omega (arith, H.passed j a);
             sought = λ s t G K. now_sought G K;
-            telling = H.telling;
             none = λ s t G K. below_more _ _ (H.none s t G K) (λ w _ i _ b q r. n ((passes_row G K).1 (r ∙ (only_told G K w i b q).1 ∙ sym row_is)));
-          }
-
-      -- It does not pass, and the line joins the list.
-      pub searched_joined : length new ≡ length rows → (Passes sense lines new forms classes k → ⊥) → Searched sense lines classes forms k l old new (tried ++ m ∷ []) (m + 1)
-      searched_joined same n =
-          let failed = searched_failed same n in
-          record {
-            within = failed.within;
-            long = failed.long;
-            others = failed.others;
-            few = omega (arith, length-append tried (m ∷ []), H.few);
-            passed = λ j a. ⊎_elim (λ b. failed.passed j b) (λ e. omega arith) (among_split tried m a);
-            sought = failed.sought;
-            telling = λ s t G K j a. ⊎_elim (λ b. H.telling s t G K j b) (λ e. rw e (suits_telling G (H.sought s t G K) lw hm S)) (among_split tried m a);
-            none = failed.none;
           }
 
       -- It passes.
@@ -201,7 +146,7 @@ module _ {sense : Sense} {lines classes forms : List ℕ} {k l : ℕ} {old rows 
       searched_row p s t G K = sym ((passes_row G K).0 p)
 
 -- All lines are tried, and the kind is set as its own row.
-module _ {sense : Sense} {lines classes forms : List ℕ} {k l : ℕ} {old rows tried : List ℕ} {m : ℕ} (H : Searched sense lines classes forms k l old rows tried m) (lw : LowersKind lines k l) (all : lines_in lines ≤ m)
+module _ {sense : Sense} {lines classes forms : List ℕ} {k l : ℕ} {old rows : List ℕ} {m : ℕ} (H : Searched sense lines classes forms k l old rows m) (lw : LowersKind lines k l) (all : lines_in lines ≤ m)
     {new : List ℕ} (set : RowSet (unit k) k rows new) where
   pub searched_all : OthersKept k old new
   searched_all i d = set.others i d ∙ H.others i d

@@ -1,11 +1,11 @@
 -- What lines tell of the row of a kind k, from tables that hold the rows and the forms known so far, and the tests of a row that is set in the table.
 use mathlib.Core.List.{List}
 use mathlib.Core.Logic.{◌↔◌}
-use mathlib.Core.Path.{◌≡◌, refl, sym, ap, ◌∙◌, subst, fun_ext}
+use mathlib.Core.Path.{◌≡◌, refl, sym, ap, ◌∙◌, subst}
 use Prim.Native.Nat.{ℕ, zero, suc, ◌^◌, ◌≤◌, ◌<◌}
 use native.Mathlib.Omega.{arith}
 use Rattle.model.specs.Sense.{Sense}
-use Rattle.model.specs.Field.{Field, ◌⊕◌, unit, at}
+use Rattle.model.specs.Field.{Field, unit, at}
 use Rattle.model.specs.Base.{stage_row_in, stage_form_in}
 use Rattle.model.specs.Card.{Reached}
 use Rattle.model.specs.Norm.{kind_norm, norm}
@@ -25,20 +25,12 @@ use Rattle.tables.specs.Class.{AlikeIn, Passes}
 use Rattle.rows.specs.Stage.{left_form, MatchBy, ToldAt, line_kind, LowersAt, LinesAre}
 use Rattle.rows.specs.Row.{LowersKind, Suits, ToldIn}
 use Rattle.rows.specs.StageRows.{StageGiven, RowSought}
-use Rattle.tables.proofs.Tables.{at_kind}
 use Rattle.tables.proofs.Matching.{match_equivalence, match_agrees, all_agrees}
 use Rattle.rows.proofs.Forms.{row_own}
 use Rattle.rows.proofs.Candidates.{Product, TellsNone, lines_product, shares_start, row_shares}
 use Rattle.rows.proofs.Passing.{AnsweredAt, passes_one, passes_next, row_kept, told_class}
 use Rattle.rows.proofs.Sizes.{product_limit}
 use Rattle.rows.proofs.StageRows.{lowers_at, usable_at, alike_at}
-
--- Line j lowers the norm, reads line l's code and is of an earlier atom of stage t + 1 than kind k: it may tell k's row with l.
-pub record Telling (sense : Sense) (s : List ℕ) (t k l j : ℕ) : Type 0 where
-  pub lowering : LowersAt s j
-  pub code : (line_of s j).code ≡ (line_of s l).code
-  pub before : Earlier (card_of s) (line_kind s j) k
-  pub atom : stage_row_in sense (card_of s) (suc t) (line_kind s j) ≡ unit (line_kind s j)
 
 module _ {sense : Sense} {s : List ℕ} {t : ℕ} {lines classes : List ℕ} (G : StageGiven sense s t lines classes) where
   L : LinesAre s lines
@@ -100,16 +92,13 @@ module _ {sense : Sense} {s : List ℕ} {t : ℕ} {lines classes : List ℕ} (G 
         pub suits_product : (b : Field) → ToldIn lines forms l m b → Product sense (card_of s) t k b
         suits_product b e = lines_product sense s ok t k kind l m ll lm lk before ((atom_told m lm.0 before).0 S.own) b ((told_is m lm before b).0 e)
 
-        pub suits_telling : Telling sense s t k l m
-        suits_telling = record { lowering = lm; code = code_told m lm S.code; before = before; atom = (atom_told m lm.0 before).0 S.own }
-
         -- It has the row of kind k for its form at the stage before.
         pub suits_form : (b : Field) → ToldIn lines forms l m b → (p : ℕ) → t ≡ suc p → stage_row_in sense (card_of s) (suc p) k ≡ stage_form_in sense (card_of s) (suc p) b
         suits_form b e p z =
             (told_class sense s ok k kind p classes (G.follows p z) l m ll.0 lm.0 lk (code_told m lm S.code) b
             (subst (λ (u : ℕ). ToldAt sense (card_of s) u (line_of s l) (line_of s m) b) z ((told_is m lm before b).0 e))).1 S.class
 
-      -- A line that tells the row has the class of the line that it tells it with.
+      -- A line that does not suit tells no candidate that is the row: if it told the row, the two lines would have one class.
       row_class : (m : ℕ) → LowersAt s m → (line_of s m).code ≡ (line_of s l).code → (b : Field) → ToldAt sense (card_of s) t (line_of s l) (line_of s m) b → Product sense (card_of s) t k b
           → stage_row_in sense (card_of s) (suc t) k ≡ b → at classes m ≡ at classes l
       row_class m w d b q P r = go t refl q P r
@@ -118,27 +107,14 @@ module _ {sense : Sense} {s : List ℕ} {t : ℕ} {lines classes : List ℕ} (G 
           go zero z q P r = G.one_class (sym z) m ∙ sym (G.one_class (sym z) l)
           go (suc p) z q P r = (told_class sense s ok k kind p classes (G.follows p (sym z)) l m ll.0 w.0 lk d b q).0 (row_kept sense s ok k kind p b P r)
 
-      pub row_suits : {m : ℕ} → LowersAt s m → (line_of s m).code ≡ (line_of s l).code → Earlier (card_of s) (line_kind s m) k → stage_row_in sense (card_of s) (suc t) (line_kind s m) ≡ unit (line_kind s m)
-          → (b : Field) → ToldAt sense (card_of s) t (line_of s l) (line_of s m) b → stage_row_in sense (card_of s) (suc t) k ≡ b → Suits lines classes rows l m
-      row_suits {m} w d i own b q r =
-          record {
+      pub none_suited : {m : ℕ} → (Suits lines classes rows l m → ⊥) → TellsNone sense s t k l m
+      none_suited {m} n w d i own b q r =
+          n (record {
             class = row_class m w d b q (lines_product sense s ok t k kind l m ll w lk i own b q) r;
             lowering = ((lowers_at L m).1 w).1;
             code = L.code_is m w.0 ∙ d ∙ sym (L.code_is l ll.0);
             own = (atom_told m w.0 i).1 own;
-          }
-
-      -- A line that matches one that tells no candidate which is the row tells none either: the two tell the same.
-      pub none_matched : {m j : ℕ} → Telling sense s t k l j → MatchIn lines rows forms m j → TellsNone sense s t k l j → TellsNone sense s t k l m
-      none_matched {m} {j} T M none w d i own b q r = none T.lowering T.code T.before T.atom b (fun_ext (λ x. omega (arith, at_kind q x, at_kind same x))) r
-        where
-          row_known : (x : ℕ) → x < line_count s → Earlier (card_of s) (line_kind s x) k → stage_row_in sense (card_of s) (suc t) (line_kind s x) ≡ unit (line_kind s x)
-              → row_in rows (kind_in lines x) ≡ unit (line_kind s x)
-          row_known x h e a = ap (row_in rows) (L.kind_is x h) ∙ K.earlier_set.rows_known (line_kind s x) (line_kind_is x h) e ∙ a
-
-          same : left_form sense (card_of s) t (line_of s m) ⊕ unit (line_kind s j) ≡ left_form sense (card_of s) t (line_of s j) ⊕ unit (line_kind s m)
-          same =
-              rw (K.earlier_set.forms_known m w i, K.earlier_set.forms_known j T.lowering T.before, row_known m w.0 i own, row_known j T.lowering.0 T.before T.atom) at M.1
+          })
 
       pub product_narrow : (b : Field) → Product sense (card_of s) t k b → (j : ℕ) → b j < 2 ^ 32
       product_narrow b P j = omega (arith, product_limit sense s ok t k (under_kinds s k kind) b P j)

@@ -2,7 +2,7 @@
 use mathlib.Core.List.{List}
 use mathlib.Core.Logic.{◌↔◌}
 use mathlib.Core.Path.{◌≡◌, refl, sym, ap, ◌∙◌, subst, fun_ext}
-use Prim.Native.Nat.{ℕ, zero, suc, ◌*◌, ◌^◌, ◌≤◌, ◌<◌}
+use Prim.Native.Nat.{ℕ, zero, suc, ◌^◌, ◌<◌}
 use native.Mathlib.Decide.{ℕ_discrete}
 use native.Mathlib.Omega.{arith}
 use lib.ListN.{length, replicate}
@@ -63,8 +63,8 @@ module _ {s lines : List ℕ} (L : LinesAre s lines) where
             rw (L.kind_is j i) (omega (arith, kind_under R j (omega (arith, lines_are R)), kinds_most R));
       }
 
-  pub tables_whole : {c : Card} {rows forms : List ℕ} → Reads s c → length rows ≡ 1024 → line_count s * 32 ≤ length forms → Under (2 ^ 63) forms → MatchTables lines rows forms
-  tables_whole R r f u = record { whole = lines_whole R; rows_long = r; forms_long = omega (arith, L.long, f); small = u }
+  pub tables_whole : {c : Card} {rows forms : List ℕ} → Reads s c → length rows ≡ 1024 → length forms ≡ 8192 → Under (2 ^ 63) forms → MatchTables lines rows forms
+  tables_whole R r f u = record { whole = lines_whole R; rows_long = r; forms_long = f; small = u }
 
 -- Forms by the rows of a stage's base are the stage's.
 module _ (sense : Sense) (s : List ℕ) (ok : Accepted s) (p : ℕ) (previous : List ℕ) (B : BaseAt sense s (suc p) previous) (b : Field) where

@@ -1,14 +1,14 @@
 -- Tables of forms, 32 counts a line: what a store of one row does, and what they hold of the lines.
-use Rattle.std.specs.Prelude.{List, ◌≡◌, ℕ, ◌*◌, ◌^◌, ◌≤◌, ◌<◌, length}
+use Rattle.std.specs.Prelude.{List, ◌≡◌, ℕ, ◌^◌, ◌<◌, length}
 use Rattle.model.specs.Field.{Field}
 use Rattle.model.specs.Sheet.{kind_count, line_count, line_of}
 use Rattle.tables.specs.Table.{Under, row_in, form_in}
 use Rattle.tables.specs.Lines.{kind_in, LowersIn}
 use Rattle.tables.specs.Match.{Among}
 
--- A table of forms for all the lines of a sheet. Every count is so small that sums with a row's or a candidate's fit 64 bits.
-pub record FormTable (s forms : List ℕ) : Type 0 where
-  pub long : line_count s * 32 ≤ length forms
+-- A table of forms for all the lines that a sheet may have. Every count is so small that sums with a row's or a candidate's fit 64 bits.
+pub record FormTable (forms : List ℕ) : Type 0 where
+  pub long : length forms ≡ 8192
   pub small : Under (2 ^ 63) forms
 
 -- The rows of the table but row k are as before.

@@ -3,7 +3,6 @@ use Rattle.std.specs.Prelude.{List, ◌≡◌, ℕ}
 use Rattle.model.specs.Field.{Field, at}
 use Rattle.tables.specs.Table.{row_in}
 use Rattle.tables.specs.Lines.{kind_in, code_in, LowersIn, LoweringIn}
-use Rattle.tables.specs.Match.{Among, MatchIn}
 use Rattle.rows.specs.Stage.{Told}
 
 -- Line l is one of kind k that lowers the norm.
@@ -16,11 +15,6 @@ pub record Suits (lines classes rows : List ℕ) (l m : ℕ) : Type 0 where
   pub lowering : LowersIn lines m
   pub code : code_in lines m ≡ code_in lines l
   pub own : row_in rows (kind_in lines m) (kind_in lines m) ≡ 1
-
--- Line m suits line l, and none of the lines of the list matches it: lines that were tried with l before.
-pub record Untried (lines classes rows forms tried : List ℕ) (l m : ℕ) : Type 0 where
-  pub suited : Suits lines classes rows l m
-  pub unmatched : (j : ℕ) → Among tried j → MatchIn lines rows forms m j → ⊥
 
 -- b is m's kind with what l leaves, less what m leaves, in atoms, by the forms in the table.
 abbrev pub ToldIn : List ℕ → List ℕ → ℕ → ℕ → Field → Type 0

@@ -53,4 +53,4 @@ pub record KindSet (sense : Sense) (s : List ℕ) (t k : ℕ) (rows newRows form
 pub record RowsFound (sense : Sense) (s : List ℕ) (t : ℕ) (rows forms : List ℕ) : Type 0 where
   pub base_is : BaseAt sense s t rows
   pub forms_are : (j : ℕ) → LowersAt s j → row_in forms j ≡ stage_form_in sense (card_of s) t (line_of s j).left
-  pub table : FormTable s forms
+  pub table : FormTable forms

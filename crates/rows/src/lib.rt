@@ -4,8 +4,6 @@
 pub mod line_table;
 // The forms of what the lines leave.
 pub mod line_forms;
-// Which lines tell candidates for the row of a kind.
-pub mod suiting;
 // The row of a kind.
 pub mod row;
 // The rows of a stage.

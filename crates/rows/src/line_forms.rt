@@ -1,5 +1,5 @@
 // The forms of what the lines leave: a flat table, one row of 32 counts to a line, by the rows of a base.
-ghost use Rattle.std.specs.Prelude.{◌≡◌, ℕ, ◌*◌, ◌^◌, ◌≤◌, ◌<◌, length, take};
+ghost use Rattle.std.specs.Prelude.{◌≡◌, ℕ, ◌^◌, ◌≤◌, ◌<◌, length, take};
 ghost use Rattle.model.specs.Field.{unit};
 ghost use Rattle.model.specs.Limits.{most_kinds};
 ghost use Rattle.model.specs.Sheet.{kind_count, line_of};
@@ -18,7 +18,7 @@ use tables::table::form_of_counts;
 // The form of what a line leaves.
 fn line_form(sheet: &[u8], card: Card, rows: &[u32], forms: &mut [u64], line: usize)
     requires reads { Reads sheet.now card }
-    requires rows_len { (length rows.now ≡ 1024) × (card.lines * 32 ≤ length forms.old) }
+    requires rows_len { (length rows.now ≡ 1024) × (length forms.old ≡ 8192) }
     requires atoms { Atoms rows.now (kind_count sheet.now) }
     requires line_lt_lines { line < card.lines }
     requires under { Under (2 ^ 63) forms.old }
@@ -34,7 +34,7 @@ fn line_form(sheet: &[u8], card: Card, rows: &[u32], forms: &mut [u64], line: us
 pub fn all_forms(sheet: &[u8], card: Card, lines: &[u8], rows: &[u32], forms: &mut [u64])
     requires reads { Reads sheet.now card }
     requires lines_value { lines_in lines.now ≡ card.lines }
-    requires rows_len { (length rows.now ≡ 1024) × (card.lines * 32 ≤ length forms.old) }
+    requires rows_len { (length rows.now ≡ 1024) × (length forms.old ≡ 8192) }
     requires atoms { Atoms rows.now (kind_count sheet.now) }
     requires under { Under (2 ^ 63) forms.old }
     requires lowering_forms { LoweringForms sheet.now rows.now lines.now forms.old }
@@ -53,7 +53,7 @@ pub fn all_forms(sheet: &[u8], card: Card, lines: &[u8], rows: &[u32], forms: &m
 // The forms of what the lines of a list leave.
 fn list_forms(sheet: &[u8], card: Card, rows: &[u32], forms: &mut [u64], list: &[u8])
     requires reads { Reads sheet.now card }
-    requires rows_len { (length rows.now ≡ 1024) × (card.lines * 32 ≤ length forms.old) }
+    requires rows_len { (length rows.now ≡ 1024) × (length forms.old ≡ 8192) }
     requires atoms { Atoms rows.now (kind_count sheet.now) }
     requires by_index { (j : ℕ) → Among list.now j → j < card.lines }
     requires under { Under (2 ^ 63) forms.old }
@@ -79,7 +79,7 @@ pub fn kind_forms(
 ) -> usize
     requires reads { Reads sheet.now card }
     requires line_table { LineTable lines.now × (lines_in lines.now ≡ card.lines) × (lines_in lines.now ≤ length list.old) }
-    requires rows_len { (length rows.now ≡ 1024) × (card.lines * 32 ≤ length forms.old) × (kind < most_kinds) }
+    requires rows_len { (length rows.now ≡ 1024) × (length forms.old ≡ 8192) × (kind < most_kinds) }
     requires atoms { Atoms rows.now (kind_count sheet.now) }
     requires under { Under (2 ^ 63) forms.old }
     ensures upper_bound { (result ≤ length list.new) × Lists (UsableIn lines.now (unit kind)) (take result list.new) }

@@ -1,4 +1,6 @@
 // A second reader of a sheet, for the second player. It shares no function with the code that the player is held against.
+#![tactic(auto)]
+
 pub mod reader; // the numbers, lines and fields of a sheet, from its bytes
 pub mod moves; // what a line does to a field
 

@@ -7,7 +7,7 @@ ghost use Rattle.sheet.specs.Reader.{header_of, Reads, line_counts, field_counts
 use crate::bytes::{byte_at, u16_at};
 
 // The header's four numbers, by value.
-#[derive(Drop)]
+#[derive(Clone, Copy)]
 pub struct Card {
     pub kinds: usize,
     pub codes: usize,

@@ -27,7 +27,7 @@ use Rattle.tables.proofs.Tables.{at_kind, zero_counts, weigh_fewer, added_tokens
 use Rattle.tables.proofs.Stores.{with_row_is, with_others}
 use Rattle.rows.specs.Stage.{BaseAt}
 use Rattle.rows.proofs.Forms.{form_table, form_next, form_atoms, form_past, row_empty, row_atom, atom_stays}
-use Rattle.stages.specs.Kept.{AsKept, marked, left, KindKept, KeptFrom, RowsTaken, KeptTo, row_before, form_before}
+use Rattle.stages.specs.Kept.{AsKept, marked, left, KindKept, KeptFrom, KeptTo, row_before, form_before}
 
 -- What stands for an atom at the stage before.
 module _ (since rows : List ℕ) (stage k : ℕ) where
@@ -121,15 +121,6 @@ module _ {before after : List ℕ} {stage m : ℕ} {since rows oldSince oldRows 
       go : (k : ℕ) → k < m + 1 → Dec (k ≡ m) → AsKept before after stage k since rows newSince newRows
       go k l (yes e) = here (h.others k (omega arith)) (rw e x.here)
       go k l (no e) = earlier (x.others k e) (h.each k (omega arith))
-
--- One kind more has the row of the other table.
-pub taken_more : (m : ℕ) (table rows : List ℕ) {newRows row : List ℕ} → RowsTaken m table rows → row ≡ row_part table m → length row ≡ most_kinds → m * most_kinds + most_kinds ≤ length rows → newRows ≡ with_row rows m row
-    → RowsTaken (m + 1) table newRows
-taken_more m table rows {newRows} {row} h r long room e k l = go (ℕ_discrete k m)
-  where
-    go : Dec (k ≡ m) → row_in newRows k ≡ row_in table k
-    go (yes z) = rw z (rw e (with_row_is rows row m long room ∙ lent_row table m r))
-    go (no n) = rw e (with_others rows row m long room k n) ∙ h k (omega arith)
 
 module _ (sense : Sense) (s : List ℕ) (ok : Accepted s) where
   -- Before stage 1 nothing is kept.

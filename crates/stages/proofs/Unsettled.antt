@@ -81,12 +81,11 @@ held_next {sense} {s} ok t rows classes B K f = record {
   bounds = bounds_next sense s ok t classes f;
 }
 
--- How far the loop has come: what is held at stage t and kept of the stages up to it, in whole tables, that of the forms as long as it was lent, and none of these is settled.
-pub record Progress (sense : Sense) (s : List ℕ) (t : ℕ) (lent forms rows classes since rowsBefore : List ℕ) : Type 0 where
+-- How far the loop has come: what is held at stage t and kept of the stages up to it, in whole tables, and none of these is settled.
+pub record Progress (sense : Sense) (s : List ℕ) (t : ℕ) (forms rows classes since rowsBefore : List ℕ) : Type 0 where
   pub held : AtStage sense s t rows classes
   pub unsettled : Unsettled sense s t
-  pub table : FormTable s forms
-  pub forms_kept : length forms ≡ length lent
+  pub table : FormTable forms
   pub kept : KeptTo sense s t since rowsBefore
   pub rows_long : length rows ≡ 1024
   pub classes_long : length classes ≡ most_lines

@@ -22,10 +22,6 @@ pub record KeptFrom (before after : List ℕ) (stage m : ℕ) (since rows newSin
   pub each : (k : ℕ) → k < m → AsKept before after stage k since rows newSince newRows
   pub others : (k : ℕ) → m ≤ k → (at newSince k ≡ at since k) × (row_in newRows k ≡ row_in rows k)
 
--- The first m kinds have the rows of the other table.
-abbrev pub RowsTaken : ℕ → List ℕ → List ℕ → Type 0
-RowsTaken m table rows = (k : ℕ) → k < m → row_in rows k ≡ row_in table k
-
 -- What is kept of the stages 1 to t: the marks are "for each kind, the first stage, from 1 up, at which its row became the one" that it is at stage t, and before stage 1 there are none; and what is kept of a
 -- kind is its row at the stage before its mark.
 pub record KeptTo (sense : Sense) (s : List ℕ) (t : ℕ) (since rows : List ℕ) : Type 0 where

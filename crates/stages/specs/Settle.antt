@@ -9,7 +9,6 @@ use Rattle.rows.specs.Stage.{BaseAt, Classes, BoundsAt}
 use Rattle.rows.specs.StageRows.{RowsBefore}
 use Rattle.stages.specs.Kept.{KeptTo}
 use Rattle.stages.specs.declared.settle.Settled.{Settled}
-use Rattle.stages.specs.declared.settle.StageMarks.{StageMarks}
 
 -- What is held at stage t: its rows, the classes of the lines by it, and bounds of the classes at the next stage. Stage 0 is before the first: all rows are empty, and all lines have one class.
 pub record AtStage (sense : Sense) (s : List ℕ) (t : ℕ) (rows classes : List ℕ) : Type 0 where
@@ -24,7 +23,3 @@ pub record IsSettled (sense : Sense) (s : List ℕ) (r : Settled) : Type 0 where
   pub stage_is : r.stage ≡ settled_stage_in sense (card_of s)
   pub base_is : BaseAt sense s (settled_stage_in sense (card_of s)) r.base.rows
   pub kept_is : KeptTo sense s (settled_stage_in sense (card_of s)) r.base.since r.before
-
--- What is settled to, by the settled stage with the marks, the rows, and those before the marks.
-abbrev pub settled_by : StageMarks → List ℕ → List ℕ → Settled
-settled_by marks rows rowsBefore = record { base = record { rows = rows; since = marks.since }; stage = marks.stage; before = rowsBefore }

@@ -3,7 +3,7 @@
 ghost use Rattle.std.specs.Prelude.{◌≡◌, ℕ, ◌+◌, ◌*◌, ◌^◌, ◌≤◌, ◌<◌, length};
 ghost use Rattle.model.specs.Field.{◌⊕◌, times, at};
 ghost use Rattle.model.specs.Limits.{most_kinds};
-ghost use Rattle.stages.specs.Kept.{row_before, form_before, KindKept, KeptFrom, RowsTaken};
+ghost use Rattle.stages.specs.Kept.{row_before, form_before, KindKept, KeptFrom};
 
 use tables::table::{add_times, row_of, same_row, set_row};
 
@@ -44,18 +44,6 @@ pub fn keep_stage(
     let mut kind = 0;
     while kind < kinds {
         keep_kind(before, after, stage, kind, since, rows);
-        kind += 1;
-    }
-}
-
-// Makes the rows of so many kinds those of another table.
-pub fn take_rows(kinds: usize, from: &[u32], rows: &mut [u32])
-    requires { (length from.now ≡ 1024) × (length rows.old ≡ 1024) × (kinds ≤ most_kinds) }
-    ensures { RowsTaken kinds from.now rows.new }
-{
-    let mut kind = 0;
-    while kind < kinds {
-        set_row(rows, kind, row_of(from, kind));
         kind += 1;
     }
 }

@@ -1,5 +1,5 @@
 // The stages one after the other, up to the settled one.
-ghost use Rattle.std.specs.Prelude.{◌≡◌, ℕ, suc, ◌≤◌, length, replicate};
+ghost use Rattle.std.specs.Prelude.{◌≡◌, ℕ, suc, ◌≤◌, length};
 ghost use Rattle.model.specs.Refusal.{Accepted};
 ghost use Rattle.sheet.specs.Reader.{Reads};
 ghost use Rattle.norms.specs.Norms.{Accepts};
@@ -9,16 +9,15 @@ ghost use Rattle.rows.specs.Forms.{FormTable};
 ghost use Rattle.rows.specs.StageRows.{RowsFound};
 ghost use Rattle.model.specs.Sense as model;
 ghost use Rattle.tables.specs.Senses.{sense_of};
-ghost use Rattle.stages.specs.Settle.{IsSettled, settled_by};
+ghost use Rattle.stages.specs.Settle.{IsSettled};
 
-use crate::kept::{keep_stage, take_rows};
-use ranks::classes::classes_within;
+use crate::kept::keep_stage;
 use row_tests::expansion::rows_expand;
 use rows::line_forms::all_forms;
 use rows::line_table::line_table;
 use rows::stage_rows::stage_rows;
 use sheet::Card;
-use tables::marks::{clear_marks, kind_marks};
+use tables::class::classes;
 use tables::sense::Sense;
 use tables::table::Base;
 
@@ -28,13 +27,6 @@ pub struct Settled {
     pub base: Base,
     pub stage: usize,
     pub before: [u32; 1024],
-}
-
-// The settled stage, and the mark of each kind.
-#[derive(Drop)]
-pub struct StageMarks {
-    pub stage: usize,
-    pub since: [usize; 32],
 }
 
 // The classes of the lines by the rows of a stage, none before the bound of its line. The table is used for the forms of what the lines leave.
@@ -51,13 +43,13 @@ fn line_classes(
     requires rows_len { (length rows.now ≡ 1024) × (lines_in lines.now ≤ length bounds.now) }
     requires by_index { (sense : model.Sense) × (q : ℕ) × RowsFound sense sheet.now (suc q) rows.now forms.old × BoundsAt sense sheet.now q bounds.now }
     ensures classes { (sense : model.Sense) (q : ℕ) → BaseAt sense sheet.now (suc q) rows.now → Classes sense sheet.now q result × BoundsAt sense sheet.now q result }
-    ensures form_table { FormTable sheet.now forms.new }
+    ensures form_table { FormTable forms.new }
 {
     all_forms(sheet, card, lines, rows, forms);
-    classes_within(lines, rows, forms, bounds)
+    classes(lines, rows, forms, bounds)
 }
 
-// The first stage of a sense that is settled, from stage 1 on, with the marks. Before it all rows are 0, and so are all classes. The marks of a stage's classes serve its test and the rows of the next. The two tables then hold each kind's row, and its row at the stage before its mark.
+// The first stage of a sense that is settled, from stage 1 on. Before it all rows are 0, and so are all classes.
 fn settle_lines(
     sense: Sense,
     sheet: &[u8],
@@ -65,59 +57,41 @@ fn settle_lines(
     norms: [u32; 32],
     lines: &[u8],
     forms: &mut [u64],
-    rows: &mut [u32],
-    before: &mut [u32],
-) -> StageMarks
+) -> Settled
     requires accepts { Accepts sheet.now card norms }
     requires lines_are { LinesAre sheet.now lines.now }
-    requires form_table { FormTable sheet.now forms.old × (rows.old ≡ replicate 1024 0) × (length before.old ≡ 1024) }
-    ensures { IsSettled (sense_of sense) sheet.now (settled_by result rows.new before.new) }
+    requires form_table { FormTable forms.old }
+    ensures { IsSettled (sense_of sense) sheet.now result }
 {
+    let mut rows = [0u32; 1024];
     let mut classes = [0u8; 256];
-    let mut marks = [false; 8192];
-    kind_marks(lines, &classes, &mut marks);
     let mut since = [0usize; 32];
+    let mut before = [0u32; 1024];
     let mut stage = 0;
     loop {
-        let mut next = [0u32; 1024];
-        stage_rows(
-            sense, sheet, card, norms, lines, rows, &classes, &marks, forms, &mut next,
-        );
-        clear_marks(lines, &classes, &mut marks);
+        let next = stage_rows(sense, sheet, card, norms, lines, &rows, &classes, forms);
         classes = line_classes(sheet, card, lines, &next, &classes, forms);
-        kind_marks(lines, &classes, &mut marks);
         stage += 1;
-        keep_stage(card.kinds, rows, &next, stage, &mut since, before);
-        take_rows(card.kinds, &next, rows);
-        if rows_expand(&marks, rows, &norms, card.kinds) {
-            return StageMarks { stage, since };
+        keep_stage(card.kinds, &rows, &next, stage, &mut since, &mut before);
+        if rows_expand(lines, &classes, &next, &norms, card.kinds) {
+            let base = Base { rows: next, since };
+            return Settled {
+                base,
+                stage,
+                before,
+            };
         }
+        rows = next;
     }
 }
 
-// What a settle costs at most: a stage takes some 16 × kinds × lines² comparisons of two lines, each of at most `kinds` counts, and there are at most as many stages as kinds (docs/DECISIONS.md, 22, has the argument).
-// Of a sense: "The settled stage is the least s from 1 up in which every related pair satisfies expansion", with its base and what is kept of the stages; the tables of rows are lent. The table of forms has
-// room for the most lines, or where there are at most 32 for these, so that less is cleared.
-pub fn settle(
-    sense: Sense,
-    sheet: &[u8],
-    card: Card,
-    norms: [u32; 32],
-    rows: &mut [u32],
-    before: &mut [u32],
-) -> StageMarks
-    requires accepts { Accepts sheet.now card norms }
-    requires rows_value { (rows.old ≡ replicate 1024 0) × (length before.old ≡ 1024) }
-    ensures { IsSettled (sense_of sense) sheet.now (settled_by result rows.new before.new) }
+// Of a sense: "The settled stage is the least s from 1 up in which every related pair satisfies expansion", with its base and what is kept of the stages.
+pub fn settle(sense: Sense, sheet: &[u8], card: Card, norms: [u32; 32]) -> Settled
+    requires { Accepts sheet.now card norms }
+    ensures { IsSettled (sense_of sense) sheet.now result }
 {
-    let count = card.lines;
-    let bytes = 3 * count;
-    let table = line_table(sheet, card, norms);
-    let lines = &table[..bytes];
-    if count <= 32 {
-        let mut few = [0u64; 1024];
-        return settle_lines(sense, sheet, card, norms, lines, &mut few, rows, before);
-    }
+    let bytes = 3 * card.lines;
+    let lines = line_table(sheet, card, norms);
     let mut forms = [0u64; 8192];
-    settle_lines(sense, sheet, card, norms, lines, &mut forms, rows, before)
+    settle_lines(sense, sheet, card, norms, &lines[..bytes], &mut forms)
 }

@@ -24,7 +24,7 @@ module _ (xs : List ℕ) (n : ℕ) where
   among_last : Among (xs ++ n ∷ []) n
   among_last = (length xs, omega (arith, length-append xs (n ∷ [])), get_or-append_seam xs n [] 0)
 
-  pub among_less : {i : ℕ} → Among (xs ++ n ∷ []) i → ¬ (i ≡ n) → Among xs i
+  among_less : {i : ℕ} → Among (xs ++ n ∷ []) i → ¬ (i ≡ n) → Among xs i
   among_less {i} a d = go (dec_lt a.0 (length xs))
     where
       go : Dec (a.0 < length xs) → Among xs i

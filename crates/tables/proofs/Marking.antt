@@ -4,7 +4,7 @@ use mathlib.Core.Bool.{Bool, true, false, not, beq}
 use mathlib.Core.List.{List}
 use mathlib.Core.Logic.{◌↔◌, ◌⊎◌, inl, inr, ⊎_elim}
 use mathlib.Core.Path.{◌≡◌, refl, sym, subst, ap, ◌∙◌}
-use Prim.Native.Nat.{ℕ, ◌+◌, ◌*◌, ◌-◌, ◌/◌, ◌%◌, ◌≤◌, ◌<◌}
+use Prim.Native.Nat.{ℕ, ◌+◌, ◌*◌, ◌-◌, ◌≤◌, ◌<◌}
 use native.Mathlib.Decide.{ℕ_discrete, dec_lt}
 use native.Mathlib.Nat.{add-sub_cancel_left}
 use native.Mathlib.Omega.{arith}
@@ -107,48 +107,6 @@ module _ {lines classes : List ℕ} {i : ℕ} {marks : List Bool} (h : KindsMark
   kinds_marked_all l =
       let e : i ≡ lines_in lines = omega (arith, h.within) in
       record { long = h.long; tells = subst (λ (m : ℕ). (k : ℕ) → k < most_kinds → MarksTell (kind_in lines) (at classes) (unit k) m (marks_part marks k)) e h.tells }
-
--- Every mark is one of a line from i on: the classes of the lines below have none.
-pub record MarksLeft (lines classes : List ℕ) (i : ℕ) (marks : List Bool) : Type 0 where
-  pub within : i ≤ lines_in lines
-  pub long : length marks ≡ 8192
-  pub left : (p : ℕ) → get_or marks p false ≡ true → (j : ℕ) × (i ≤ j) × (j < lines_in lines) × (p ≡ kind_in lines j * most_lines + at classes j)
-
-pub marks_left_all : {lines classes : List ℕ} {marks : List Bool} → KindMarks lines classes marks → MarksLeft lines classes 0 marks
-marks_left_all {lines} {classes} {marks} K = record { within = omega arith; long = K.long; left = λ p e. go p e (dec_lt p 8192) }
-  where
-    go : (p : ℕ) → get_or marks p false ≡ true → Dec (p < 8192) → (j : ℕ) × (0 ≤ j) × (j < lines_in lines) × (p ≡ kind_in lines j * most_lines + at classes j)
-    go p e (no l) = absurd (past_mark marks p (omega (arith, K.long)) e)
-    go p e (yes l) =
-        let k = p / most_lines in
-        let x = p % most_lines in
-        let whole : k * most_lines + x ≡ p = omega arith in
-        let u = (K.tells k (omega arith) x).0 (marks_at marks k x (omega arith) ∙ ap (λ (q : ℕ). get_or marks q false) whole ∙ e) in
-        (u.0, omega arith, u.1, omega (arith, unit_some k (kind_in lines u.0) u.2, u.3, whole))
-
-module _ {lines classes : List ℕ} {i : ℕ} {marks : List Bool} (h : MarksLeft lines classes i marks) where
-  pub marks_left_fewer : i < lines_in lines → kind_in lines i < most_kinds → Under most_lines classes → MarksLeft lines classes (i + 1) (set marks (kind_in lines i * most_lines + at classes i) false)
-  marks_left_fewer l a b =
-      record { within = omega arith; long = length-set marks (kind_in lines i * most_lines + at classes i) false ∙ h.long; left = λ p e. go p e (ℕ_discrete p (kind_in lines i * most_lines + at classes i)) }
-    where
-      place : ℕ
-      place = kind_in lines i * most_lines + at classes i
-
-      go : (p : ℕ) → get_or (set marks place false) p false ≡ true → Dec (p ≡ place) → (j : ℕ) × (i + 1 ≤ j) × (j < lines_in lines) × (p ≡ kind_in lines j * most_lines + at classes j)
-      go p e (yes z) = absurd (not_both (get_or-set_same marks place false false (omega (arith, h.long, b i))) (rw z at e))
-      go p e (no d) =
-          let u = h.left p (sym (get_or-set_other marks place p false false d) ∙ e) in
-          (u.0, later u.0 u.1 (λ z. d (u.3 ∙ ap (λ (j : ℕ). kind_in lines j * most_lines + at classes j) z)), u.2, u.3)
-        where
-          later : (j : ℕ) → i ≤ j → ¬ (j ≡ i) → i + 1 ≤ j
-          later j q n = omega arith
-
-  pub marks_left_none : lines_in lines ≤ i → marks ≡ replicate 8192 false
-  marks_left_none l = ext_get_or false marks (replicate 8192 false) (h.long ∙ sym (length-replicate 8192 false)) (λ p _. unmarked (get_or marks p false) (λ e. let u = h.left p e in omega (arith, u.1, u.2)) ∙ sym (none_done 8192 p))
-    where
-      unmarked : (b : Bool) → ¬ (b ≡ true) → b ≡ false
-      unmarked true n = absurd (n refl)
-      unmarked false n = refl
 
 -- The marks below i are added to the others.
 pub record MarksAdded (old more : List Bool) (i : ℕ) (sum : List Bool) : Type 0 where

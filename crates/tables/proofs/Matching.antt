@@ -47,10 +47,7 @@ module _ {M N : ℕ → ℕ → Type 0} {n : ℕ} (same : (i j : ℕ) → i < n 
   tells_agrees numbers t i j a b = (λ e. (same i j a b).0 ((t i j a b).0 e), λ m. (t i j a b).1 ((same i j a b).1 m))
 
   pub bounds_agrees : (bounds : List ℕ) → Bounds M n bounds → Bounds N n bounds
-  bounds_agrees bounds f = record {
-    none_before = λ j h. let b = f.none_before j h in record { within = b.within; none = λ x l m. b.none x l ((same x j (omega (arith, b.within)) h).1 m) };
-    alike = λ i j a b m. f.alike i j a b ((same i j a b).1 m);
-  }
+  bounds_agrees bounds f j h = record { within = (f j h).within; none = λ x l m. (f j h).none x l ((same x j (omega (arith, (f j h).within)) h).1 m) }
 
 module _ {A : Type 0} {M N : A → A → Type 0} {P P' Q Q' : A → Type 0} where
   each_agrees : ((i : A) → P i ↔ P' i) → ((j : A) → Q j ↔ Q' j) → ((i j : A) → P i → Q j → M i j → N i j) → EachMatched M P Q → EachMatched N P' Q'
@@ -161,8 +158,5 @@ module _ {M : ℕ → ℕ → Type 0} {n j : ℕ} {numbers : List ℕ} (h : Numb
   pub numbered_tells : Equivalence M → n ≤ j → TellsMatch M n numbers
   numbered_tells E l i k a b = least_tells E (h.classes i (omega arith)) (h.classes k (omega arith))
 
-  pub numbered_bounds : Equivalence M → n ≤ j → Bounds M n numbers
-  numbered_bounds E l = record {
-    none_before = λ i a. let m = h.classes i (omega arith) in record { within = m.within; none = m.least };
-    alike = λ i k a b. (numbered_tells E l i k a b).1;
-  }
+  pub numbered_bounds : n ≤ j → Bounds M n numbers
+  numbered_bounds l i a = let m = h.classes i (omega arith) in record { within = m.within; none = m.least }

@@ -1,8 +1,8 @@
 -- Which lines match, and what can be said by it: over lines of any type A with any kinds, codes, rows of kinds and forms, and by the tables of the lines.
-use Rattle.std.specs.Prelude.{List, ◌↔◌, ◌≡◌, ℕ, ◌*◌, ◌^◌, ◌≤◌, ◌<◌, length}
+use Rattle.std.specs.Prelude.{List, ◌↔◌, ◌≡◌, ℕ, ◌^◌, ◌≤◌, ◌<◌, length}
 use Rattle.model.specs.Field.{Field, ◌⊕◌, unit, at}
 use Rattle.tables.specs.Table.{Under, row_in}
-use Rattle.tables.specs.Lines.{lines_in, kind_in, code_in, LineTable, LoweringIn}
+use Rattle.tables.specs.Lines.{kind_in, code_in, LineTable, LoweringIn}
 
 -- Lines i and j match: they read one code and have the same effect. What the first leaves, with the row of the second's kind, is what the second leaves, with the row
 -- of the first's kind.
@@ -28,10 +28,9 @@ module _ (M : ℕ → ℕ → Type 0) where
     pub within : i ≤ j
     pub none : (x : ℕ) → x < i → M x j → ⊥
 
-  -- A bound for each of n lines: no line before it matches the line, and lines that match have one bound.
-  pub record Bounds (n : ℕ) (bounds : List ℕ) : Type 0 where
-    pub none_before : (j : ℕ) → j < n → NoneBefore j (at bounds j)
-    pub alike : (i j : ℕ) → i < n → j < n → M i j → at bounds i ≡ at bounds j
+  -- A bound for each of n lines: no line before it matches the line.
+  abbrev pub Bounds : ℕ → List ℕ → Type 0
+  Bounds n bounds = (j : ℕ) → j < n → NoneBefore j (at bounds j)
 
   -- r is the least line that matches line j.
   pub record LeastMatch (j r : ℕ) : Type 0 where
@@ -55,7 +54,7 @@ pub record Lists (P : ℕ → Type 0) (xs : List ℕ) : Type 0 where
 pub record MatchTables (lines rows forms : List ℕ) : Type 0 where
   pub whole : LineTable lines
   pub rows_long : length rows ≡ 1024
-  pub forms_long : lines_in lines * 32 ≤ length forms
+  pub forms_long : length forms ≡ 8192
   pub small : Under (2 ^ 63) forms
 
 -- Two lines of the table match, by the rows and the forms in the tables.

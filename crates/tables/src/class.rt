@@ -1,7 +1,7 @@
 // Which lines match, and the classes of the lines.
 ghost use Rattle.std.specs.Prelude.{◌≡◌, true, ◌↔◌, ◌≤◌, ◌<◌, length};
 ghost use Rattle.tables.specs.Lines.{lines_in};
-ghost use Rattle.tables.specs.Match.{Bounds, LeastMatch, TellsMatch, MatchTables, MatchIn};
+ghost use Rattle.tables.specs.Match.{NoneBefore, Bounds, LeastMatch, TellsMatch, MatchTables, MatchIn};
 
 use crate::effect::same_effect;
 use crate::lines::{code_of, kind_of};
@@ -26,20 +26,17 @@ pub fn lines_match(lines: &[u8], rows: &[u32], forms: &[u64], line: usize, other
     )
 }
 
-// The class of a line: the least line that it matches. It is sought from the line's bound on, among lines that have the same bound.
-pub fn class_of(lines: &[u8], rows: &[u32], forms: &[u64], bounds: &[u8], line: usize) -> usize
+// The class of a line: the least line that it matches. It is no line before `start`.
+pub fn class_of(lines: &[u8], rows: &[u32], forms: &[u64], start: usize, line: usize) -> usize
     requires cases { MatchTables lines.now rows.now forms.now }
-    requires line_bound { (line < lines_in lines.now) × (lines_in lines.now ≤ length bounds.now) }
-    requires bounds { Bounds (MatchIn lines.now rows.now forms.now) (lines_in lines.now) bounds.now }
+    requires line_bound { line < lines_in lines.now }
+    requires none_before { NoneBefore (MatchIn lines.now rows.now forms.now) line start }
     ensures { LeastMatch (MatchIn lines.now rows.now forms.now) line result }
 {
-    let bound = bounds[line];
-    let mut earlier = bound as usize;
+    let mut earlier = start;
     while earlier < line {
-        if bounds[earlier] == bound {
-            if lines_match(lines, rows, forms, earlier, line) {
-                return earlier;
-            }
+        if lines_match(lines, rows, forms, earlier, line) {
+            return earlier;
         }
         earlier += 1;
     }
@@ -58,7 +55,8 @@ pub fn classes(lines: &[u8], rows: &[u32], forms: &[u64], bounds: &[u8]) -> [u8;
     let mut numbers = [0u8; 256];
     let mut line = 0;
     while line < count {
-        numbers[line] = class_of(lines, rows, forms, bounds, line) as u8;
+        let start = bounds[line] as usize;
+        numbers[line] = class_of(lines, rows, forms, start, line) as u8;
         line += 1;
     }
     numbers

@@ -1,5 +1,7 @@
 // Tables of rows, lines, effects, orders, marks and classes, over plain arrays.
 
+#![tactic(auto)]
+
 // Tables of rows, and the decomposition of counts by them.
 pub mod table;
 // The lines of a sheet as one table of bytes.

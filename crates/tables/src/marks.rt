@@ -22,22 +22,6 @@ pub fn kind_marks(lines: &[u8], classes: &[u8], marks: &mut [bool])
     }
 }
 
-// Takes the marks of the lines' classes away, so that the table has no marks.
-pub fn clear_marks(lines: &[u8], classes: &[u8], marks: &mut [bool])
-    requires line_table { LineTable lines.now × (lines_in lines.now ≤ length classes.now) }
-    requires kind_marks { KindMarks lines.now classes.now marks.old }
-    ensures { marks.new ≡ replicate 8192 false }
-{
-    let count = lines.len() / 3;
-    let mut line = 0;
-    while line < count {
-        let start = kind_of(lines, line) * 256;
-        let class = classes[line] as usize;
-        marks[start + class] = false;
-        line += 1;
-    }
-}
-
 // The marks of a kind, as a part of the table.
 pub fn marks_of_kind(marks: &[bool], kind: usize) -> &[bool]
     requires { kind * 256 + 256 ≤ length marks.now }

@@ -1,5 +1,7 @@
 // Byte strings, numbers and counts as text: each writer appends its text to what a lent buffer holds up to a position, and answers the position past it.
 
+#![tactic(auto)]
+
 // Byte strings and decimal numbers.
 mod number;
 

@@ -10,7 +10,7 @@ use Rattle.theory.specs.Meanings.{Reaches}
 use Rattle.theory.proofs.Normed.{Normed}
 use Rattle.theory.specs.Terms.{OnReached}
 
-pub gain_most : (n : ℕ) (w : ℕ → ℕ) {ls : List Line} (l : Line) → Memᴰ l ls → weigh n w l.left ≤ w l.kind + gain_of n w ls
+pub gain_most : (n : ℕ) (w : ℕ → ℕ) (l : Line) {ls : List Line} → Memᴰ l ls → weigh n w l.left ≤ w l.kind + gain_of n w ls
 unfolding gain_of
 gain_most n w l (Memᴰ.head {x = x} e) = rw e (omega arith)
 gain_most n w l (Memᴰ.tail m) = omega (arith, gain_most n w l m)

@@ -22,7 +22,7 @@ module _ {A B : Type 0} (f : A → B) where
   mem_map (x ∷ xs) y (Memᴰ.head e) = (x, Memᴰ.head refl, e)
   mem_map (x ∷ xs) y (Memᴰ.tail m) = let u = mem_map xs y m in (u.0, Memᴰ.tail u.1, u.2)
 
-  pub map_mem : {xs : List A} (x : A) → Memᴰ x xs → Memᴰ (f x) (map f xs)
+  pub map_mem : (x : A) {xs : List A} → Memᴰ x xs → Memᴰ (f x) (map f xs)
   map_mem x (Memᴰ.head e) = Memᴰ.head (ap f e)
   map_mem x (Memᴰ.tail m) = Memᴰ.tail (map_mem x m)
 
@@ -37,7 +37,7 @@ module _ {A : Type 0} where
       go (inl m) r = (xs, Memᴰ.head refl, m)
       go (inr m) r = let u = r m in (u.0, Memᴰ.tail u.1, u.2)
 
-  pub concat_mem : {xss : List (List A)} (xs : List A) (y : A) → Memᴰ xs xss → Memᴰ y xs → Memᴰ y (concat xss)
+  pub concat_mem : (xs : List A) (y : A) {xss : List (List A)} → Memᴰ xs xss → Memᴰ y xs → Memᴰ y (concat xss)
   unfolding concat
   concat_mem xs y (Memᴰ.head {xs = xss} e) m = Memᴰ.append_left (concat xss) (rw e at m)
   concat_mem xs y (Memᴰ.tail {x = x} p) m = Memᴰ.append_right x (concat_mem xs y p m)

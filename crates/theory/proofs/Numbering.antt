@@ -25,7 +25,7 @@ tells_same false true f g u v = absurd (f.test (v (g.fact tt)))
 tells_same false false f g u v = refl
 
 -- The place of a member.
-pub mem_get_d : {A : Type 0} {xs : List A} (x d : A) → Memᴰ x xs → (i : ℕ) × (i < length xs) × (get_or xs i d ≡ x)
+pub mem_get_d : {A : Type 0} (x d : A) {xs : List A} → Memᴰ x xs → (i : ℕ) × (i < length xs) × (get_or xs i d ≡ x)
 mem_get_d x d (Memᴰ.head e) = (0, omega arith, sym e)
 mem_get_d x d (Memᴰ.tail m) = let u = mem_get_d x d m in (suc u.0, omega (arith, u.1), u.2)
 

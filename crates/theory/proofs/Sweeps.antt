@@ -73,7 +73,7 @@ module _ (n : ℕ) (w : ℕ → ℕ) (k : ℕ) where
           pick (inr e) = let u = r e.0 in (u.0, Memᴰ.tail u.1, u.2, e.1 ∙ u.3)
       go false t r q = let u = r q in (u.0, Memᴰ.tail u.1, u.2, u.3)
 
-  pub best_least : {ls : List Line} (l : Line) → Memᴰ l ls → Usable l → (0 < best n w k ls) × (best n w k ls ≤ suc (weigh n w l.left))
+  pub best_least : (l : Line) {ls : List Line} → Memᴰ l ls → Usable l → (0 < best n w k ls) × (best n w k ls ≤ suc (weigh n w l.left))
   unfolding best
   best_least l (Memᴰ.head {x = x} {xs = xs} e) u = go (both (eqb x.kind k) (ready n w x.left)) (tells_usable x)
     where

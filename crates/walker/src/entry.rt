@@ -8,14 +8,10 @@ ghost use Rattle.model.specs.Answer.{within, walk_of};
 ghost use Rattle.sheet.specs.Reader.{Reads};
 ghost use Rattle.moves.specs.Lines.{Bounded};
 ghost use Rattle.moves.specs.Following.{Follows};
-ghost use Rattle.game.specs.Marks.{first_in, second_in, Marked};
 ghost use Rattle.walker.specs.Answers.{answer_of, session_of, walked_of, refused_of, drawn_of, spent_of, Plays};
 
 use game::challenges::Part;
-use game::marks::{MARKS, PAIR, fill_marks};
-use game::pairs::pair_of;
-use game::rounds::challenge;
-use game::told::{Examined, tells};
+use game::rounds::{Examined, challenge};
 use moves::follow::{ENTRIES, fill_table};
 use sheet::Card;
 use validation::fields::check_fields;
@@ -118,15 +114,15 @@ fn try_rounds(
     sheet: &[u8],
     card: Card,
     table: &[u16; ENTRIES],
-    marks: &[u8; MARKS],
-    pair: &[u32; PAIR],
+    first: &[u32; 32],
+    second: &[u32; 32],
     limit: u64,
     allowance: u32,
 ) -> Played
-    requires reads { Reads sheet.now card × Follows sheet.now table.now × Marked sheet.now marks.now }
+    requires reads { Reads sheet.now card × Follows sheet.now table.now }
     requires limit_le_most_rounds { limit ≤ most_rounds }
-    requires bounded { Bounded most_rounds (first_in pair.now) × Bounded most_rounds (second_in pair.now) }
-    ensures { Plays result (within allowance (model.walk (card_of sheet.now).lines (at (first_in pair.now)) (at (second_in pair.now)) 1 limit)) }
+    requires bounded { Bounded most_rounds first.now × Bounded most_rounds second.now }
+    ensures { Plays result (within allowance (model.walk (card_of sheet.now).lines (at first.now) (at second.now) 1 limit)) }
 {
     let challenges = 2 * card.lines;
     let mut left = allowance;
@@ -136,8 +132,7 @@ fn try_rounds(
             return spend(allowance);
         }
         let part = Part::new(rounds, 0, challenges, left - 1);
-        let told = challenge(sheet, card, table, marks, part, pair);
-        match tells(told) {
+        match challenge(sheet, card, table, part, first, second) {
             Examined::Holds(rest) => {
                 left = rest;
             }
@@ -157,8 +152,7 @@ fn try_rounds(
     }
 }
 
-// The walk on a card that was read, of two fields that there are, by a desk that there is: 13 is checked, the pair of fields is read, and the table of the lines that follow and the marks of the challenges are
-// made, 34 KB in this frame.
+// The walk on a card that was read, of two fields that there are, by a desk that there is: 13 is checked, the fields are read, and the table of the lines that follow is made, 33 KB in this frame.
 fn walk_card(
     sheet: &[u8],
     card: Card,
@@ -177,13 +171,18 @@ fn walk_card(
     }
     let first_field = card.field(sheet, first);
     let second_field = card.field(sheet, second);
-    let pair = pair_of(&first_field, &second_field);
     let mut table = [0u16; ENTRIES];
     fill_table(sheet, card, &mut table);
-    let mut marks = [0u8; MARKS];
-    fill_marks(sheet, card, &mut marks);
     let allowance = left_of(desk, session);
-    let played = try_rounds(sheet, card, &table, &marks, &pair, limit, allowance);
+    let played = try_rounds(
+        sheet,
+        card,
+        &table,
+        &first_field,
+        &second_field,
+        limit,
+        allowance,
+    );
     draw(played, desk, session)
 }
 

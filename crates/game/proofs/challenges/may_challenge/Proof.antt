@@ -1,33 +1,27 @@
--- The test is of what stands at the challenge's place.
-use native.Mathlib.Omega.{arith}
-use mathlib.Core.Path.{ap, ◌∙◌}
-use Prim.Native.Nat.{ℕ, ◌<◌}
-use lib.Dec.{ltb}
-use Rattle.model.specs.Field.{at}
-use Rattle.game.proofs.Marking.{place_small, stands}
+-- By whether the challenge is the first side's.
 use borrow.Author.Rules.{rules}
+use native.Mathlib.Omega.{arith}
+use Rattle.sheet.proofs.Laws.{lines_are}
+use Rattle.game.proofs.Sides.{by_first, by_second}
 use Rattle.game.proofs.challenges.may_challenge.Statement.{statement}
 use Rattle.game.proofs.challenges.may_challenge.Tie as tie
 
-mark-at-requires : tie.Need-mark-at-requires
-mark-at-requires c κs = search rules
+may-use-requires : tie.Need-may-use-requires
+may-use-requires c κs = search rules
 
--- The place is one of the pair's.
-small : (c : tie.After-mark-at) → c.mark-at.result < 64
-small c = omega (arith, c.mark-at.ensures, place_small c.before.before.requires.0 _ c.before.before.requires.1)
-
-mul-result : tie.Need-overflow-mul-result
-mul-result c = omega (arith, small c)
-
-element-copy-out-result : tie.Need-element-copy-out-result
-element-copy-out-result c = small c
+may-use-requires-2 : tie.Need-may-use-requires-2
+may-use-requires-2 c κs = search rules
 
 returns : tie.Need-returns
 returns c =
-    let marked = c.before in
-    let start = marked.before.before in
-    ap (λ (k : ℕ). ltb 0 (at start.args.pair.now k)) marked.mark-at.ensures ∙ ap (ltb 0) (stands start.requires.0 _ start.requires.1 start.args.pair.now)
+    let b = c.before.before.before in
+    rw (by_first b.args.sheet.now b.args.number (omega (arith, lines_are b.requires.0, c.before.if1.true))) c.may-use.ensures
+
+returns-2 : tie.Need-returns-2
+returns-2 c =
+    let b = c.before.before.before in
+    let e = lines_are b.requires.0 in
+    rw (by_second b.args.sheet.now b.args.number (omega (arith, e, c.before.if1.false)), ← e) c.may-use2.ensures
 
 pub may-challenge-spec : {M : Type 1} → statement M
-may-challenge-spec =
-    tie.close (tie.spec mark-at-requires mul-result element-copy-out-result returns)
+may-challenge-spec = tie.close (tie.spec may-use-requires may-use-requires-2 returns returns-2)

@@ -4,16 +4,15 @@ use mathlib.Core.Path.{sym, ◌∙◌}
 use Prim.Native.Nat.{◌-◌}
 use Rattle.model.specs.Field.{at}
 use Rattle.game.specs.Challenges.{challenge_of, may_challenge}
-use Rattle.game.specs.Marks.{first_in, second_in}
 use Rattle.moves.proofs.Searches.{Searching, searching_starts, searching_on, searching_found, searching_ends}
 use Rattle.game.proofs.challenges.next_challenge.Statement.{statement}
 use Rattle.game.proofs.challenges.next_challenge.Tie as tie
 
 abbrev invariant-loop : tie.invariant-loop
-invariant-loop s marks from to pair number₀ number = Searching (λ j. may_challenge (at (first_in pair)) (at (second_in pair)) (challenge_of s j)) from to number
+invariant-loop s card from to first second number₀ number = Searching (λ j. may_challenge (at first) (at second) (challenge_of s j)) from to number
 
 abbrev decreases-loop : tie.decreases-loop
-decreases-loop s marks from to pair number₀ number = to - number
+decreases-loop s card from to first second number₀ number = to - number
 
 loop-holds : tie.Need-loop-init invariant-loop decreases-loop
 loop-holds c = searching_starts _ _ _ c.before.requires.1.0

@@ -29,7 +29,7 @@ slice-aggregate-all-matched c = sym (length-take-le _ _ (array-share-prefix-its 
 all-matched-requires : tie.Need-all-matched-requires
 all-matched-requires c κs =
     let start = c.before.before.before.before.before.before.before.before.before in
-    (start.requires.0.0, ((λ i a. ((start.requires.1.0.entries i).0 a).0.0), ((λ j a. ((c.before.before.usable-lines.ensures.1.entries j).0 a).0.0), (start.requires.1.1, search (rules, slice-aggregate-all-matched c, array-share-prefix-its c.before)))))
+    (start.requires.0.0, (λ i a. ((start.requires.1.entries i).0 a).0.0, λ j a. ((c.before.before.usable-lines.ensures.1.entries j).0 a).0.0))
 
 returns : tie.Need-returns
 returns c =
@@ -37,7 +37,7 @@ returns c =
     let at-row-of = c.before.before.before.before.before in
     let its = c.before.before.before.usable-lines.ensures.1 in
     let rows = start.args.rows.now in
-    lists_matched start.args.lines.now rows start.args.forms.now start.args.kind (lent_row rows start.args.kind at-row-of.row_of.ensures) start.requires.1.0 its c.all-matched.ensures
+    lists_matched start.args.lines.now rows start.args.forms.now start.args.kind (lent_row rows start.args.kind at-row-of.row_of.ensures) start.requires.1 its c.all-matched.ensures
 
 pub all-answered-spec : {M : Type 1} → statement M
 all-answered-spec =

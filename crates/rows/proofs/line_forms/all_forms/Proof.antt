@@ -2,7 +2,7 @@
 use borrow.Author.Rules.{rules}
 use borrow.Author.Tests.{not-false}
 use Prim.Native.Nat.{◌-◌}
-use mathlib.Core.Path.{refl}
+use mathlib.Core.Path.{refl, ◌∙◌}
 use mathlib.Core.Logic.{⊎_elim}
 use native.Mathlib.Omega.{arith}
 use Rattle.sheet.proofs.Laws.{lines_are}
@@ -30,7 +30,7 @@ line-form-requires : tie.Need-line-form-requires invariant-loop decreases-loop
 line-form-requires c κs =
     let start = c.before.before.before.before.before.before.before.before.before in
     let at-loop = c.before.before.before.before in
-    (start.requires.0, ((start.requires.1.1.0.0, omega (arith, at-loop.loop.invariant.kept, start.requires.1.1.0.1)), (start.requires.1.1.1.0, (c.before.before.before.loop-test.true, at-loop.loop.invariant.small))))
+    (start.requires.0, ((start.requires.1.1.0.0, at-loop.loop.invariant.kept ∙ start.requires.1.1.0.1), (start.requires.1.1.1.0, (c.before.before.before.loop-test.true, at-loop.loop.invariant.small))))
 
 add-line : tie.Need-overflow-add-line invariant-loop decreases-loop
 add-line c = omega arith

@@ -1,8 +1,7 @@
 -- The forms of the lines before the place at hand are written.
 use borrow.Author.Rules.{rules, Fits-under}
 use Prim.Native.Nat.{◌-◌}
-use mathlib.Core.Path.{refl}
-use native.Mathlib.Omega.{arith}
+use mathlib.Core.Path.{refl, ◌∙◌}
 use lib.ListN.{length}
 use Rattle.rows.proofs.LineForms.{ListFormed, list_formed_none, list_formed_more, list_formed}
 use Rattle.rows.proofs.line_forms.list_forms.Statement.{statement}
@@ -31,7 +30,7 @@ line-form-requires c κs =
     let at-loop = c.before.before.before in
     let h = at-loop.loop.invariant in
     let line = start.requires.1.1.1.0 _ (at-loop.loop.place, c.before.before.loop-test.true, refl) in
-    (start.requires.0, ((start.requires.1.0.0, omega (arith, h.kept, start.requires.1.0.1)), (start.requires.1.1.0, (line, h.small))))
+    (start.requires.0, ((start.requires.1.0.0, h.kept ∙ start.requires.1.0.1), (start.requires.1.1.0, (line, h.small))))
 
 add-place : tie.Need-overflow-add-place invariant-loop decreases-loop
 add-place c = search rules

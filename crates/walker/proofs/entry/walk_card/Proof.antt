@@ -17,28 +17,16 @@ use Rattle.walker.proofs.entry.walk_card.Tie as tie
 abbrev start : tie.Else1 → tie.Start
 start c = c.before.before
 
--- The state in which the limit is checked, from that in which the second field is read.
-abbrev passed : tie.After-field2 → tie.Else1
-passed c = c.before.before
+-- The state in which the limit is checked, from that in which the table is made.
+abbrev passed : tie.After-fill-table → tie.Else1
+passed c = c.before.before.before.before
 
--- The state in which the second field is read, from that in which the pair of fields is made.
-abbrev fielded : tie.After-pair-of → tie.After-field2
-fielded c = c.before.before.before
+-- The state in which the table is made, from that in which the allowance left is read.
+abbrev tabled : tie.After-left-of → tie.After-fill-table
+tabled c = c.before.before
 
--- The state in which the pair of fields is made, from that in which the table is made.
-abbrev paired : tie.After-fill-table → tie.After-pair-of
-paired c = c.before.before
-
--- The state in which the table is made, from that in which the marks are.
-abbrev tabled : tie.After-fill-marks → tie.After-fill-table
-tabled c = c.before.before.before
-
--- The state in which the marks are made, from that in which the allowance left is read.
-abbrev marked : tie.After-left-of → tie.After-fill-marks
-marked c = c.before.before
-
--- The state in which the allowance left is read, from that in which table, marks and pair are lent.
-abbrev lent : tie.After-pair → tie.After-left-of
+-- The state in which the allowance left is read, from that in which both fields are lent.
+abbrev lent : tie.After-second-field → tie.After-left-of
 lent c = c.before.before.before
 
 -- The first number is a field's.
@@ -69,39 +57,27 @@ field-requires c κs = search rules
 field-requires-2 : tie.Need-field-requires-2
 field-requires-2 c κs = search rules
 
-pair-of-requires : tie.Need-pair-of-requires
-pair-of-requires c κs = search rules
-
 slice-aggregate-fill-table : tie.Need-slice-aggregate-fill-table
 slice-aggregate-fill-table c = search rules
 
 fill-table-requires : tie.Need-fill-table-requires
 fill-table-requires c κs = search rules
 
-slice-aggregate-fill-marks : tie.Need-slice-aggregate-fill-marks
-slice-aggregate-fill-marks c = search rules
-
-fill-marks-requires : tie.Need-fill-marks-requires
-fill-marks-requires c κs = search rules
-
 left-of-requires : tie.Need-left-of-requires
 left-of-requires c κs = search rules
 
 try-rounds-requires : tie.Need-try-rounds-requires
 try-rounds-requires c κs =
-    let marks = marked (lent c) in
-    let table = tabled marks in
-    let pair = paired table in
-    let read-fields = fielded pair in
-    let limited = passed read-fields in
+    let table = tabled (lent c) in
+    let limited = passed table in
     let a = (start limited).args in
     let read = (start limited).pre.0 in (
-      (read, table.fill-table.ensures, marks.fill-marks.ensures),
+      (read, table.fill-table.ensures),
       (
         omega (arith, limited.if1.left),
         (
-          field_bounded read a.first _ (pair.pair_of.ensures.0 ∙ read-fields.before.field.ensures) (bytes limited),
-          field_bounded read a.second _ (pair.pair_of.ensures.1 ∙ read-fields.field2.ensures) (bytes limited),
+          field_bounded read a.first _ table.before.before.before.field.ensures (bytes limited),
+          field_bounded read a.second _ table.before.before.field2.ensures (bytes limited),
         ),
       ),
     )
@@ -109,21 +85,20 @@ try-rounds-requires c κs =
 draw-requires : tie.Need-draw-requires
 draw-requires c κs =
     let own = lent c.before in
-    ((start (passed (fielded (paired (tabled (marked own)))))).requires.1.2, omega (arith, plays_most c.try-rounds.result _ _ c.try-rounds.ensures, own.left_of.ensures))
+    ((start (passed (tabled own))).requires.1.2, omega (arith, plays_most c.try-rounds.result _ _ c.try-rounds.ensures, own.left_of.ensures))
 
 returns-2 : tie.Need-returns-2
 returns-2 c =
     let played = c.before in
     let own = lent played.before in
-    let pair = paired (tabled (marked own)) in
-    let read-fields = fielded pair in
-    let limited = passed read-fields in
+    let table = tabled own in
+    let limited = passed table in
     let begun = start limited in
     let a = begun.args in
     c.draw.ensures
     ∙ call_walks a.sheet.now a.first a.second a.limit a.desk (session_of a.session) begun.pre.1.2 begun.pre.0.passed (first_field begun) (second_field begun) (omega (arith, limited.if1.left)) _ _ _
-    (ap at (pair.pair_of.ensures.0 ∙ read-fields.before.field.ensures) ∙ field_counts_at begun.pre.0 a.first)
-    (ap at (pair.pair_of.ensures.1 ∙ read-fields.field2.ensures) ∙ field_counts_at begun.pre.0 a.second)
+    (ap at table.before.before.before.field.ensures ∙ field_counts_at begun.pre.0 a.first)
+    (ap at table.before.before.field2.ensures ∙ field_counts_at begun.pre.0 a.second)
     own.left_of.ensures played.try-rounds.result played.try-rounds.ensures
 
 pub walk-card-spec : {M : Type 1} → statement M
@@ -134,11 +109,8 @@ walk-card-spec =
     returns
     field-requires
     field-requires-2
-    pair-of-requires
     slice-aggregate-fill-table
     fill-table-requires
-    slice-aggregate-fill-marks
-    fill-marks-requires
     left-of-requires
     try-rounds-requires
     draw-requires

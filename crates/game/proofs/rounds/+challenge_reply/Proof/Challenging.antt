@@ -1,5 +1,5 @@
--- The challenges of a part, by the states that the function challenge passes: it has begun, a challenge is chosen, the replies to it are tried, the next challenge is chosen, and then the challenges from it up to
--- a middle are tried. The returns hand over what the calls ensure to the laws of Steps.
+-- The challenges of a part, by the states that the function challenge passes: it has begun, a challenge is chosen, the replies to it are tried, and then the first half of the other challenges. The returns hand
+-- over what the calls ensure to the laws of Steps.
 use native.Mathlib.Omega.{arith}
 use mathlib.Core.Bool.{true}
 use mathlib.Core.Path.{◌≡◌, ◌∙◌}
@@ -8,13 +8,12 @@ use Rattle.model.specs.Field.{at}
 use Rattle.model.specs.Walk.{Seen}
 use Rattle.theory.specs.Counted.{cut}
 use Rattle.theory.proofs.Counted.{follow}
-use Rattle.sheet.proofs.Laws.{lines_are, lines_most}
-use Rattle.game.specs.Rounds.{counted_of, told_by}
+use Rattle.sheet.proofs.Laws.{lines_most}
+use Rattle.game.specs.Rounds.{counted_of}
 use Rattle.game.specs.Challenges.{challenge_of, may_challenge}
-use Rattle.game.specs.Marks.{first_in, second_in}
-use Rattle.game.specs.declared.told.Examined.{Examined}
-use Rattle.game.specs.declared.told.Examined.TheVariants.{Holds, Fails, Spent}
-use Rattle.game.proofs.Steps.{Challenged, found_within, challenge_none, challenge_from, challenge_next, challenge_half}
+use Rattle.game.specs.declared.rounds.Examined.{Examined}
+use Rattle.game.specs.declared.rounds.Examined.TheVariants.{Holds, Fails, Spent}
+use Rattle.game.proofs.Steps.{Challenged, found_within, challenge_none, challenge_next, challenge_half}
 use Rattle.game.proofs.rounds.challenge.Reads as challenge
 use Rattle.game.proofs.rounds.+challenge_reply.Lts-challenge as challenge-lts
 use Rattle.game.proofs.rounds.+challenge_reply.Proof.Cycle.{challenge-at, challenge-calls}
@@ -28,29 +27,13 @@ module _ (t : ℕ) where
   abbrev Chosen : Type 0
   Chosen = challenge-lts.Else1 (challenge-calls t) (challenge-at t) challenge.Post
 
-  -- The state in which it is told what the replies to the challenge chosen come to.
+  -- The state in which the replies to the challenge chosen are tried.
   abbrev Tried : Type 0
-  Tried = challenge-lts.After-tells (challenge-calls t) (challenge-at t) challenge.Post
+  Tried = challenge-lts.After-reply (challenge-calls t) (challenge-at t) challenge.Post
 
-  -- The state in which the challenge chosen is known to hold.
-  abbrev Held : Type 0
-  Held = challenge-lts.After-known-told (challenge-calls t) (challenge-at t) challenge.Post
-
-  -- The state in which the next challenge that can be made is chosen.
-  abbrev Next_chosen : Type 0
-  Next_chosen = challenge-lts.Else2 (challenge-calls t) (challenge-at t) challenge.Post
-
-  -- The state in which it is told what the challenges from the next one up to the middle come to.
+  -- The state in which the first half of the challenges after the one chosen is tried.
   abbrev Halved : Type 0
-  Halved = challenge-lts.After-tells2 (challenge-calls t) (challenge-at t) challenge.Post
-
-  -- The state in which the challenges up to the middle are known to hold.
-  abbrev Half_held : Type 0
-  Half_held = challenge-lts.After-known-told2 (challenge-calls t) (challenge-at t) challenge.Post
-
-  -- The state in which the first challenge past the middle is chosen.
-  abbrev Last_chosen : Type 0
-  Last_chosen = challenge-lts.Else3 (challenge-calls t) (challenge-at t) challenge.Post
+  Halved = challenge-lts.After-challenge (challenge-calls t) (challenge-at t) challenge.Post
 
   -- The beginning, from the state in which a challenge is chosen.
   abbrev begun : Chosen → Begun
@@ -60,79 +43,50 @@ module _ (t : ℕ) where
   abbrev number : Chosen → ℕ
   number c = c.before.next-challenge.result
 
-  -- The choice, from the state in which the replies are tried.
+  -- The choice, from the state in which replies are tried.
   abbrev chosen : Tried → Chosen
-  chosen c = c.before.before.before
+  chosen c = c.before.before
 
-  -- The choice, from the state in which the challenge chosen holds.
-  abbrev held_chosen : Held → Chosen
-  held_chosen c = chosen c.before.before.before
+  -- The replies to the challenge chosen, from the state in which the first half of the others is tried.
+  abbrev tried : Halved → Tried
+  tried c = c.before.before.before.before.before
+
+  -- The first half, from the state in which the second half is tried too.
+  abbrev halved : challenge-lts.After-challenge2 (challenge-calls t) (challenge-at t) challenge.Post → Halved
+  halved c = c.before.before.before.before.before
+
+  -- The middle of the challenges after the one chosen.
+  abbrev middle : Chosen → ℕ
+  middle c = number c + 1 + ((begun c).args.part.to - (number c + 1)) / 2
 
   -- What is left of the allowance after the replies to the challenge chosen, which holds.
-  abbrev left : Held → ℕ
-  left c = c.before.left.given.0.0
-
-  -- The state in which the challenge chosen holds, from the choice of the next.
-  abbrev held : Next_chosen → Held
-  held c = c.before.before
-
-  -- The number of the next challenge.
-  abbrev next : Next_chosen → ℕ
-  next c = c.before.next-challenge2.result
-
-  -- The choice of the next challenge, from the state in which the challenges up to the middle are tried.
-  abbrev next_chosen : Halved → Next_chosen
-  next_chosen c = c.before.before.before
-
-  -- The choice of the next challenge, from the state in which the challenges up to the middle hold.
-  abbrev half_chosen : Half_held → Next_chosen
-  half_chosen c = next_chosen c.before.before.before
-
-  -- What is left of the allowance after the challenges up to the middle, which hold.
-  abbrev rest : Half_held → ℕ
-  rest c = c.before.rest.given.0.0
-
-  -- The middle of the challenges from the next one on.
-  abbrev middle : Next_chosen → ℕ
-  middle c = next c + 1 + ((begun (held_chosen (held c))).args.part.to - next c - 1) / 2
+  abbrev left : Halved → ℕ
+  left c = c.before.before.before.left.given.0.0
 
   -- What the challenges up to the last come to, from one of them on.
   abbrev challenges_from : Begun → ℕ → Seen
-  challenges_from b from = Challenged b.pre.1.0.0 (b.args.part.rounds - 1) (at (first_in b.args.pair.now)) (at (second_in b.args.pair.now)) from b.args.part.to
+  challenges_from b from = Challenged b.pre.1.0.0 (b.args.part.rounds - 1) (at b.args.first.now) (at b.args.second.now) from b.args.part.to
 
   -- The challenge chosen is one of those given.
   number_within : (c : Chosen) → ((begun c).args.part.from ≤ number c) × (number c < (begun c).args.part.to)
   number_within c =
       let a = (begun c).args in
-      found_within (may_challenge (at (first_in a.pair.now)) (at (second_in a.pair.now))) (challenge_of a.sheet.now) a.part.from a.part.to (begun c).requires.1.1.0.2 (number c) c.before.next-challenge.ensures c.if1.false
-
-  -- The next challenge comes after it.
-  next_within : (c : Next_chosen) → (number (held_chosen (held c)) + 1 ≤ next c) × (next c < (begun (held_chosen (held c))).args.part.to)
-  next_within c =
-      let a = (begun (held_chosen (held c))).args in
-      found_within (may_challenge (at (first_in a.pair.now)) (at (second_in a.pair.now))) (challenge_of a.sheet.now) (number (held_chosen (held c)) + 1) a.part.to (omega (arith, number_within (held_chosen (held c)))) (next c) c.before.next-challenge2.ensures c.if2.false
-
-  -- The last challenge chosen lies past the middle.
-  last_within : (c : Last_chosen) → (middle (half_chosen c.before.before) ≤ c.before.next-challenge3.result) × (c.before.next-challenge3.result < (begun (held_chosen (held (half_chosen c.before.before)))).args.part.to)
-  last_within c =
-      let a = (begun (held_chosen (held (half_chosen c.before.before)))).args in
-      found_within (may_challenge (at (first_in a.pair.now)) (at (second_in a.pair.now))) (challenge_of a.sheet.now) (middle (half_chosen c.before.before)) a.part.to (omega (arith, next_within (half_chosen c.before.before))) c.before.next-challenge3.result c.before.next-challenge3.ensures c.if3.false
-
-  -- There are at most 512 challenges.
-  part_small : (b : Begun) → b.args.part.to ≤ 512
-  part_small b = omega (arith, b.pre.1.1.0, lines_most b.pre.1.0.0)
-
-  pub challenge_next_challenge_requires : challenge-lts.Need-next-challenge-requires (challenge-calls t) (challenge-at t) challenge.Post
-  challenge_next_challenge_requires c κs = let p = c.before.requires.1 in (p.0.2, (p.1.0.2, omega (arith, p.1.0, lines_are p.0.0)))
+      found_within (may_challenge (at a.first.now) (at a.second.now)) (challenge_of a.sheet.now) a.part.from a.part.to (begun c).requires.1.1.0.2 (number c) c.before.next-challenge.ensures c.if1.false
 
   pub challenge_returns : challenge-lts.Need-returns (challenge-calls t) (challenge-at t) challenge.Post
   challenge_returns c =
-      let found = c.before.before in
-      let start = found.before.before in
-      let a = start.args in
-      let p = start.requires.1 in
-      c.holds.ensures
-      ∙ challenge_none p.0.0 (a.part.rounds - 1) (at (first_in a.pair.now)) (at (second_in a.pair.now)) a.part.from a.part.to a.part.allowance p.1.0.2 found.next-challenge.result found.next-challenge.ensures c.before.if1.true
+      let a = c.before.before.before.args in
+      let p = c.before.before.before.requires.1 in
+      challenge_none p.0.0 (a.part.rounds - 1) (at a.first.now) (at a.second.now) a.part.from a.part.to a.part.allowance p.1.0.2 c.before.next-challenge.result c.before.next-challenge.ensures c.if1.true
+
+  pub challenge_add_next : challenge-lts.Need-overflow-add-next (challenge-calls t) (challenge-at t) challenge.Post
+  challenge_add_next c = omega (arith, number_within c)
+
+  pub challenge_sub_middle : challenge-lts.Need-overflow-sub-middle (challenge-calls t) (challenge-at t) challenge.Post
+  challenge_sub_middle c = omega (arith, number_within c)
+
+  pub challenge_add_middle : challenge-lts.Need-overflow-add-middle (challenge-calls t) (challenge-at t) challenge.Post
+  challenge_add_middle c = omega (arith, number_within c)
 
   pub challenge_reply_requires : challenge-lts.Need-reply-requires (challenge-calls t) (challenge-at t) challenge.Post
   challenge_reply_requires c κs =
@@ -143,127 +97,60 @@ module _ (t : ℕ) where
       let m = lines_most p.1.0.0 in
       rw c.new.ensures (omega (arith, p.0, p.1.1.0, m), (p.1.0, (omega (arith, p.1.1.0, w), (rw z p.1.1.1.0, rw z p.1.1.1.1))))
 
+  pub challenge_challenge_requires : challenge-lts.Need-challenge-requires (challenge-calls t) (challenge-at t) challenge.Post
+  challenge_challenge_requires c κs =
+      let replied = c.before.before.before.before in
+      let p = (begun (chosen replied)).pre in
+      let w = number_within (chosen replied) in
+      rw c.new2.ensures (omega (arith, p.0, p.1.1.0, w), (p.1.0, (omega (arith, p.1.1.0, w), p.1.1.1)))
+
+  pub challenge_challenge_requires_2 : challenge-lts.Need-challenge-requires-2 (challenge-calls t) (challenge-at t) challenge.Post
+  challenge_challenge_requires_2 c κs =
+      let halved = c.before.before.before.before in
+      let p = (begun (chosen (tried halved))).pre in
+      let w = number_within (chosen (tried halved)) in
+      rw c.new3.ensures (omega (arith, p.0, p.1.1.0, w), (p.1.0, (omega (arith, p.1.1.0, w), p.1.1.1)))
+
   -- What the challenges after the chosen one come to, by what is known of that one.
-  challenge_after : (c : Tried) (known : Examined) → c.tells.result ≡ known
+  challenge_after : (c : Tried) (known : Examined) → c.reply.result ≡ known
       → follow true (counted_of known) (challenges_from (begun (chosen c)) (number (chosen c) + 1)) ≡ cut (begun (chosen c)).args.part.allowance (challenges_from (begun (chosen c)) (begun (chosen c)).args.part.from)
   challenge_after c known m =
       let start = begun (chosen c) in
       let a = start.args in
-      challenge_next start.pre.1.0.0 (a.part.rounds - 1) (at (first_in a.pair.now)) (at (second_in a.pair.now)) a.part.from a.part.to a.part.allowance start.pre.1.1.0.2 (number (chosen c)) (chosen c).before.next-challenge.ensures (chosen c).if1.false
-      (counted_of known) (rw (← m) (c.tells.ensures ∙ (rw c.before.before.new.ensures at c.before.reply.ensures)))
+      challenge_next start.pre.1.0.0 (a.part.rounds - 1) (at a.first.now) (at a.second.now) a.part.from a.part.to a.part.allowance start.pre.1.1.0.2 (number (chosen c)) (chosen c).before.next-challenge.ensures (chosen c).if1.false
+      (counted_of known) (rw (← m) (rw c.before.new.ensures at c.reply.ensures))
 
-  -- What they come to where that one holds.
-  challenge_held : (c : Held) → cut (left c) (challenges_from (begun (held_chosen c)) (number (held_chosen c) + 1)) ≡ cut (begun (held_chosen c)).args.part.allowance (challenges_from (begun (held_chosen c)) (begun (held_chosen c)).args.part.from)
-  challenge_held c = challenge_after c.before.before.before (Holds (left c)) c.before.left.given.1
+  -- What the second half of the challenges after the chosen one comes to, by what is known of the first half.
+  challenge_middle : (c : Halved) (known : Examined) → c.challenge.result ≡ known
+      → follow true (counted_of known) (challenges_from (begun (chosen (tried c))) (middle (chosen (tried c))))
+      ≡ cut (begun (chosen (tried c))).args.part.allowance (challenges_from (begun (chosen (tried c))) (begun (chosen (tried c))).args.part.from)
+  challenge_middle c known m =
+      let start = begun (chosen (tried c)) in
+      let a = start.args in
+      let next = number (chosen (tried c)) + 1 in
+      let w = number_within (chosen (tried c)) in
+      challenge_half start.pre.1.0.0 (a.part.rounds - 1) (at a.first.now) (at a.second.now) next a.part.to (left c) (omega (arith, w)) (middle (chosen (tried c))) (omega (arith, w)) (omega (arith, w))
+      (counted_of known) (rw (← m) (rw c.before.new2.ensures at c.challenge.ensures))
+      ∙ challenge_after (tried c) (Holds (left c)) c.before.before.before.left.given.1
 
-  pub challenge_add_next_challenge : challenge-lts.Need-overflow-add-next-challenge (challenge-calls t) (challenge-at t) challenge.Post
-  challenge_add_next_challenge c = omega (arith, number_within (held_chosen c), part_small (begun (held_chosen c)))
-
-  pub challenge_next_challenge_requires_2 : challenge-lts.Need-next-challenge-requires-2 (challenge-calls t) (challenge-at t) challenge.Post
-  challenge_next_challenge_requires_2 c κs =
-      let p = (begun (held_chosen c)).pre.1 in
-      (p.0.2, (omega (arith, number_within (held_chosen c)), omega (arith, p.1.0, lines_are p.0.0)))
+  -- What the call for the second half of the challenges comes to.
+  challenge_last : (c : challenge-lts.After-challenge2 (challenge-calls t) (challenge-at t) challenge.Post)
+      → counted_of c.challenge2.result ≡ follow true (counted_of (Holds c.before.before.before.rest.given.0.0)) (challenges_from (begun (chosen (tried (halved c)))) (middle (chosen (tried (halved c)))))
+  challenge_last c = rw c.before.new3.ensures at c.challenge2.ensures
 
   pub challenge_returns_2 : challenge-lts.Need-returns-2 (challenge-calls t) (challenge-at t) challenge.Post
   challenge_returns_2 c =
-      let found = c.before.before in
-      let known = found.before in
-      let start = begun (held_chosen known) in
-      let a = start.args in
-      c.holds2.ensures
-      ∙ challenge_none start.pre.1.0.0 (a.part.rounds - 1) (at (first_in a.pair.now)) (at (second_in a.pair.now)) (number (held_chosen known) + 1) a.part.to (left known) (omega (arith, number_within (held_chosen known))) found.next-challenge2.result found.next-challenge2.ensures c.before.if2.true
-      ∙ challenge_held known
-
-  pub challenge_add_middle : challenge-lts.Need-overflow-add-middle (challenge-calls t) (challenge-at t) challenge.Post
-  challenge_add_middle c = omega (arith, next_within c, part_small (begun (held_chosen (held c))))
-
-  pub challenge_sub_middle : challenge-lts.Need-overflow-sub-middle (challenge-calls t) (challenge-at t) challenge.Post
-  challenge_sub_middle c = omega (arith, next_within c)
-
-  pub challenge_sub_middle_2 : challenge-lts.Need-overflow-sub-middle-2 (challenge-calls t) (challenge-at t) challenge.Post
-  challenge_sub_middle_2 c = omega (arith, next_within c)
-
-  pub challenge_add_middle_2 : challenge-lts.Need-overflow-add-middle-2 (challenge-calls t) (challenge-at t) challenge.Post
-  challenge_add_middle_2 c = omega (arith, next_within c, part_small (begun (held_chosen (held c))))
-
-  pub challenge_challenge_requires : challenge-lts.Need-challenge-requires (challenge-calls t) (challenge-at t) challenge.Post
-  challenge_challenge_requires c κs =
-      let found = c.before in
-      let p = (begun (held_chosen (held found))).pre in
-      let w = number_within (held_chosen (held found)) in
-      let l = next_within found in
-      rw c.new2.ensures (omega (arith, p.0, p.1.1.0, w, l), (p.1.0, (omega (arith, p.1.1.0, w, l), p.1.1.1)))
-
-  -- What the challenges past the middle come to, by what is known of those before it.
-  challenge_middle : (c : Halved) (known : Examined) → c.tells2.result ≡ known
-      → follow true (counted_of known) (challenges_from (begun (held_chosen (held (next_chosen c)))) (middle (next_chosen c)))
-      ≡ cut (begun (held_chosen (held (next_chosen c)))).args.part.allowance (challenges_from (begun (held_chosen (held (next_chosen c)))) (begun (held_chosen (held (next_chosen c)))).args.part.from)
-  challenge_middle c known m =
-      let found = next_chosen c in
-      let start = begun (held_chosen (held found)) in
-      let a = start.args in
-      let w = number_within (held_chosen (held found)) in
-      let l = next_within found in
-      challenge_half start.pre.1.0.0 (a.part.rounds - 1) (at (first_in a.pair.now)) (at (second_in a.pair.now)) (next found) a.part.to (left (held found)) (omega (arith, l)) (middle found) (omega (arith, l)) (omega (arith, l))
-      (counted_of known) (rw (← m) (c.tells2.ensures ∙ (rw c.before.before.new2.ensures at c.before.challenge.ensures)))
-      ∙ challenge_from start.pre.1.0.0 (a.part.rounds - 1) (at (first_in a.pair.now)) (at (second_in a.pair.now)) (number (held_chosen (held found)) + 1) a.part.to (left (held found)) (omega (arith, w)) (next found) found.before.next-challenge2.ensures found.if2.left
-      ∙ challenge_held (held found)
-
-  -- What they come to where those before it hold.
-  challenge_half_held : (c : Half_held)
-      → cut (rest c) (challenges_from (begun (held_chosen (held (half_chosen c)))) (middle (half_chosen c)))
-      ≡ cut (begun (held_chosen (held (half_chosen c)))).args.part.allowance (challenges_from (begun (held_chosen (held (half_chosen c)))) (begun (held_chosen (held (half_chosen c)))).args.part.from)
-  challenge_half_held c = challenge_middle c.before.before.before (Holds (rest c)) c.before.rest.given.1
-
-  pub challenge_next_challenge_requires_3 : challenge-lts.Need-next-challenge-requires-3 (challenge-calls t) (challenge-at t) challenge.Post
-  challenge_next_challenge_requires_3 c κs =
-      let p = (begun (held_chosen (held (half_chosen c)))).pre.1 in
-      (p.0.2, (omega (arith, next_within (half_chosen c)), omega (arith, p.1.0, lines_are p.0.0)))
+      let told = c.before.before.before in
+      challenge_last c ∙ challenge_middle (halved c) (Holds told.rest.given.0.0) told.rest.given.1
 
   pub challenge_returns_3 : challenge-lts.Need-returns-3 (challenge-calls t) (challenge-at t) challenge.Post
-  challenge_returns_3 c =
-      let last = c.before.before in
-      let known = last.before in
-      let found = half_chosen known in
-      let start = begun (held_chosen (held found)) in
-      let a = start.args in
-      c.holds3.ensures
-      ∙ challenge_none start.pre.1.0.0 (a.part.rounds - 1) (at (first_in a.pair.now)) (at (second_in a.pair.now)) (middle found) a.part.to (rest known) (omega (arith, next_within found)) last.next-challenge3.result last.next-challenge3.ensures c.before.if3.true
-      ∙ challenge_half_held known
-
-  pub challenge_challenge_requires_2 : challenge-lts.Need-challenge-requires-2 (challenge-calls t) (challenge-at t) challenge.Post
-  challenge_challenge_requires_2 c κs =
-      let found = half_chosen c.before.before.before in
-      let p = (begun (held_chosen (held found))).pre in
-      let w = number_within (held_chosen (held found)) in
-      let l = next_within found in
-      let n = last_within c.before in
-      rw c.new3.ensures (omega (arith, p.0, p.1.1.0, w, l, n), (p.1.0, (omega (arith, p.1.1.0, n), p.1.1.1)))
-
-  -- What the call for the challenges past the middle comes to.
-  challenge_last : (c : challenge-lts.After-challenge2 (challenge-calls t) (challenge-at t) challenge.Post)
-      → told_by c.challenge2.result ≡ cut (rest c.before.before.before.before) (challenges_from (begun (held_chosen (held (half_chosen c.before.before.before.before)))) c.before.before.before.next-challenge3.result)
-  challenge_last c = rw c.before.new3.ensures at c.challenge2.ensures
+  challenge_returns_3 c = challenge_middle c.before.before.before (Fails c.before.rest2.given.0.0) c.before.rest2.given.1
 
   pub challenge_returns_4 : challenge-lts.Need-returns-4 (challenge-calls t) (challenge-at t) challenge.Post
-  challenge_returns_4 c =
-      let last = c.before.before in
-      let known = last.before.before in
-      let found = half_chosen known in
-      let start = begun (held_chosen (held found)) in
-      let a = start.args in
-      challenge_last c
-      ∙ challenge_from start.pre.1.0.0 (a.part.rounds - 1) (at (first_in a.pair.now)) (at (second_in a.pair.now)) (middle found) a.part.to (rest known) (omega (arith, next_within found)) last.before.next-challenge3.result last.before.next-challenge3.ensures last.if3.false
-      ∙ challenge_half_held known
+  challenge_returns_4 c = challenge_middle c.before.before Spent c.enum_told.given.1
 
   pub challenge_returns_5 : challenge-lts.Need-returns-5 (challenge-calls t) (challenge-at t) challenge.Post
-  challenge_returns_5 c = c.fails.ensures ∙ challenge_middle c.before.before.before.before (Fails c.before.before.rest2.given.0.0) c.before.before.rest2.given.1
+  challenge_returns_5 c = challenge_after c.before.before.before (Fails c.before.left2.given.0.0) c.before.left2.given.1
 
   pub challenge_returns_6 : challenge-lts.Need-returns-6 (challenge-calls t) (challenge-at t) challenge.Post
-  challenge_returns_6 c = c.spent.ensures ∙ challenge_middle c.before.before.before Spent c.before.enum_told.given.1
-
-  pub challenge_returns_7 : challenge-lts.Need-returns-7 (challenge-calls t) (challenge-at t) challenge.Post
-  challenge_returns_7 c = c.fails2.ensures ∙ challenge_after c.before.before.before.before (Fails c.before.before.left2.given.0.0) c.before.before.left2.given.1
-
-  pub challenge_returns_8 : challenge-lts.Need-returns-8 (challenge-calls t) (challenge-at t) challenge.Post
-  challenge_returns_8 c = c.spent2.ensures ∙ challenge_after c.before.before.before Spent c.before.enum-told2.given.1
+  challenge_returns_6 c = challenge_after c.before.before Spent c.enum-told2.given.1

@@ -14,19 +14,15 @@ use Rattle.game.proofs.challenges.first_line.Reads as first-line-reads
 use Rattle.game.proofs.challenges.next_answer.Reads as next-answer-reads
 use Rattle.game.proofs.challenges.next_challenge.Reads as next-challenge-reads
 use Rattle.game.proofs.challenges.second_line.Reads as second-line-reads
-use Rattle.game.proofs.pairs.use_lines.Reads as use-lines-reads
-use Rattle.game.proofs.told.fails.Reads as fails-reads
-use Rattle.game.proofs.told.holds.Reads as holds-reads
-use Rattle.game.proofs.told.spent.Reads as spent-reads
-use Rattle.game.proofs.told.tells.Reads as tells-reads
+use Rattle.moves.proofs.fire.use_line.Reads as use-line-reads
 
 -- What falls from call to call of challenge.
 abbrev pub μ_challenge : Measures 4 challenge-kinds.ps ℕ
-μ_challenge κs a = let part = a.1.1.1.1.0 in 2048 * part.rounds + (part.to - part.from)
+μ_challenge κs a = let part = a.1.1.1.0 in 2048 * part.rounds + (part.to - part.from)
 
 -- What falls from call to call of reply.
 abbrev pub μ_reply : Measures 4 reply-kinds.ps ℕ
-μ_reply κs a = let part = a.1.1.1.1.1.0 in 2048 * part.rounds + 1024 + (part.to - part.from)
+μ_reply κs a = let part = a.1.1.1.1.0 in 2048 * part.rounds + 1024 + (part.to - part.from)
 
 -- What challenge may take for granted, at a measure.
 abbrev pub challenge_at : ℕ → In 4 challenge-kinds.ps
@@ -47,8 +43,8 @@ reply_below t = and 4 reply-kinds.ps (falls 4 reply-kinds.ps ◌<◌ μ_reply t)
 
 -- What challenge calls.
 abbrev pub challenge_calls : ℕ → challenge-lts.Claims
-challenge_calls t = (next-challenge-reads.Asked, next-challenge-reads.Learnt, holds-reads.Asked, holds-reads.Learnt, new-reads.Asked, new-reads.Learnt, reply_below t, reply.Post, tells-reads.Asked, tells-reads.Learnt, challenge_below t, challenge.Post, fails-reads.Asked, fails-reads.Learnt, spent-reads.Asked, spent-reads.Learnt)
+challenge_calls t = (next-challenge-reads.Asked, next-challenge-reads.Learnt, new-reads.Asked, new-reads.Learnt, reply_below t, reply.Post, challenge_below t, challenge.Post)
 
 -- What reply calls.
 abbrev pub reply_calls : ℕ → reply-lts.Claims
-reply_calls t = (next-answer-reads.Asked, next-answer-reads.Learnt, fails-reads.Asked, fails-reads.Learnt, spent-reads.Asked, spent-reads.Learnt, holds-reads.Asked, holds-reads.Learnt, first-line-reads.Asked, first-line-reads.Learnt, second-line-reads.Asked, second-line-reads.Learnt, use-lines-reads.Asked, use-lines-reads.Learnt, new-reads.Asked, new-reads.Learnt, challenge_below t, challenge.Post, tells-reads.Asked, tells-reads.Learnt, reply_below t, reply.Post)
+reply_calls t = (next-answer-reads.Asked, next-answer-reads.Learnt, first-line-reads.Asked, first-line-reads.Learnt, use-line-reads.Asked, use-line-reads.Learnt, second-line-reads.Asked, second-line-reads.Learnt, new-reads.Asked, new-reads.Learnt, challenge_below t, challenge.Post, reply_below t, reply.Post)
