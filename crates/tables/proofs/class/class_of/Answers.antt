@@ -1,4 +1,3 @@
-use Prim.Native.Nat.{◌-◌}
 use native.Mathlib.Omega.{arith}
 use Rattle.tables.specs.Table.{row_in}
 use Rattle.tables.specs.Lines.{kind_in, code_in}
@@ -19,6 +18,6 @@ pub loop-earlier-preserved : goal.loop-earlier-preserved
 loop-earlier-preserved c = none_more c.loop-earlier.invariant c.loop-earlier-test.true (told_not c.lines_match.ensures c.if-lines_match.false)
 
 pub returns : goal.returns
-returns c = 
+returns c =
     let lines = c.args.lines.now in
     least_self (match_equivalence (kind_in lines) (code_in lines) (row_in c.args.rows.now) (row_in c.args.forms.now)) c.loop-earlier.invariant c.loop-earlier-test.false

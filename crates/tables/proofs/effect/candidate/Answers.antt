@@ -1,4 +1,3 @@
-use Prim.Native.Nat.{◌-◌}
 use native.Mathlib.Omega.{arith}
 use Rattle.tables.proofs.Subtraction.{subtracted_none, subtracted_more, subtracted_all, subtracted_not}
 use Rattle.tables.proofs.effect.candidate.Goals as goal
@@ -7,19 +6,19 @@ pub loop-i-init : goal.loop-i-init
 loop-i-init c = subtracted_none (omega arith)
 
 pub overflow_add-whole : goal.overflow_add-whole
-overflow_add-whole c = 
+overflow_add-whole c =
     omega (arith, c.requires.under c.loop-i.i)
 
 pub returns-then-whole-part : goal.returns-then-whole-part
-returns-then-whole-part c = 
+returns-then-whole-part c =
     subtracted_not c.loop-i.i (λ v f e. omega arith)
 
 pub returns-then-rest-gt4294967295 : goal.returns-then-rest-gt4294967295
-returns-then-rest-gt4294967295 c = 
+returns-then-rest-gt4294967295 c =
     subtracted_not c.loop-i.i (λ v f e. omega arith)
 
 pub loop-i-preserved : goal.loop-i-preserved
-loop-i-preserved c = 
+loop-i-preserved c =
     subtracted_more c.loop-i.invariant _ (omega arith) c.loop-i-test.true
 
 pub returns : goal.returns

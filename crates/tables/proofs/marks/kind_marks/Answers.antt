@@ -1,4 +1,3 @@
-use Prim.Native.Nat.{◌-◌}
 use mathlib.Core.Bool.{false}
 use mathlib.Core.Path.{sym, ap, ◌∙◌}
 use native.Mathlib.Omega.{arith}
@@ -10,27 +9,27 @@ pub loop-line-init : goal.loop-line-init
 loop-line-init c = kinds_marked_none c.requires.marks_value
 
 pub overflow_mul-start : goal.overflow_mul-start
-overflow_mul-start c = 
+overflow_mul-start c =
     omega (arith, c.requires.line_table.0.kinds_under c.loop-line.line c.loop-line-test.true, c.kind_of-start.ensures)
 
 pub overflow_cast-class : goal.overflow_cast-class
 overflow_cast-class c = omega (arith, c.shared_slice_known-in-loop-line-1.given c.loop-line.line)
 
 pub overflow_add-marks : goal.overflow_add-marks
-overflow_add-marks c = 
+overflow_add-marks c =
     omega (arith, c.requires.line_table.0.kinds_under c.loop-line.line c.loop-line-test.true, c.kind_of-start.ensures, c.shared_slice_known-in-loop-line-1.given c.loop-line.line)
 
 pub bounds-marks-start : goal.bounds-marks-start
-bounds-marks-start c = 
+bounds-marks-start c =
     omega (arith, c.requires.line_table.0.kinds_under c.loop-line.line c.loop-line-test.true, c.kind_of-start.ensures, c.shared_slice_known-in-loop-line-1.given c.loop-line.line, c.loop-line.invariant.long)
 
 pub loop-line-preserved : goal.loop-line-preserved
-loop-line-preserved c = 
+loop-line-preserved c =
     let under = c.requires.line_table.0.kinds_under c.loop-line.line c.loop-line-test.true in
     rw c.kind_of-start.ensures (kinds_marked_more c.loop-line.invariant c.loop-line-test.true under (λ x. omega (arith, c.shared_slice_known-in-loop-line-1.given x)))
 
 pub shape_of-marks : goal.shape_of-marks
-shape_of-marks c = 
+shape_of-marks c =
     c.loop-line.invariant.long ∙ sym (ap length c.requires.marks_value ∙ length-replicate 8192 false)
 
 pub returns : goal.returns

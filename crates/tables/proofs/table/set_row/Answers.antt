@@ -1,4 +1,3 @@
-use Prim.Native.Nat.{◌-◌}
 use native.Mathlib.Omega.{arith}
 use Rattle.tables.specs.Table.{with_row}
 use Rattle.tables.proofs.Stores.{copied_none, copied_more, copied_length, copied_all}
