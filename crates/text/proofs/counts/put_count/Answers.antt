@@ -9,5 +9,5 @@ use Rattle.text.proofs.counts.put_count.Goals as goal
 
 pub returns : goal.returns
 unfolding count_text bytes
-returns c = 
+returns c =
     reads_as most_count (count_text c.args.count) c.put_labelled.ensures (omega arith) refl

@@ -10,7 +10,7 @@ use Rattle.text.proofs.counts.put_labelled_counts.Goals as goal
 
 pub returns : goal.returns
 unfolding bytes
-returns c = 
+returns c =
     let put-labelled = c.put_labelled-space in
     let put_byte = c.put_byte-shown in
     let put-counts = c.put_counts-last in

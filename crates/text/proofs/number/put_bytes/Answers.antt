@@ -1,4 +1,3 @@
-use Prim.Native.Nat.{◌-◌}
 use native.Mathlib.Omega.{arith}
 use borrow.Author.Rules.{rules}
 use Rattle.text.proofs.Append.{nothing, one_more, all_taken}
@@ -11,12 +10,12 @@ pub put_byte-next-requires : goal.put_byte-next-requires
 put_byte-next-requires c = omega (arith, c.loop-i.invariant.1.ends, c.loop-i.invariant.1.size, c.loop-i.invariant.1.within)
 
 pub loop-i-preserved : goal.loop-i-preserved
-loop-i-preserved c = 
+loop-i-preserved c =
     (omega arith, one_more c.args.text.now (omega arith) c.loop-i.invariant.1 c.put_byte-next.ensures)
 
 pub shape_of-out : goal.shape_of-out
 shape_of-out c = c.loop-i.invariant.1.size
 
 pub returns : goal.returns
-returns c = 
+returns c =
     all_taken c.args.text.now (omega arith) c.loop-i.invariant.1

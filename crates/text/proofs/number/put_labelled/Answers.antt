@@ -3,6 +3,6 @@ use Rattle.text.proofs.Append.{then}
 use Rattle.text.proofs.number.put_labelled.Goals as goal
 
 pub returns : goal.returns
-returns c = 
+returns c =
     let put-bytes = c.put_bytes-next in
     then put-bytes.ensures c.put_number.ensures

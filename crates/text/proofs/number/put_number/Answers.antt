@@ -11,5 +11,5 @@ pub put_digits-requires : goal.put_digits-requires
 put_digits-requires c = omega (arith, number_most c.args.value c.ranges.value.fits)
 
 pub returns : goal.returns
-returns c = 
+returns c =
     reads_as most_digits (number c.args.value) c.put_digits.ensures (number_most c.args.value c.ranges.value.fits) refl

@@ -3,6 +3,6 @@ use Rattle.text.proofs.Append.{then}
 use Rattle.text.proofs.number.put_two_labelled.Goals as goal
 
 pub returns : goal.returns
-returns c = 
+returns c =
     let put-labelled = c.put_labelled-next in
     then put-labelled.ensures c.put_labelled.ensures
