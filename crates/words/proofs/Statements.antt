@@ -13,7 +13,6 @@ use Rattle.theory.proofs.Decimals.{decimals}
 use Rattle.words.specs.Word.{digit_of, is_digit, value_from, some, number_of}
 use Rattle.words.specs.Words.{started_by, words_of}
 use Rattle.words.specs.Statements.{ended, Statements}
-use Rattle.words.specs.declared.decimal.Word.{Word}
 use Rattle.words.specs.declared.decimal.Word.TheVariants.{Number}
 use Rattle.words.proofs.Decimals.{digit_is}
 use Rattle.words.proofs.Texts.{zero_first, byte_first}
