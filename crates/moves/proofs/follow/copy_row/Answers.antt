@@ -1,6 +1,6 @@
 use native.Mathlib.Omega.{arith}
 use mathlib.Core.Path.{◌≡◌, refl, ap, ◌∙◌}
-use Prim.Native.Nat.{◌+◌, ◌*◌, ◌-◌}
+use Prim.Native.Nat.{◌+◌, ◌*◌}
 use Rattle.model.specs.Field.{at}
 use Rattle.model.specs.Limits.{most_codes}
 use Rattle.moves.proofs.Following.{setting_none, setting_more, setting_all}
@@ -10,7 +10,7 @@ pub loop-code-init : goal.loop-code-init
 loop-code-init c = setting_none
 
 pub loop-code-preserved : goal.loop-code-preserved
-loop-code-preserved c = 
+loop-code-preserved c =
     let l = c.loop-code in
     let p = c.args.position in
     let e : p * most_codes + most_codes + l.code ≡ (p + 1) * most_codes + l.code = omega arith in

@@ -6,7 +6,7 @@ use Rattle.moves.proofs.Following.{Setting}
 use Rattle.moves.proofs.follow.copy_row.Given as goal
 
 abbrev pub invariant-loop-code : goal.invariant-loop-code
-invariant-loop-code l = 
+invariant-loop-code l =
     Setting l.start (λ c. at l.initial.table ((l.position + 1) * most_codes + c)) l.initial.table l.table l.code
 
 abbrev pub decreases-loop-code : goal.decreases-loop-code

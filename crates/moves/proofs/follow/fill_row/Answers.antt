@@ -1,6 +1,5 @@
 use native.Mathlib.Omega.{arith}
 use mathlib.Core.Path.{refl}
-use Prim.Native.Nat.{◌-◌}
 use Rattle.moves.proofs.Following.{setting_none, setting_more, setting_all}
 use Rattle.moves.proofs.follow.fill_row.Goals as goal
 

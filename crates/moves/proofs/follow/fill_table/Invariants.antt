@@ -1,5 +1,5 @@
 -- The rows from the position up are right.
-use Prim.Native.Nat.{◌-◌, ◌≤◌}
+use Prim.Native.Nat.{◌≤◌}
 use Rattle.moves.specs.Following.{FollowsFrom}
 use Rattle.moves.proofs.follow.fill_table.Given as goal
 

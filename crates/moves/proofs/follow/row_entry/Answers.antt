@@ -4,5 +4,5 @@ use Rattle.sheet.proofs.Laws.{codes_most, code_under}
 use Rattle.moves.proofs.follow.row_entry.Goals as goal
 
 pub returns : goal.returns
-returns c = 
+returns c =
     (cc, omega (arith, code_under c.requires.reads c.args.line c.requires.line_lt_lines, codes_most c.requires.reads))

@@ -10,7 +10,7 @@ use Rattle.moves.proofs.lines.may_use.Goals.{After-line_kind-kind}
 
 -- The line's kind is one of the field's.
 small : (c : After-line_kind-kind) → c.line_kind-kind.result < 32
-small c = 
+small c =
     let read = c.requires.reads in
     let j = c.args.line in
     omega (arith, c.line_kind-kind.ensures, kind_under read j c.requires.line_lt_lines, kinds_most read)
