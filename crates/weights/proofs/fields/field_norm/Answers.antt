@@ -1,6 +1,6 @@
 use borrow.Author.Rules.{rules}
 use mathlib.Core.Path.{◌≡◌}
-use Prim.Native.Nat.{◌-◌, ◌*◌, ◌^◌}
+use Prim.Native.Nat.{◌*◌, ◌^◌}
 use native.Mathlib.Omega.{arith}
 use Rattle.model.specs.Field.{weigh, at}
 use Rattle.weights.proofs.Counts.{SumMore, sum_more}
@@ -15,11 +15,11 @@ loop-kind-init c = (search rules, search rules)
 more : (c : After-wide32-in-loop-kind)
     → let args = c.args in
     let loop = c.loop-kind in
-    SumMore loop.kind (at args.t2) (at args.t3) loop.sum (c.wide32.result * c.wide32-in-loop-kind.result) (2 ^ 64)
-more c = 
+    SumMore loop.kind (at args.norms) (at args.field) loop.sum (c.wide32.result * c.wide32-in-loop-kind.result) (2 ^ 64)
+more c =
     let args = c.args in
     let loop = c.loop-kind in
-    sum_more loop.kind args.kinds (at args.t2) (at args.t3) (2 ^ 64) loop.sum c.wide32.result c.wide32-in-loop-kind.result (omega arith) c.requires.field_bound loop.invariant.0 c.wide32.ensures
+    sum_more loop.kind args.kinds (at args.norms) (at args.field) (2 ^ 64) loop.sum c.wide32.result c.wide32-in-loop-kind.result (omega arith) c.requires.field_bound loop.invariant.0 c.wide32.ensures
     c.wide32-in-loop-kind.ensures
 
 pub overflow_mul-sum : goal.overflow_mul-sum
@@ -32,6 +32,6 @@ pub loop-kind-preserved : goal.loop-kind-preserved
 loop-kind-preserved c = ((more (goal.at.loop-kind-preserved c).After-wide32-in-loop-kind).sum_is, search rules)
 
 pub returns : goal.returns
-returns c = 
+returns c =
     let z : c.loop-kind.kind ≡ c.args.kinds = omega arith in
     rw z at c.loop-kind.invariant.0

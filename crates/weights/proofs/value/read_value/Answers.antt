@@ -1,7 +1,6 @@
 use borrow.Author.Rules.{rules}
-use mathlib.Core.Logic.{⊎_elim}
 use mathlib.Core.Path.{◌≡◌, sym, ◌∙◌, ap}
-use Prim.Native.Nat.{ℕ, suc, ◌-◌, ◌*◌, ◌^◌}
+use Prim.Native.Nat.{ℕ, suc, ◌*◌, ◌^◌}
 use native.Mathlib.Omega.{arith}
 use lib.ListN.{length}
 use Rattle.model.specs.Field.{weigh, at}
@@ -10,14 +9,14 @@ use Rattle.weights.proofs.Bounds.{bytes_fit}
 use Rattle.weights.proofs.Counts.{SumMore, sum_more, sum_same, ready_true, ready_false, ready_more}
 use Rattle.weights.proofs.Values.{read_missing, read_ready}
 use Rattle.weights.proofs.value.read_value.Goals as goal
-use Rattle.weights.proofs.value.read_value.Goals.{After-loop-i, In-loop-i}
+use Rattle.weights.proofs.value.read_value.Goals.{After-loop-i, In-loop-i, then-count-gt0+else-value-eq0, else-count-gt0}
 
 pub loop-i-init : goal.loop-i-init
 unfolding weigh
 loop-i-init c = (search rules, λ k h. absurd (omega arith), search rules)
 
 pub returns-then-value-eq0 : goal.returns-then-value-eq0
-returns-then-value-eq0 c = 
+returns-then-value-eq0 c =
     let args = c.args in
     let loop-i = c.loop-i.i in
     let n = length args.counts.now in
@@ -31,7 +30,7 @@ more : (c : In-loop-i)
     → let args = c.args in
     (x y : ℕ) → x ≡ at args.counts.now c.loop-i.i → y ≡ at args.values.now c.loop-i.i
     → SumMore c.loop-i.i (at args.values.now) (at args.counts.now) c.loop-i.sum (x * y) (2 ^ 64)
-more c x y p q = 
+more c x y p q =
     let loop = c.loop-i in
     let n = length c.args.counts.now in
     let fits =
@@ -40,27 +39,29 @@ more c x y p q =
     sum_more loop.i n (at c.args.values.now) (at c.args.counts.now) (2 ^ 64) loop.sum x y (omega arith) fits loop.invariant.2 p q
 
 pub overflow_mul-sum : goal.overflow_mul-sum
-overflow_mul-sum c = 
+overflow_mul-sum c =
     record { fits = (more (goal.at.overflow_mul-sum c).In-loop-i _ _ c.wide8.ensures c.wide32.ensures).product_fits }
 
 pub overflow_add-sum : goal.overflow_add-sum
-overflow_add-sum c = 
+overflow_add-sum c =
     record { fits = (more (goal.at.overflow_add-sum c).In-loop-i _ _ c.wide8.ensures c.wide32.ensures).sum_fits }
 
 pub loop-i-preserved : goal.loop-i-preserved
-loop-i-preserved c = 
+loop-i-preserved c =
     let args = c.args in
-    let loop = c.loop-i in
-    (
+    let loop = c.loop-i in (
       search rules,
-      ready_more _ _ _ loop.invariant.1 (⊎_elim (λ u q. omega (arith, u.2.left)) (λ u q. absurd (omega (arith, u.0.left))) c.if-count-gt0.branch),
-      ⊎_elim (λ u. u.5 ∙ (more (goal.at.loop-i-preserved c).In-loop-i _ _ u.3.ensures u.4.ensures).sum_is)
-          (λ u. u.1 ∙ loop.invariant.2 ∙ sum_same loop.i (at args.values.now) (at args.counts.now) (omega (arith, u.0.left))) c.if-count-gt0.branch,
+      ready_more _ _ _ loop.invariant.1
+          (elim c.if-count-gt0.branch [ then-count-gt0+else-value-eq0 w ↦ λ q. omega arith | else-count-gt0 w ↦ λ q. absurd (omega arith) ]),
+      elim c.if-count-gt0.branch [
+        | then-count-gt0+else-value-eq0 w ↦ w.sum-is ∙ (more (goal.at.loop-i-preserved c).In-loop-i _ _ w.wide8.ensures w.wide32.ensures).sum_is
+        | else-count-gt0 w ↦ w.sum-is ∙ loop.invariant.2 ∙ sum_same loop.i (at args.values.now) (at args.counts.now) (omega arith)
+      ],
     )
 
 -- The read's value, where each kind that is left has one.
 value_told : (c : After-loop-i) → let args = c.args in read_value (length args.counts.now) (at args.values.now) (at args.counts.now) ≡ suc c.loop-i.sum
-value_told c = 
+value_told c =
     let args = c.args in
     let loop = c.loop-i in
     let n = length args.counts.now in

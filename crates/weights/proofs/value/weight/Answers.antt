@@ -1,6 +1,6 @@
 use borrow.Author.Rules.{rules}
 use mathlib.Core.Path.{◌≡◌}
-use Prim.Native.Nat.{◌-◌, ◌*◌, ◌^◌}
+use Prim.Native.Nat.{◌*◌, ◌^◌}
 use native.Mathlib.Omega.{arith}
 use lib.ListN.{length}
 use Rattle.model.specs.Field.{weigh, at}
@@ -17,7 +17,7 @@ more : (c : After-wide32)
     → let args = c.args in
     let loop = c.loop-i in
     SumMore loop.i (at args.values.now) (at args.counts.now) loop.sum (c.wide8.result * c.wide32.result) (2 ^ 64)
-more c = 
+more c =
     let args = c.args in
     let loop = c.loop-i in
     sum_more loop.i (length args.counts.now) (at args.values.now) (at args.counts.now) (2 ^ 64) loop.sum c.wide8.result c.wide32.result (omega arith)
@@ -33,6 +33,6 @@ pub loop-i-preserved : goal.loop-i-preserved
 loop-i-preserved c = (search rules, (more (goal.at.loop-i-preserved c).After-wide32).sum_is)
 
 pub returns : goal.returns
-returns c = 
+returns c =
     let z : c.loop-i.i ≡ length c.args.counts.now = omega arith in
     rw z at c.loop-i.invariant.1
