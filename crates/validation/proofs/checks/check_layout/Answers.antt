@@ -37,12 +37,12 @@ total_is c = total_read _ _ c.requires.card_value _ c.field_start-total.ensures.
 
 after_lines : (c : Else-u32_at-ne-HEADER) → After 1 c.args.sheet.now
 unfolding header_checks
-after_lines c = 
+after_lines c =
     differ_passes 6 0 _ (u32_at c.args.sheet.now 8) lines_offset (sym c.u32_at.ensures.0 ∙ c.if-u32_at-ne-HEADER.false)
 
 after_fields : (c : Else-u32_at-fields) → After 2 c.args.sheet.now
 unfolding header_checks
-after_fields c = 
+after_fields c =
     let after_lines : After 1 c.args.sheet.now = differ_passes 6 0 _ (u32_at c.args.sheet.now 8) lines_offset (sym c.u32_at.ensures.0 ∙ c.if-u32_at-ne-HEADER.false) in
     let fields_is : c.line_start-fields.result ≡ fields_offset c.args.sheet.now = fields_offset_read _ _ c.requires.card_value _ c.line_start-fields.ensures.0 in
     after_lines
@@ -50,7 +50,7 @@ after_fields c =
 
 after_total : (c : Else-u32_at-total) → After 3 c.args.sheet.now
 unfolding header_checks
-after_total c = 
+after_total c =
     let after_fields : After 2 c.args.sheet.now = let after_lines : After 1 c.args.sheet.now = differ_passes 6 0 _ (u32_at c.args.sheet.now 8) lines_offset (sym c.u32_at.ensures.0 ∙ c.if-u32_at-ne-HEADER.false) in let fields_is : c.line_start-fields.result ≡ fields_offset c.args.sheet.now = fields_offset_read _ _ c.requires.card_value _ c.line_start-fields.ensures.0 in after_lines ∙ differ_passes 6 1 _ (u32_at c.args.sheet.now 12) (fields_offset c.args.sheet.now) (sym c.u32_at-2.ensures.0 ∙ c.if-u32_at-fields.false ∙ fields_is) in
     let total_is : c.field_start-total.result ≡ total_of c.args.sheet.now = total_read _ _ c.requires.card_value _ c.field_start-total.ensures.0 in
     after_fields
@@ -58,12 +58,12 @@ after_total c =
 
 pub returns-then-u32_at-ne-HEADER : goal.returns-then-u32_at-ne-HEADER
 unfolding header_checks
-returns-then-u32_at-ne-HEADER c = 
+returns-then-u32_at-ne-HEADER c =
     refuses _ _ 6 0 (differ_stops 6 0 _ (u32_at c.args.sheet.now 8) lines_offset (λ e. c.if-u32_at-ne-HEADER.true (c.u32_at.ensures.0 ∙ e)))
 
 pub returns-then-u32_at-fields : goal.returns-then-u32_at-fields
 unfolding header_checks
-returns-then-u32_at-fields c = 
+returns-then-u32_at-fields c =
     refuses _ _ 6 1
     (after_lines (goal.at.returns-then-u32_at-fields c).Else-u32_at-ne-HEADER
     ∙ differ_stops 6 1 _ (u32_at c.args.sheet.now 12) (fields_offset c.args.sheet.now)
@@ -71,7 +71,7 @@ returns-then-u32_at-fields c =
 
 pub returns-then-u32_at-total : goal.returns-then-u32_at-total
 unfolding header_checks
-returns-then-u32_at-total c = 
+returns-then-u32_at-total c =
     refuses _ _ 6 2
     (after_fields (goal.at.returns-then-u32_at-total c).Else-u32_at-fields
     ∙ differ_stops 6 2 _ (u32_at c.args.sheet.now 16) (total_of c.args.sheet.now)
@@ -79,13 +79,13 @@ returns-then-u32_at-total c =
 
 pub returns-then-sheet-total : goal.returns-then-sheet-total
 unfolding header_checks
-returns-then-sheet-total c = 
+returns-then-sheet-total c =
     refuses _ _ 6 3
     (after_total (goal.at.returns-then-sheet-total c).Else-u32_at-total
     ∙ differ_stops 6 3 _ (length c.args.sheet.now) (total_of c.args.sheet.now) (λ e. c.if-sheet-total.true (e ∙ sym (total_is (goal.at.returns-then-sheet-total c).After-field_start-total))))
 
 pub returns : goal.returns
 unfolding header_checks
-returns c = 
+returns c =
     passes _ _ _ refl
     (after_total (goal.at.returns c).Else-u32_at-total ∙ differ_passes 6 3 _ (length c.args.sheet.now) (total_of c.args.sheet.now) (c.if-sheet-total.false ∙ total_is (goal.at.returns c).After-field_start-total) ∙ clear_nil)

@@ -31,21 +31,21 @@ after_length c = less_passes 1 0 _ _ _ c.if-sheet-lt-HEADER.false
 
 after_kinds : (c : Else-outside) → After 2 c.args.sheet.now
 unfolding header_checks
-after_kinds c = 
+after_kinds c =
     let after_length : After 1 c.args.sheet.now = less_passes 1 0 _ _ _ c.if-sheet-lt-HEADER.false in
     let kinds_test : outside 1 most_kinds (kind_count c.args.sheet.now) ≡ c.outside.result = sym (c.outside.ensures ∙ ap (λ (d : Card). outside 1 most_kinds d.kinds) c.of_header-card.ensures) in
     after_length ∙ test_passes 2 0 _ _ (kinds_test ∙ c.if-outside.false)
 
 after_codes : (c : Else-outside-2) → After 3 c.args.sheet.now
 unfolding header_checks
-after_codes c = 
+after_codes c =
     let after_kinds : After 2 c.args.sheet.now = let after_length : After 1 c.args.sheet.now = less_passes 1 0 _ _ _ c.if-sheet-lt-HEADER.false in let kinds_test : outside 1 most_kinds (kind_count c.args.sheet.now) ≡ c.outside.result = sym (c.outside.ensures ∙ ap (λ (d : Card). outside 1 most_kinds d.kinds) c.of_header-card.ensures) in after_length ∙ test_passes 2 0 _ _ (kinds_test ∙ c.if-outside.false) in
     let codes_test : outside 1 most_codes (code_count c.args.sheet.now) ≡ c.outside-2.result = sym (c.outside-2.ensures ∙ ap (λ (d : Card). outside 1 most_codes d.codes) c.of_header-card.ensures) in
     after_kinds ∙ test_passes 3 0 _ _ (codes_test ∙ c.if-outside-2.false)
 
 after_lines : (c : Else-lines-gt-LINES) → After 4 c.args.sheet.now
 unfolding header_checks
-after_lines c = 
+after_lines c =
     let after_codes : After 3 c.args.sheet.now = let after_kinds : After 2 c.args.sheet.now = let after_length : After 1 c.args.sheet.now = less_passes 1 0 _ _ _ c.if-sheet-lt-HEADER.false in let kinds_test : outside 1 most_kinds (kind_count c.args.sheet.now) ≡ c.outside.result = sym (c.outside.ensures ∙ ap (λ (d : Card). outside 1 most_kinds d.kinds) c.of_header-card.ensures) in after_length ∙ test_passes 2 0 _ _ (kinds_test ∙ c.if-outside.false) in let codes_test : outside 1 most_codes (code_count c.args.sheet.now) ≡ c.outside-2.result = sym (c.outside-2.ensures ∙ ap (λ (d : Card). outside 1 most_codes d.codes) c.of_header-card.ensures) in after_kinds ∙ test_passes 3 0 _ _ (codes_test ∙ c.if-outside-2.false) in
     let of-header = c.of_header-card in
     let e = ap (λ (d : Card). d.lines) of-header.ensures in
@@ -65,21 +65,21 @@ returns-then-outside-2 c = refuses _ _ 3 0 (after_kinds (goal.at.returns-then-ou
 
 pub returns-then-lines-gt-LINES : goal.returns-then-lines-gt-LINES
 unfolding header_checks
-returns-then-lines-gt-LINES c = 
+returns-then-lines-gt-LINES c =
     let of-header = c.of_header-card in
     let e = ap (λ (d : Card). d.lines) of-header.ensures in
     refuses _ _ 4 0 (after_codes (goal.at.returns-then-lines-gt-LINES c).Else-outside-2 ∙ less_stops 4 0 _ most_lines (line_count c.args.sheet.now) (omega (arith, e)))
 
 pub returns-then-fields-gt-FIELDS : goal.returns-then-fields-gt-FIELDS
 unfolding header_checks
-returns-then-fields-gt-FIELDS c = 
+returns-then-fields-gt-FIELDS c =
     let of-header = c.of_header-card in
     let e = ap (λ (d : Card). d.fields) of-header.ensures in
     refuses _ _ 5 0 (after_lines (goal.at.returns-then-fields-gt-FIELDS c).Else-lines-gt-LINES ∙ less_stops 5 0 _ most_fields (field_count c.args.sheet.now) (omega (arith, e)))
 
 pub returns : goal.returns
 unfolding header_checks
-returns c = 
+returns c =
     let of-header = c.of_header-card in
     let e = ap (λ (d : Card). d.fields) of-header.ensures in
     passes _ _ _ of-header.ensures
