@@ -1,5 +1,7 @@
 // Refusals in words: the sentence of a number and place.
 
+#![tactic(auto)]
+
 // The table of sentences.
 mod table;
 

@@ -5,7 +5,7 @@ ghost use Rattle.sentences.specs.Row.{row_of};
 ghost use Rattle.sentences.specs.Sentence.{among, has, sentences, unsaid};
 
 // The places of a row: one, any line, or any kind.
-#[derive(Drop)]
+#[derive(Clone, Copy)]
 pub enum Place {
     Only(usize),
     Line,
@@ -13,7 +13,7 @@ pub enum Place {
 }
 
 // The number of a refusal, its places, and what is said: the first `count` of the bytes.
-#[derive(Drop)]
+#[derive(Clone, Copy)]
 pub struct Row {
     pub number: usize,
     pub places: Place,
