@@ -14,5 +14,5 @@ pub slice_bounds-result-end : goal.slice_bounds-result-end
 slice_bounds-result-end c = omega (arith, line_inside c.requires.reads c.args.line c.requires.line_lt_lines, c.line_start-start.ensures.0)
 
 pub returns : goal.returns
-returns c = 
+returns c =
     counts_read c.requires.reads c.args.line _ c.line_start-start.ensures.0 c.requires.line_lt_lines
