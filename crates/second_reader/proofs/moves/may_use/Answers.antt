@@ -8,7 +8,7 @@ use Rattle.second_reader.proofs.Counts.{no_token}
 use Rattle.second_reader.proofs.moves.may_use.Goals as goal
 
 pub returns-then-kind-lt32 : goal.returns-then-kind-lt32
-returns-then-kind-lt32 c = 
+returns-then-kind-lt32 c =
     ap (λ (k : ℕ). ltb 0 (at c.args.field.now k)) c.line_kind-kind.ensures
 
 pub returns-else-kind-lt32 : goal.returns-else-kind-lt32

@@ -1,5 +1,4 @@
 use native.Mathlib.Omega.{arith}
-use Prim.Native.Nat.{◌-◌}
 use mathlib.Core.Path.{◌≡◌, sym, ◌∙◌}
 use Rattle.model.specs.Field.{at}
 use Rattle.model.specs.Sheet.{field_of}
@@ -10,14 +9,14 @@ pub loop-kind-init : goal.loop-kind-init
 loop-kind-init c = (omega arith, filled_none _ _ _ (λ q. omega (arith, zeros_at 32 q)))
 
 pub field_count-requires : goal.field_count-requires
-field_count-requires c = 
+field_count-requires c =
     (c.requires.0, c.requires.1, omega (arith, c.kinds-n.ensures))
 
 pub loop-kind-preserved : goal.loop-kind-preserved
 loop-kind-preserved c = (omega arith, filled_more _ _ _ c.loop-kind.invariant.1 (omega arith) c.field_count.ensures.0 (omega arith))
 
 pub returns : goal.returns
-returns c = 
+returns c =
     let a = c.args in
     let inv = c.loop-kind.invariant in
     let z : c.loop-kind.kind ≡ c.kinds-n.result = omega arith in

@@ -23,5 +23,5 @@ pub number_at-requires : goal.number_at-requires
 number_at-requires c = omega (arith, product_small (goal.at.number_at-requires c).After-kinds)
 
 pub returns : goal.returns
-returns c = 
+returns c =
     (c.number_at.ensures.0 ∙ field_at c.args.sheet.now c.args.number c.args.kind c.lines.result c.kinds.result c.line_start.result c.lines.ensures.0 c.kinds.ensures.0 c.line_start.ensures.0 c.requires.2, c.number_at.ensures.1)
