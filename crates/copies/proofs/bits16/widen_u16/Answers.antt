@@ -1,5 +1,4 @@
 use mathlib.Core.Path.{refl, ap, ◌∙◌}
-use Prim.Native.Nat.{◌-◌}
 use native.Mathlib.Omega.{arith}
 use lib.ListN.{length, take}
 use lib.Seq.{take-append_seam}
@@ -18,6 +17,6 @@ loop-i-preserved c = begun_more c.loop-i.invariant _ c.loop-i-test.true refl
 
 pub returns : goal.returns
 unfolding written
-returns c = 
+returns c =
     let values = c.args.values.now in
     ap (take (length values)) (begun_all c.loop-i.invariant c.loop-i-test.false) ∙ take-append_seam values _

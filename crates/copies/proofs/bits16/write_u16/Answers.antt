@@ -1,6 +1,5 @@
 use native.Mathlib.Omega.{arith}
 use mathlib.Core.Path.{refl}
-use Prim.Native.Nat.{◌-◌}
 use Rattle.theory.proofs.Writing.{begun_none, begun_more, begun_length, begun_all}
 use Rattle.copies.proofs.bits16.write_u16.Goals as goal
 
@@ -8,12 +7,12 @@ pub loop-next-init : goal.loop-next-init
 loop-next-init c = begun_none _ _ c.requires
 
 pub offset_bounds-buffer-next : goal.offset_bounds-buffer-next
-offset_bounds-buffer-next c = 
+offset_bounds-buffer-next c =
     let invariant = c.loop-next.invariant in
     omega (arith, invariant.room, begun_length invariant)
 
 pub bounds-buffer-next : goal.bounds-buffer-next
-bounds-buffer-next c = 
+bounds-buffer-next c =
     let invariant = c.loop-next.invariant in
     omega (arith, invariant.room, begun_length invariant)
 
