@@ -1,5 +1,5 @@
 use mathlib.Core.Path.{◌≡◌}
-use Prim.Native.Nat.{◌-◌, ◌*◌, ◌≤◌}
+use Prim.Native.Nat.{◌*◌, ◌≤◌}
 use native.Mathlib.Omega.{arith}
 use lib.ListN.{length}
 use Rattle.model.specs.Finite.{list_from}
@@ -20,14 +20,14 @@ fits : (c : After-shared_slice_known-in-loop-kind-1)
     → let args = c.args in
     let loop-kind = c.loop-kind.kind in
     args.times * at args.squad.now loop-kind ≤ at args.whole.now loop-kind
-fits c = 
+fits c =
     left_fits _ _ _ _ c.requires.times_value _ c.loop-kind-test.true
 
 pub loop-kind-init : goal.loop-kind-init
 loop-kind-init c = begun_none _ _ (omega (arith, long (goal.at.loop-kind-init c).Start, c.requires.whole_in_bounds))
 
 pub bounds-squad-kind : goal.bounds-squad-kind
-bounds-squad-kind c = 
+bounds-squad-kind c =
     omega (arith, c.requires.whole_len, c.loop-kind-test.true)
 
 pub overflow_mul-buffer : goal.overflow_mul-buffer
@@ -37,12 +37,12 @@ pub overflow_sub-buffer : goal.overflow_sub-buffer
 overflow_sub-buffer c = omega (arith, fits (goal.at.overflow_sub-buffer c).After-shared_slice_known-in-loop-kind-1)
 
 pub bounds-buffer-kind : goal.bounds-buffer-kind
-bounds-buffer-kind c = 
+bounds-buffer-kind c =
     let invariant = c.loop-kind.invariant in
     omega (arith, invariant.room, begun_length invariant, long (goal.at.bounds-buffer-kind c).Start, c.loop-kind-test.true)
 
 pub loop-kind-preserved : goal.loop-kind-preserved
-loop-kind-preserved c = 
+loop-kind-preserved c =
     let loop-test = c.loop-kind-test.true in
     begun_more c.loop-kind.invariant _ (omega (arith, long (goal.at.loop-kind-preserved c).Start)) (left_at _ _ _ _ c.requires.times_value _ loop-test)
 
