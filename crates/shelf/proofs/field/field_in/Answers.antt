@@ -8,19 +8,19 @@ use Rattle.shelf.proofs.field.field_in.Goals as goal
 use Rattle.shelf.proofs.field.field_in.Goals.{In-loop-left}
 
 pub loop-left-init : goal.loop-left-init
-loop-left-init c = 
+loop-left-init c =
     let args = c.args in
     found_start args.kinds.now args.size args.number (search rules)
 
 -- Where a token is left there is a kind left, one of 32.
 kind_left : (c : In-loop-left) → 0 < c.loop-left.i
-kind_left c = 
+kind_left c =
     let args = c.args in
     let loop = c.loop-left in
     found_kind args.kinds.now args.size args.number loop.counts loop.i loop.left loop.rest loop.invariant (search rules)
 
 under : (c : In-loop-left) → get_or c.args.kinds.now (c.loop-left.i - 1) 0 < 32
-under c = 
+under c =
     let loop = c.loop-left in
     c.requires.in_order.under (loop.i - 1) (omega (arith, loop.invariant.kinds_left, kind_left c))
 
@@ -28,7 +28,7 @@ pub overflow_sub-i : goal.overflow_sub-i
 overflow_sub-i c = kind_left (goal.at.overflow_sub-i c).In-loop-left
 
 pub entry_in-without-requires : goal.entry_in-without-requires
-entry_in-without-requires c = 
+entry_in-without-requires c =
     let loop = c.loop-left in
     record { kinds_le_most_kinds = (omega (arith, loop.invariant.kinds_left, c.requires.in_order.many), omega (arith, loop.invariant.few 0, c.requires.size_le_most_tokens)); t = c.requires.t }
 
@@ -39,7 +39,7 @@ pub loop-left-smaller-then-rest-without : goal.loop-left-smaller-then-rest-witho
 loop-left-smaller-then-rest-without c = omega (arith, kind_left (goal.at.loop-left-smaller-then-rest-without c).In-loop-left)
 
 pub loop-left-preserved-then-rest-without : goal.loop-left-preserved-then-rest-without
-loop-left-preserved-then-rest-without c = 
+loop-left-preserved-then-rest-without c =
     let args = c.args in
     let loop = c.loop-left in
     found_none args.kinds.now args.size args.number loop.counts loop.i loop.left loop.rest loop.invariant (search rules) (omega (arith, c.entry_in-without.ensures))
@@ -48,11 +48,11 @@ pub overflow_sub-kind : goal.overflow_sub-kind
 overflow_sub-kind c = kind_left (goal.at.overflow_sub-kind c).In-loop-left
 
 pub offset_bounds-kinds-i : goal.offset_bounds-kinds-i
-offset_bounds-kinds-i c = 
+offset_bounds-kinds-i c =
     omega (arith, c.loop-left.invariant.kinds_left, c.requires.in_order.many)
 
 pub bounds-kinds-i : goal.bounds-kinds-i
-bounds-kinds-i c = 
+bounds-kinds-i c =
     let loop = c.loop-left in
     omega (arith, loop.invariant.kinds_left, kind_left (goal.at.bounds-kinds-i c).In-loop-left)
 
@@ -63,7 +63,7 @@ pub bounds-counts-kind : goal.bounds-counts-kind
 bounds-counts-kind c = under (goal.at.bounds-counts-kind c).In-loop-left
 
 pub overflow_add-counts : goal.overflow_add-counts
-overflow_add-counts c = 
+overflow_add-counts c =
     let loop = c.loop-left in
     omega (arith, loop.invariant.few (get_or c.args.kinds.now (loop.i - 1) 0), c.requires.size_le_most_tokens)
 
@@ -71,14 +71,14 @@ pub bounds-counts-kind-else-rest-without : goal.bounds-counts-kind-else-rest-wit
 bounds-counts-kind-else-rest-without c = under (goal.at.bounds-counts-kind-else-rest-without c).In-loop-left
 
 pub loop-left-preserved : goal.loop-left-preserved
-loop-left-preserved c = 
+loop-left-preserved c =
     let loop = c.loop-left in
     let a = c.args in
     rw c.entry_in-without.ensures
     (found_one a.kinds.now a.size a.number loop.counts loop.i loop.left loop.rest loop.invariant (search rules) c.requires.in_order (λ h. omega (arith, c.entry_in-without.ensures)))
 
 pub returns : goal.returns
-returns c = 
+returns c =
     let args = c.args in
     let loop = c.loop-left in
     let z : loop.left ≡ 0 = omega arith in

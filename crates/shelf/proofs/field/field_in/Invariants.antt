@@ -1,5 +1,5 @@
 -- The counts so far, and the field of what is left, are the field sought.
-use Prim.Native.Nat.{◌+◌, ◌-◌}
+use Prim.Native.Nat.{◌+◌}
 use Rattle.shelf.proofs.Loops.{Found}
 use Rattle.shelf.proofs.field.field_in.Given as goal
 

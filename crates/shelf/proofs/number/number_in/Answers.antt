@@ -10,7 +10,7 @@ use Rattle.shelf.proofs.number.number_in.Goals as goal
 use Rattle.shelf.proofs.number.number_in.Goals.{After-shared_slice_known-in-loop-i-1, After-wide-count}
 
 pub loop-i-init : goal.loop-i-init
-loop-i-init c = 
+loop-i-init c =
     numbered_start c.args.kinds.now (at c.args.field.now) c.args.size c.requires.in_order c.requires.size_le_most_tokens c.requires.fact
 
 pub offset_bounds-kinds-i : goal.offset_bounds-kinds-i
@@ -21,7 +21,7 @@ bounds-kinds-i c = omega (arith, c.loop-i.invariant.kinds_left)
 
 -- The kind that is read is one of 32.
 under : (c : After-shared_slice_known-in-loop-i-1) → get_or c.args.kinds.now (c.loop-i.i - 1) 0 < 32
-under c = 
+under c =
     let loop = c.loop-i in
     c.requires.in_order.under (loop.i - 1) (omega (arith, loop.invariant.kinds_left))
 
@@ -37,17 +37,17 @@ turn : (c : After-wide-count) (fewer : ℕ)
     let loop = c.loop-i in
     (c.wide-count.result ≤ loop.left) × (fewer + entry loop.i (loop.left - c.wide-count.result) ≡ entry loop.i loop.left
     → Numbered args.kinds.now (at args.field.now) args.size (loop.number + fewer) (loop.left - c.wide-count.result) (loop.i - 1))
-turn c fewer = 
+turn c fewer =
     let loop = c.loop-i in
     numbered_next c.args.kinds.now (at c.args.field.now) c.args.size c.requires.in_order loop.number loop.left loop.i c.wide-count.result fewer loop.invariant (search rules) c.wide-count.ensures
 
 pub with_fewer-number-requires : goal.with_fewer-number-requires
-with_fewer-number-requires c = 
+with_fewer-number-requires c =
     let loop = c.loop-i in
     record { le_kinds = (search rules, omega (arith, loop.invariant.kinds_left, c.requires.in_order.many), loop.invariant.few, (turn (goal.at.with_fewer-number-requires c).After-wide-count 0).0); t = c.requires.t }
 
 pub overflow_add-number : goal.overflow_add-number
-overflow_add-number c = 
+overflow_add-number c =
     omega (
       arith,
       ((turn (goal.at.overflow_add-number c).After-wide-count c.with_fewer-number.result).1 c.with_fewer-number.ensures).sum,
@@ -61,7 +61,7 @@ pub loop-i-preserved : goal.loop-i-preserved
 loop-i-preserved c = (turn (goal.at.loop-i-preserved c).After-wide-count c.with_fewer-number.result).1 c.with_fewer-number.ensures
 
 pub returns : goal.returns
-returns c = 
+returns c =
     let loop = c.loop-i in
     let z : loop.i ≡ 0 = omega arith in
     numbered_end c.args.kinds.now (at c.args.field.now) c.args.size loop.number loop.left (rw z at loop.invariant)

@@ -1,5 +1,4 @@
 -- The number so far, and that of the tokens left among the kinds left, are the number sought.
-use Prim.Native.Nat.{◌-◌}
 use Rattle.model.specs.Field.{at}
 use Rattle.shelf.proofs.Loops.{Numbered}
 use Rattle.shelf.proofs.number.number_in.Given as goal
