@@ -23,7 +23,7 @@ use Rattle.model.specs.Sheet.{kind_count, field_count, card_of, field_of}
 use Rattle.model.specs.Refusal.{Finding, clear, refusal, first_of, Accepted, settle_checks, settle_since_checks, compare_checks, form_checks, walk_checks, shelf_number_checks, shelf_field_checks, squads_checks, frequencies_checks}
 use Rattle.model.specs.Answer.{table_of, marks_of, prime_form_in, refused, given, Session, Walked, same, different, settle_of, settle_since_of, row_check_of, row_of, verdict_in, compare_in, forming_in, drawing, within, full_walk, walk_of, shelf_number_of, shelf_counts, shelf_field_of, squad_count, remainder_form, squads_of, frequencies, frequencies_of}
 use Rattle.theory.specs.Demands.{Demand1}
-use Rattle.theory.proofs.Senses.{settled, verdict_cases}
+use Rattle.theory.proofs.Senses.{verdict_cases}
 use Rattle.model.proofs.Plain.{plain}
 use Rattle.theory.proofs.Exec.{Tells, tells_lt}
 use Rattle.theory.proofs.Sheets.{never, certified}

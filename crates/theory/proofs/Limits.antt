@@ -8,7 +8,7 @@ use native.Mathlib.Omega.{arith}
 use lib.Dec.{T, ltb, eqb}
 use lib.ListN.{length}
 use Rattle.model.specs.Finite.{both, list_from}
-use Rattle.model.specs.Field.{unit, at}
+use Rattle.model.specs.Field.{unit}
 use Rattle.model.specs.Card.{Reached, reached}
 use Rattle.model.specs.Norm.{IsNorm, kind_norm}
 use Rattle.theory.specs.Meanings.{Norms}

@@ -8,7 +8,7 @@ use native.Mathlib.Omega.{arith}
 use lib.ListN.{length, length-reverse}
 use lib.Dec.{T}
 use Rattle.model.specs.Finite.{keep, list_from, below}
-use Rattle.model.specs.Field.{Field, none, weigh, at, tokens}
+use Rattle.model.specs.Field.{Field, none, weigh, tokens}
 use Rattle.model.specs.Card.{Card, reached, reached_kinds, reached_count}
 use Rattle.model.specs.Sheet.{card_of}
 use Rattle.model.specs.Shelf.{entry, listed, last_first, shelf_number, shelf_field}
