@@ -118,25 +118,25 @@ enum { LIMBATUE_TOGETHER = 0, LIMBATUE_APART = 1, LIMBATUE_SPENT = 2 };
 #define LIMBATUE_SQUADS_ANSWER 1
 #define LIMBATUE_FINER_COMPARE_ANSWER 3
 
-/* Bytes of stack that must be left where a call is made. Taken are, as measured: settle 135,752, settle with the marks 136,024, compare and finer compare 144,616,
- * prime form 131,832, finer prime form 131,816, walk 76,576 at most, page 218,664, shelf number 6,824, shelf field 9,728, squads 132,168, frequencies 154,632, the
+/* Bytes of stack that must be left where a call is made. Taken are, as measured: settle 131,480, settle with the marks 131,752, compare and finer compare 140,344,
+ * prime form 127,560, finer prime form 127,544, walk 81,220 at most, page 214,392, shelf number 6,824, shelf field 9,728, squads 127,896, frequencies 150,360, the
  * others under 256. Stated is each with 4,096 more, for memcpy, memset and the loader, which may be asked for them at a first call, and rounded up to pages of 4,096.
  * In the repository ./stack measures the archive again, and fails where under 4,096 are left. */
 #define LIMBATUE_VERSION_STACK 8192
 #define LIMBATUE_NUMBERS_STACK 8192
-#define LIMBATUE_SETTLE_STACK 143360
-#define LIMBATUE_SETTLE_SINCE_STACK 143360
+#define LIMBATUE_SETTLE_STACK 139264
+#define LIMBATUE_SETTLE_SINCE_STACK 139264
 #define LIMBATUE_ROW_CHECK_STACK 8192
-#define LIMBATUE_COMPARE_STACK 151552
-#define LIMBATUE_PRIME_FORM_STACK 139264
-#define LIMBATUE_WALK_STACK 81920
-#define LIMBATUE_PAGE_STACK 225280
+#define LIMBATUE_COMPARE_STACK 147456
+#define LIMBATUE_PRIME_FORM_STACK 135168
+#define LIMBATUE_WALK_STACK 86016
+#define LIMBATUE_PAGE_STACK 221184
 #define LIMBATUE_SHELF_NUMBER_STACK 12288
 #define LIMBATUE_SHELF_FIELD_STACK 16384
-#define LIMBATUE_SQUADS_STACK 139264
-#define LIMBATUE_FINER_COMPARE_STACK 151552
-#define LIMBATUE_FINER_PRIME_FORM_STACK 139264
-#define LIMBATUE_FREQUENCIES_STACK 159744
+#define LIMBATUE_SQUADS_STACK 135168
+#define LIMBATUE_FINER_COMPARE_STACK 147456
+#define LIMBATUE_FINER_PRIME_FORM_STACK 135168
+#define LIMBATUE_FREQUENCIES_STACK 155648
 #define LIMBATUE_STACK_MOST LIMBATUE_PAGE_STACK
 
 /* The version of the library that was linked; LIMBATUE_VERSION is that of this header. */
