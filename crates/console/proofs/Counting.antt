@@ -1,10 +1,6 @@
 -- Counts within a list, and those that an answer is known to hold.
-use mathlib.Core.List.{List}
-use mathlib.Core.Path.{◌≡◌, sym, ap, subst}
-use Prim.Native.Nat.{ℕ, ◌≤◌}
-use lib.ListN.{length}
-use lib.Seq.{length-take-le}
-use Rattle.io.specs.Counts.{IsPrefixLen}
+use Rattle.std.proofs.Common.{List, ◌≡◌, sym, ap, subst, ℕ, ◌≤◌, length, length-take-le}
+use Rattle.console.specs.Counts.{IsPrefixLen}
 use Rattle.console.specs.declared.command_line.Words.{Words}
 use Rattle.console.specs.declared.command_line.Words.TheVariants.{All}
 use Rattle.console.specs.declared.input.Reading.{Reading}

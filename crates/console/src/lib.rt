@@ -1,5 +1,7 @@
-// What a program has of its surroundings: standard input, standard output, standard error and the words of its command line.
-// No contract can say what is read or written; these say where the answers lie.
+// What a program has of its surroundings: standard input, standard output, standard error and the words of its command line, each lent by the caller.
+// What the system reads and writes no contract can say; of a reader and a writer whose bytes are known, these say which bytes were read and written.
+
+#![tactic(auto)]
 
 // A sheet from standard input.
 mod input;

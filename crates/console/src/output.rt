@@ -1,26 +1,41 @@
 // Texts to standard output and standard error.
-use libc::{STDERR_FILENO, STDOUT_FILENO};
-use sentences::put_sentence;
+ghost use Rattle.std.specs.Bool.{OnTrue};
+ghost use Rattle.std.specs.Io.KnownBytes.{Appends, Keeps};
 
-// Writes a text to standard output, and answers whether all of it was written. Where it was not, standard error says so in the program's name.
-pub fn print(program: &[u8], text: &[u8]) -> bool {
-    if io::write_all(STDOUT_FILENO, text) {
+use sentences::put_sentence;
+use std::io::Write;
+
+// Writes a text to an output, and answers whether all of it was written. Where it was not, the program's errors say so in its name.
+pub fn print<O: Write, E: Write>(
+    output: &mut O,
+    errors: &mut E,
+    program: &[u8],
+    text: &[u8],
+) -> bool
+    ensures written { OnTrue result (Appends (O.contents output.old) (O.contents output.new) text.now) }
+    ensures silent { OnTrue result (Keeps (E.contents errors.old) (E.contents errors.new)) }
+{
+    if output.write_all(text).is_ok() {
         return true;
     }
-    io::write_all(STDERR_FILENO, program);
-    io::write_all(STDERR_FILENO, b": can not write standard output\n");
+    say(errors, program, b": can not write standard output\n");
     false
 }
 
-// Says to standard error, in the program's name, that a read failed.
-pub fn unread(program: &[u8]) {
-    io::write_all(STDERR_FILENO, program);
-    io::write_all(STDERR_FILENO, b": can not read standard input\n");
+// Says to the program's errors, in its name, that a read failed.
+pub fn unread<E: Write>(errors: &mut E, program: &[u8]) {
+    say(errors, program, b": can not read standard input\n");
 }
 
-// Writes the sentence of a refusal to standard error.
-pub fn explain(number: usize, place: usize) {
+// Says something of a program in its name. Where that can not be written, nobody is left to be told.
+fn say<E: Write>(errors: &mut E, program: &[u8], text: &[u8]) {
+    let _ = errors.write_all(program);
+    let _ = errors.write_all(text);
+}
+
+// Writes the sentence of a refusal to the program's errors.
+pub fn explain<E: Write>(errors: &mut E, number: usize, place: usize) {
     let mut text = [0u8; 80];
     let end = put_sentence(&mut text, 0, number, place);
-    io::write_all(STDERR_FILENO, &text[..end]);
+    let _ = errors.write_all(&text[..end]);
 }
