@@ -1,4 +1,6 @@
 // The sheet of a card's reached part: the same kinds, codes and fields, and the lines of the reached kinds alone.
+#![tactic(auto)]
+
 pub mod bytes; // bytes copied, and numbers of two bytes written
 pub mod part; // the part's lines, fields and header
 
