@@ -1,5 +1,7 @@
 // Lines in order, by code and then by effect: so two sets of lines are compared in one pass over both.
 
+#![tactic(auto)]
+
 // Which of two lines comes before the other.
 pub mod precedes;
 // Where a line belongs in a list that is in order.
