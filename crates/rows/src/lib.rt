@@ -1,5 +1,7 @@
 // The rows of a stage, of an accepted sheet.
 
+#![tactic(auto)]
+
 // The table of the lines.
 pub mod line_table;
 // The forms of what the lines leave.
