@@ -31,7 +31,7 @@ pub enum Tried {
 }
 
 // A side's turn to challenge: whether the totals are looked at, the rounds of the pairs that replies leave, and whether it is the second side that challenges.
-#[derive(Drop)]
+#[derive(Clone, Copy)]
 struct Turn {
     totals: bool,
     rounds: u64,
