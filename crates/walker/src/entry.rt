@@ -21,7 +21,7 @@ use validation::{Checked, check_sheet};
 pub const DESKS: usize = 8;
 
 // "A session now has eight desks": what each of them has left of its allowance.
-#[derive(Drop)]
+#[derive(Clone, Copy)]
 pub struct Session {
     pub left: [u32; DESKS],
 }
