@@ -1,5 +1,7 @@
 // Shelf numbers of a sheet, over its reached kinds (requests 2 and 6 of document 02). Each call takes the sheet's bytes and checks them anew.
 
+#![tactic(auto)]
+
 // What the calls answer.
 pub mod answers;
 
