@@ -1,5 +1,7 @@
 // What a call from C returns and writes: a number, and arrays that are lent.
 
+#![tactic(auto)]
+
 // The number returned, and the answer array.
 pub mod reply;
 
