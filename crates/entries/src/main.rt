@@ -1,8 +1,13 @@
 // entries: prints the source of the table of entries, crates/shelf/src/table.rt.
+#![tactic(auto)]
+
 ghost use Rattle.std.specs.Prelude.{◌≡◌, ℕ, ◌+◌, ◌*◌, ◌≤◌, ◌<◌, length};
+ghost use Rattle.std.specs.Bool.{OnTrue};
+ghost use Rattle.std.specs.Io.KnownBytes.{Appends, Keeps};
 ghost use Rattle.text.specs.Appended.{Appended};
 ghost use Rattle.entries.specs.Table.{entries_of, entry_line, entry_lines, row_texts, table_text};
 
+use std::io::Write;
 use text::{put_bytes, put_labelled};
 
 // The entries for 0 kinds: "1 at (0, 0), 0 at (0, t) for t above 0".
@@ -79,9 +84,17 @@ fn put_table(out: &mut [u8], at: usize) -> usize
     put_bytes(out, end, b"];\n")
 }
 
-// Prints the source; where that fails, standard error says so.
-fn main() {
+// Prints the source, and answers whether all of it was written: to an output whose bytes are known it adds the table's text, and nothing else.
+fn print_table<O: Write, E: Write>(output: &mut O, errors: &mut E) -> bool
+    ensures written { OnTrue result (Appends (O.contents output.old) (O.contents output.new) table_text) }
+    ensures silent { OnTrue result (Keeps (E.contents errors.old) (E.contents errors.new)) }
+{
     let mut text = [0; 15000];
     let end = put_table(&mut text, 0);
-    console::print(b"entries", &text[..end]);
+    console::print(output, errors, b"entries", &text[..end])
+}
+
+// Prints the source; where that fails, standard error says so.
+fn main(rt: HostRuntime) {
+    print_table(&mut rt.stdout(), &mut rt.stderr());
 }
