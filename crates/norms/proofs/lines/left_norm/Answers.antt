@@ -6,7 +6,7 @@ use Rattle.norms.proofs.lines.left_norm.Goals as goal
 pub weight-requires : goal.weight-requires
 weight-requires c =
     let A = c.requires.accepts in
-    record { counts_len_bound = part_short A.reads c.args.line _ c.line_counts.ensures; counts_bound = part_fits A c.args.line _ c.line_counts.ensures (λ k. (c.shared_slice_known-1.given k).fits) }
+    record { counts_len_bound = part_short A.reads c.args.line _ c.line_counts.ensures; counts_bound = part_fits A c.args.line _ c.line_counts.ensures (λ k. (c.type_inv.sheet k).fits) }
 
 pub returns : goal.returns
 returns c =

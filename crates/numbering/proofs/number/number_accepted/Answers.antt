@@ -30,7 +30,7 @@ field_tokens-size-requires c =
     let few = kinds_most c.requires.reads in record {
       kinds_le_most_kinds = few;
       field_bound = counts_fit c.args.card.kinds (λ _. 1) (at c.field-counts.result) few (λ k. omega arith)
-          (λ k. omega (arith, ap (λ (f : Field). f k) (counts_are (goal.at.field_tokens-size-requires c).After-field-counts), field_under c.args.sheet.now c.args.field (λ i. omega (arith, c.shared_slice_known-1.given i)) k));
+          (λ k. omega (arith, ap (λ (f : Field). f k) (counts_are (goal.at.field_tokens-size-requires c).After-field-counts), field_under c.args.sheet.now c.args.field (λ i. omega (arith, c.type_inv.sheet i)) k));
     }
 
 pub returns-then-size-gt-TOKENS : goal.returns-then-size-gt-TOKENS

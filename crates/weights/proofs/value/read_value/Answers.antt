@@ -35,7 +35,7 @@ more c x y p q =
     let n = length c.args.counts.now in
     let fits =
     bytes_fit n (at c.args.values.now) (at c.args.counts.now) c.requires.counts_len_bound c.requires.at_most
-    (λ k. omega (arith, c.shared_slice_known-1.given k)) in
+    (λ k. omega (arith, c.type_inv.counts k)) in
     sum_more loop.i n (at c.args.values.now) (at c.args.counts.now) (2 ^ 64) loop.sum x y (omega arith) fits loop.invariant.2 p q
 
 pub overflow_mul-sum : goal.overflow_mul-sum
