@@ -22,7 +22,7 @@ pub enum Play {
 // What was found of a pair, up to the limit asked for. Parted: the first number of rounds that parts it, 0 where the totals differ at the start; it holds at all
 // below. Held: it holds at every number of rounds up to this, the limit. Out of budget, out of bounds: it holds up to this; the next was not played out, since
 // the budget ends before it does, or lies past what the player plays. Fields that are not read are out of bounds at 0, and their totals are not looked at.
-#[derive(Drop)]
+#[derive(Clone, Copy)]
 pub enum Tried {
     Parted(u64),
     Held(u64),
