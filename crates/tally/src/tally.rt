@@ -7,7 +7,7 @@ use second_reader::{field_count, fields, kinds};
 use test_player::Tried;
 
 // A verdict on two fields.
-#[derive(Drop)]
+#[derive(Clone, Copy)]
 pub enum Called {
     Same,
     Different { stage: usize, rounds: u64 },
@@ -22,7 +22,7 @@ pub enum Judgement {
 }
 
 // How far a pair was played: to the parting or to the rounds asked for; to fewer; or to none.
-#[derive(Drop)]
+#[derive(Clone, Copy)]
 pub enum Extent {
     InFull,
     InPart,
