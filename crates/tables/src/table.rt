@@ -175,7 +175,7 @@ pub fn form_of_field(field: &[u32], rows: &[u32], out: &mut [u64])
 
 // "The state by value holds up to 32 rows of 32 counts": one flat array, rows at kind times 32. And of each kind its mark: "The base now keeps, for each kind, the first stage, from 1 up, at which its row
 // became the one" that it is, 0 for a kind that is out.
-#[derive(Drop)]
+#[derive(Clone, Copy)]
 pub struct Base {
     pub rows: [u32; 1024],
     pub since: [usize; 32],
