@@ -61,10 +61,10 @@ module _ (sense : Sense) (s : List ℕ) (ok : Accepted s) where
     pub parted_same : at one ≡ at other → r.stage + 1 ≡ parted_by sense s (settled_stage_in sense (card_of s)) i j
     parted_same x =
         let l = later r.base.rows S.base_is (settled_stage_in sense (card_of s)) (sheet_settles sense s ok).from in
-        rw (S.Stage-is, l.1) (parted_none sense s ok i j l.0 (rw l.1 at (sym one_is ∙ x ∙ other_is)))
+        rw (S.stage_is, l.1) (parted_none sense s ok i j l.0 (rw l.1 at (sym one_is ∙ x ∙ other_is)))
 
     pub parts : Bytes s → kind_count s ≤ most_kinds → ¬ (at one ≡ at other) → FormsPart sense s r.stage i j r.base.since r.before one other
-    parts bytes few n = rw S.Stage-is (record {
+    parts bytes few n = rw S.stage_is (record {
       accepted = ok;
       bytes = bytes;
       few = few;
@@ -75,7 +75,7 @@ module _ (sense : Sense) (s : List ℕ) (ok : Accepted s) where
     })
 
     pub parted_found : Start sense (card_of s) (kind_norm (card_of s)) (field_of s i) (field_of s j) → (x : ℕ) → LeastPart sense s r.stage i j x → x ≡ parted_by sense s (settled_stage_in sense (card_of s)) i j
-    parted_found h x p = parted_least sense s ok i j (settled_stage_in sense (card_of s)) x h (rw S.Stage-is at p)
+    parted_found h x p = parted_least sense s ok i j (settled_stage_in sense (card_of s)) x h (rw S.stage_is at p)
 
   -- The verdict on two fields, from the least stage that parts them.
   module _ (i j : ℕ) (hi : i < field_count s) (hj : j < field_count s) (d : ℕ) (p : d ≡ parted_by sense s (settled_stage_in sense (card_of s)) i j) where

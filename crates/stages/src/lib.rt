@@ -1,5 +1,7 @@
 // The decomposition base of an accepted sheet, from stage to stage. The laws of the stages that the code cites are in proofs/.
 
+#![tactic(auto)]
+
 // What is kept of the stages.
 pub mod kept;
 // The stages one after the other, up to the settled one.
