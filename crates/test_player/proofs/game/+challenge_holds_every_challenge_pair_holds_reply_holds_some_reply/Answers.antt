@@ -35,15 +35,15 @@ every_challenge-loop-line-init t c = (omega arith, runs_start (challenges _ _ _ 
 
 pub every_challenge-returns-in-Fails : goal.every_challenge-returns-in-Fails
 every_challenge-returns-in-Fails t c =
-    runs_next (challenges _ _ _ _) _ _ _ c.loop-line.invariant.1 (line_under c.loop-line-test.true c.lines-count.ensures) c.challenge_holds.ensures (ap counted_of c.in-Fails.is)
+    runs_next (challenges _ _ _ _) _ _ _ c.loop-line.invariant.1 (line_under c.loop-line-test.true c.lines-count.ensures.0) c.challenge_holds.ensures (ap counted_of c.in-Fails.is)
 
 pub every_challenge-returns-in-Spent : goal.every_challenge-returns-in-Spent
 every_challenge-returns-in-Spent t c =
-    runs_next (challenges _ _ _ _) _ _ _ c.loop-line.invariant.1 (line_under c.loop-line-test.true c.lines-count.ensures) c.challenge_holds.ensures (ap counted_of c.in-Spent.is)
+    runs_next (challenges _ _ _ _) _ _ _ c.loop-line.invariant.1 (line_under c.loop-line-test.true c.lines-count.ensures.0) c.challenge_holds.ensures (ap counted_of c.in-Spent.is)
 
 pub every_challenge-loop-line-preserved : goal.every_challenge-loop-line-preserved
 every_challenge-loop-line-preserved t c =
-    (omega arith, runs_next (challenges _ _ _ _) _ _ _ c.loop-line.invariant.1 (line_under c.loop-line-test.true c.lines-count.ensures) c.challenge_holds.ensures (ap counted_of c.in-Holds.is))
+    (omega arith, runs_next (challenges _ _ _ _) _ _ _ c.loop-line.invariant.1 (line_under c.loop-line-test.true c.lines-count.ensures.0) c.challenge_holds.ensures (ap counted_of c.in-Holds.is))
 
 pub every_challenge-returns : goal.every_challenge-returns
 every_challenge-returns t c = runs_end (challenges _ _ _ _) _ _ _ c.loop-line.invariant.1 (omega (arith, c.lines-count.ensures))
@@ -109,15 +109,15 @@ some_reply-loop-line-init t c = (omega arith, runs_start (replies _ _ _ _) _ _)
 
 pub some_reply-returns-in-Holds : goal.some_reply-returns-in-Holds
 some_reply-returns-in-Holds t c =
-    runs_next (replies _ _ _ _) _ _ _ c.loop-line.invariant.1 (line_under c.loop-line-test.true c.lines-count.ensures) c.reply_holds.ensures (ap counted_of c.in-Holds.is)
+    runs_next (replies _ _ _ _) _ _ _ c.loop-line.invariant.1 (line_under c.loop-line-test.true c.lines-count.ensures.0) c.reply_holds.ensures (ap counted_of c.in-Holds.is)
 
 pub some_reply-returns-in-Spent : goal.some_reply-returns-in-Spent
 some_reply-returns-in-Spent t c =
-    runs_next (replies _ _ _ _) _ _ _ c.loop-line.invariant.1 (line_under c.loop-line-test.true c.lines-count.ensures) c.reply_holds.ensures (ap counted_of c.in-Spent.is)
+    runs_next (replies _ _ _ _) _ _ _ c.loop-line.invariant.1 (line_under c.loop-line-test.true c.lines-count.ensures.0) c.reply_holds.ensures (ap counted_of c.in-Spent.is)
 
 pub some_reply-loop-line-preserved : goal.some_reply-loop-line-preserved
 some_reply-loop-line-preserved t c =
-    (omega arith, runs_next (replies _ _ _ _) _ _ _ c.loop-line.invariant.1 (line_under c.loop-line-test.true c.lines-count.ensures) c.reply_holds.ensures (ap counted_of c.in-Fails.is))
+    (omega arith, runs_next (replies _ _ _ _) _ _ _ c.loop-line.invariant.1 (line_under c.loop-line-test.true c.lines-count.ensures.0) c.reply_holds.ensures (ap counted_of c.in-Fails.is))
 
 pub some_reply-returns : goal.some_reply-returns
 some_reply-returns t c = runs_end (replies _ _ _ _) _ _ _ c.loop-line.invariant.1 (omega (arith, c.lines-count.ensures))
