@@ -36,7 +36,7 @@ impl Session {
 }
 
 // "answers apart with the first number of rounds that parts the pair, together, or spent"; a refusal has its number and place.
-#[derive(Drop)]
+#[derive(Clone, Copy)]
 pub enum Answer {
     Apart { rounds: u64 },
     Together,
