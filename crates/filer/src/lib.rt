@@ -1,5 +1,7 @@
 // The filer: Settle, with the marks and without, Row, Compare, Prime form, finer Compare and finer Prime form. Each but Row takes the sheet's bytes and checks them anew.
 
+#![tactic(auto)]
+
 // What the calls answer.
 pub mod answers;
 
