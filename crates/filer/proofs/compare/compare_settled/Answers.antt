@@ -9,6 +9,7 @@ use Rattle.filer.proofs.Settlements.{was_accepted, was_settled, compare_refuses,
 use Rattle.filer.proofs.compare.compare_settled.Goals as goal
 use Rattle.filer.proofs.compare.compare_settled.Goals.{In-Passed}
 
+-- Where the checks have passed: what they tell of the card that was read.
 passed : (c : In-Passed) → (c.args.settlement.checked ≡ Passed c.in-Passed.card) × (c.args.first < c.in-Passed.card.fields) × (c.args.second < c.in-Passed.card.fields)
 passed c = fields_passed _ _ _ c.in-Passed.card (sym c.in-Passed.ensures)
 
