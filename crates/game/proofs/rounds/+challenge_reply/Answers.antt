@@ -8,12 +8,14 @@ use Rattle.model.specs.Field.{Field, at}
 use Rattle.model.specs.Card.{fire}
 use Rattle.model.specs.Sheet.{line_of}
 use Rattle.theory.specs.Counted.{Counted, holds, fails, spent, cut}
+use Rattle.theory.specs.Widths.{Bytes}
 use Rattle.theory.proofs.Counted.{follow}
 use Rattle.sheet.specs.Reader.{Reads}
 use Rattle.sheet.specs.declared.reader.Card.{Card}
 use Rattle.sheet.proofs.Laws.{lines_most, left_under}
-use Rattle.moves.specs.Lines.{next_of}
+use Rattle.moves.specs.Lines.{Bounded, next_of}
 use Rattle.moves.proofs.Fields.{fire_bounded}
+use Rattle.game.specs.Rounds.{counted_of}
 use Rattle.game.specs.Challenges.{challenge_of, first_line, second_line, may_challenge, may_reply}
 use Rattle.game.specs.declared.challenges.Part.{Part}
 use Rattle.game.proofs.Sides.{first_line_under, second_line_under}
@@ -118,7 +120,11 @@ challenge-returns-in-Holds-challenge t c =
     let x = at a.first.now in
     let y = at a.second.now in
     let number = c.next_challenge-number in
+    -- What the call for the second half of the challenges comes to.
+    let challenge_last : counted_of c.challenge-in-Holds-challenge.result ≡ follow true (holds c.in-Holds-challenge.rest) (Challenged p.reads.0 (a.part.rounds - 1) x y (middle number.result a.part.to) a.part.to) =
     rw c.new-later-in-Holds-challenge.ensures at c.challenge-in-Holds-challenge.ensures
+    in
+    challenge_last
     ∙ challenge_middle p.reads.0 x y a.part p.rounds_nonzero.2 number.result number.ensures c.if-number-to.false c.in-Holds.left c.new-later-in-Holds.result (holds c.in-Holds-challenge.rest) c.new-later-in-Holds.ensures c.in-Holds-challenge.ensures
     ∙ challenge_after p.reads.0 x y a.part p.rounds_nonzero.2 number.result number.ensures c.if-number-to.false c.new-later.result (holds c.in-Holds.left) c.new-later.ensures c.in-Holds.ensures
 
@@ -207,20 +213,17 @@ reply-challenge-requires t c =
     let p = c.requires in
     let n = c.if-rounds-eq0.false in
     let m = lines_most p.reads.0 in
-    let under = λ (line : ℕ). left_under a.sheet.now line (λ k. omega (arith, c.type_inv.sheet k)) in
-    rw c.new-later.ensures (
-      omega (arith, c.decreases, p.rounds_lt_most_rounds, m),
-      (
-        p.reads,
-        (
-          omega (arith, p.rounds_lt_most_rounds),
-          (
-            fire_bounded a.part.rounds (line_of a.sheet.now c.first_line.result) a.first.now _ p.rounds_lt_most_rounds.0 (under c.first_line.result) c.use_line.ensures c.use_line.auto.field p.bounded.0,
-            fire_bounded a.part.rounds (line_of a.sheet.now c.second_line.result) a.second.now _ p.rounds_lt_most_rounds.0 (under c.second_line.result) c.use_line-2.ensures c.use_line-2.auto.field p.bounded.1,
-          ),
-        ),
-      ),
-    )
+    -- The sheet is of bytes.
+    let bytes : Bytes a.sheet.now = λ k. omega (arith, c.type_inv.sheet k) in
+    -- The counts of the field that is left of the first side have room for the rounds.
+    let first_bounded : Bounded a.part.rounds c.use_line.new.field =
+    fire_bounded a.part.rounds (line_of a.sheet.now c.first_line.result) a.first.now _ p.rounds_lt_most_rounds.0 (left_under a.sheet.now c.first_line.result bytes) c.use_line.ensures c.use_line.auto.field p.bounded.0
+    in
+    -- The counts of the field that is left of the second side have room for the rounds.
+    let second_bounded : Bounded a.part.rounds c.use_line-2.new.field =
+    fire_bounded a.part.rounds (line_of a.sheet.now c.second_line.result) a.second.now _ p.rounds_lt_most_rounds.0 (left_under a.sheet.now c.second_line.result bytes) c.use_line-2.ensures c.use_line-2.auto.field p.bounded.1
+    in
+    rw c.new-later.ensures (omega (arith, c.decreases, p.rounds_lt_most_rounds, m), (p.reads, (omega (arith, p.rounds_lt_most_rounds), (first_bounded, second_bounded))))
 
 pub reply-reply-requires : goal.reply-reply-requires
 reply-reply-requires t c =
@@ -264,7 +267,11 @@ reply-returns-in-Fails-reply t c =
     let x = at a.first.now in
     let y = at a.second.now in
     let answer = c.next_answer-answer in
+    -- What the call for the second half of the replies comes to.
+    let reply_last_half : counted_of c.reply-in-Fails-reply.result ≡ follow false (fails c.in-Fails-reply.rest) (Replied p.reads.0 a.part.rounds x y a.number (middle answer.result a.part.to) a.part.to) =
     rw c.new-later-in-Fails-reply.ensures at c.reply-in-Fails-reply.ensures
+    in
+    reply_last_half
     ∙ reply_middle p.reads.0 x y a.part p.rounds_lt_most_rounds.2 a.number answer.result answer.ensures c.if-answer-to.false c.in-Fails.left c.new-later-in-Fails.result (fails c.in-Fails-reply.rest) c.new-later-in-Fails.ensures c.in-Fails-reply.ensures
     ∙ reply_after p.reads.0 x y a.part p.rounds_lt_most_rounds.2 a.number answer.result answer.ensures c.if-answer-to.false c.if-allowance-eq0.false c.if-rounds-eq0.false c.first_line.result c.second_line.result c.first_line.ensures c.second_line.ensures
     (at c.use_line.new.field) (at c.use_line-2.new.field) c.use_line.ensures c.use_line-2.ensures c.new-later.result (fails c.in-Fails.left) c.new-later.ensures c.in-Fails.ensures

@@ -1,11 +1,12 @@
 -- One token of the line's kind goes, and then the line's counts come.
+use borrow.Author.Rules.{rules}
 use native.Mathlib.Omega.{arith}
 use mathlib.Core.Path.{◌≡◌, ap, ◌∙◌}
 use Prim.Native.Nat.{◌≤◌}
 use lib.ListN.{length}
 use Rattle.model.specs.Field.{at}
 use Rattle.model.specs.Sheet.{line_of}
-use Rattle.sheet.proofs.Laws.{line_counts_at, line_counts_length, left_under, kinds_are, kinds_most}
+use Rattle.sheet.proofs.Laws.{Bytes, line_counts_at, line_counts_length, left_under, kinds_are, kinds_most}
 use Rattle.sheet.proofs.Plus.{plus_at}
 use Rattle.moves.proofs.Fields.{less_bounded, addable, fired}
 use Rattle.moves.proofs.fire.use_line.Goals as goal
@@ -21,13 +22,17 @@ shorter c =
 leaves : (c : After-line_counts) → at c.line_counts.result.now ≡ (line_of c.args.sheet.now c.args.line).left
 leaves c = let a = c.args in ap at c.line_counts.ensures ∙ line_counts_at a.sheet.now a.line
 
+-- The sheet is of bytes.
+bytes : (c : After-less_one) → Bytes c.args.sheet.now
+bytes c = λ k. search rules
+
 pub add_counts-requires : goal.add_counts-requires
 add_counts-requires c =
     let a = c.args in
     record {
       within = shorter (goal.at.add_counts-requires c).After-line_counts;
       fits = addable (line_of a.sheet.now a.line) c.less_one.new.field c.line_counts.result.now (leaves (goal.at.add_counts-requires c).After-line_counts)
-          (left_under a.sheet.now a.line (λ k. omega (arith, c.type_inv.sheet k)))
+          (left_under a.sheet.now a.line (bytes (goal.at.add_counts-requires c).After-less_one))
           (less_bounded 1 _ _ _ c.less_one.ensures c.less_one.auto.field c.requires.bounded);
     }
 

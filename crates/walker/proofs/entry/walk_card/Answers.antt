@@ -1,16 +1,17 @@
 -- 13; a call that passes it walks.
+use borrow.Author.Rules.{rules}
 use native.Mathlib.Omega.{arith}
 use mathlib.Core.Path.{ap, ◌∙◌}
 use Prim.Native.Nat.{◌<◌}
 use Rattle.model.specs.Field.{at}
 use Rattle.model.specs.Sheet.{field_count}
-use Rattle.sheet.proofs.Laws.{fields_are, field_counts_at}
+use Rattle.sheet.proofs.Laws.{Bytes, fields_are, field_counts_at}
 use Rattle.walker.specs.Answers.{session_of}
 use Rattle.moves.proofs.Fields.{field_bounded}
 use Rattle.walker.proofs.Tries.{plays_most}
 use Rattle.walker.proofs.Refusals.{limit_refused, call_walks}
 use Rattle.walker.proofs.entry.walk_card.Goals as goal
-use Rattle.walker.proofs.entry.walk_card.Goals.{Start}
+use Rattle.walker.proofs.entry.walk_card.Goals.{Else-limit-gt-ROUNDS, Start}
 
 -- The first number is a field's.
 first_field : (start : Start) → start.args.first < field_count start.args.sheet.now
@@ -19,6 +20,10 @@ first_field start = omega (arith, fields_are start.requires.reads, start.require
 -- The second number is a field's.
 second_field : (start : Start) → start.args.second < field_count start.args.sheet.now
 second_field start = omega (arith, fields_are start.requires.reads, start.requires.first_lt_fields.1)
+
+-- The sheet is of bytes.
+bytes : (c : Else-limit-gt-ROUNDS) → Bytes c.args.sheet.now
+bytes c = λ k. search rules
 
 pub returns-then-limit-gt-ROUNDS : goal.returns-then-limit-gt-ROUNDS
 returns-then-limit-gt-ROUNDS c =
@@ -33,8 +38,8 @@ try_rounds-played-requires c =
       reads = (read, c.fill_table.ensures);
       limit_le_most_rounds = omega (arith, c.if-limit-gt-ROUNDS.false);
       bounded = (
-        field_bounded read a.first _ c.field-first_field.ensures (λ k. omega (arith, c.type_inv.sheet k)),
-        field_bounded read a.second _ c.field-second_field.ensures (λ k. omega (arith, c.type_inv.sheet k)),
+        field_bounded read a.first _ c.field-first_field.ensures (bytes (goal.at.try_rounds-played-requires c).Else-limit-gt-ROUNDS),
+        field_bounded read a.second _ c.field-second_field.ensures (bytes (goal.at.try_rounds-played-requires c).Else-limit-gt-ROUNDS),
       );
     }
 
