@@ -63,12 +63,12 @@ readable() { # SHEET
 # ---- What is built. target/commands/NAME is a copy of the program that rt built, moved into place, so that nobody runs one that is half written; target/commands/NAME.built, written after
 # it, has the sources that it was built of with their sizes and times as they were before the build started, and the kit.
 
-# Prints the size and the time (to the nanosecond) of each source.
+# Prints the size and the time (to the nanosecond) of each source, and nothing of one that is not there.
 times_of() { # SOURCES, one to a line
     export LC_ALL=C
     IFS=$newline
     # shellcheck disable=SC2086
-    cd -- "$here/" && exec stat -c '%s %.9Y' -- $1
+    cd -- "$here/" && exec stat -c '%s %.9Y' -- $1 2>/dev/null
 }
 
 # Whether the rt on the PATH, if there is one, is that of the last build, and its kit is the same.
@@ -82,7 +82,7 @@ same_kit() {
     done
     IFS=$kept
     # shellcheck disable=SC3013
-    [ -z "$found" ] || { [ "$found" -ef "$toolchain" ] && read -r now 2>/dev/null <"${RATTLE_HOME:-${toolchain%/*}/..}/KIT-ID" && [ "$now" = "$kit" ]; }
+    [ -z "$found" ] || { [ "$found" -ef "$toolchain" ] && read -r now 2>/dev/null <"${toolchain%/*}/../KIT-ID" && [ "$now" = "$kit" ]; }
 }
 
 # Whether NAME is built, of the sources as they are. A file that is new or gone shows in its folder's time.
@@ -90,95 +90,79 @@ up_to_date() { # NAME
     [ -f "$programs/$1" ] && [ -r "$programs/$1.built" ] || return 1
     kit='' toolchain='' sources='' times=''
     command . "$programs/$1.built"
-    [ -n "$times" ] && same_kit && [ "$(times_of "$sources" 2>/dev/null)" = "$times" ]
+    [ -n "$times" ] && same_kit && [ "$(times_of "$sources")" = "$times" ]
 }
 
-# Prints the crates that NAME needs, itself the last, in the order in which rt proves them: those that it proves at one time on a line.
-plan() { # NAME JOBS
-    awk -v wanted="$1" -v jobs="$2" '
-        function visit(crate,    list, count, i, level) {
-            if (crate in levels) return levels[crate]
-            levels[crate] = 0
+# Prints the crates that NAME needs, itself the last, in the order in which rt proves them: each crate's libraries as crates.txt lists them, those that one needs before it.
+plan() { # NAME
+    awk -v wanted="$1" '
+        function visit(crate,    list, count, i) {
+            if (crate in seen) return
+            seen[crate] = 1
             count = split(needs[crate], list, " ")
-            level = 0
-            for (i = 1; i <= count; i++) if (list[i] in needs && visit(list[i]) >= level) level = levels[list[i]] + 1
-            levels[crate] = level
-            if (level > highest) highest = level
-            at[level] = at[level] " " crate
-            return level
+            for (i = 1; i <= count; i++) if (list[i] in needs) visit(list[i])
+            order = order (order == "" ? "" : " ") crate
         }
         { sub(/#.*/, "") }
-        /:/ { crate = $0; sub(/:.*/, "", crate); gsub(/[ \t]/, "", crate); sub(/[^:]*:/, ""); needs[crate] = $0 }
+        /:/ { head = $0; sub(/:.*/, "", head); split(head, words, " "); sub(/[^:]*:/, ""); needs[words[1]] = $0 }
         END {
             if (!(wanted in needs)) exit 1
             visit(wanted)
-            for (level = 0; level <= highest; level++) {
-                count = split(at[level], list, " ")
-                for (i = 1; i <= count; i++) printf "%s%s", list[i], i % jobs == 0 || i == count ? "\n" : " "
-            }
+            print order
         }' "$here/crates.txt"
 }
 
-# Prints the sources of the crates of a plan: crates.txt, the crates folders, and all below their src, specs and proofs.
+# Prints the sources of the crates of a plan: crates.txt, and the crates' src, specs and proofs (whether they are there or not) with all below them. Not the crates' own folders: rt makes out/ there.
 sources_of() { # PLAN
     cd -- "$here/" || return
     echo crates.txt
     for crate in $1; do
-        echo "crates/$crate"
         for part in src specs proofs; do
-            [ ! -d "crates/$crate/$part" ] || find "crates/$crate/$part"
+            if [ -d "crates/$crate/$part" ]; then find "crates/$crate/$part"; else echo "crates/$crate/$part"; fi
         done
     done
 }
 
-# Says which crates are being proved now: those of the next line of $rest.
-next_crates() {
-    now=${rest%%"$newline"*} rest=${rest#*"$newline"} names=''
+# Says which crate is being proved now, the first time that rt begins with it.
+next_crate() { # CRATE
+    case " $rest " in
+    *" $1 "*) ;;
+    *) return 0 ;;
+    esac
+    rest=" $rest "
+    rest=${rest#*" $1 "}
     # shellcheck disable=SC2086
-    set -- $now
-    [ $# -gt 0 ] || return 0
-    for crate; do names=$names${names:+, }$crate; done
-    numbers=$((proved + 1)) proved=$((proved + $#))
-    [ $# -eq 1 ] || numbers="$numbers to $proved"
-    say "proving $names ($numbers of $crates, $((crates - proved)) left)"
+    left=$(set -- $rest && echo $#)
+    say "proving $1 ($((crates - left)) of $crates, $left left)"
 }
 
-# Reads what rt writes and says which crates are being proved, from the lines `rt: CRATE proved (..)`. The last line read is `status N`, and N is what is returned.
+# Reads what rt writes and says which crate is being proved, from the lines `rt: chose --jobs N for CRATE`, with which rt begins each that is not built of its sources as they are. The last line read is
+# `status N`, and N is what is returned.
 progress() { # PLAN
-    rest=$1$newline proved=0 status=3
+    rest=$1 status=3
     # shellcheck disable=SC2086
     crates=$(set -- $1 && echo $#)
-    next_crates
     while IFS= read -r line; do
         printf '%s\n' "$line" >&4
         case $line in
-        'rt: '*' proved ('*)
-            crate=${line#rt: }
-            crate=${crate%% *}
-            case " $now " in *" $crate "*) now=" $now " now=${now%%" $crate "*}\ ${now#*" $crate "} ;; esac
-            case $now in *[!\ ]*) ;; *) next_crates ;; esac
-            ;;
+        'rt: chose --jobs '*' for '*) next_crate "${line##* }" ;;
         'status '*) status=${line#status } ;;
         esac
     done
     return "$status"
 }
 
-# Builds NAME by a command, which is run in the repository and writes PRODUCT there. Nobody else does so at the same time.
-build() { # NAME PRODUCT JOBS WORD.. (JOBS: how many crates are proved at one time, a number, or `many`: as many as rt does)
-    made=$1 product=$2 jobs=$3
-    if [ "$jobs" = many ]; then
-        jobs=${RT_JOBS:-$(nproc)}
-        [ -n "${RT_JOBS-}" ] || [ "$jobs" -le 4 ] || jobs=4
-    fi
-    order=$(plan "$made" "$jobs") || fail "crates.txt has no crate $made"
+# Builds NAME by a command, which is run in a folder of the repository and writes PRODUCT (from the top). Nobody else does so at the same time.
+build() { # NAME PRODUCT FOLDER WORD..
+    made=$1 product=$2 at=$3
+    order=$(plan "$made") || fail "crates.txt has no crate $made"
     shift 3
     sources=$(sources_of "$order")
     times=$(times_of "$sources")
     kit=$(rt version) toolchain=$(readlink -f -- "$(command -v rt)")
     log=$programs/$made.log
     say "building $made: some minutes, once, since all that it depends on is proved first"
-    if ! { (cd -- "$here/" && "$@" </dev/null 2>&1); echo "status $?"; } | progress "$order" 4>"$log"; then
+    if ! { (cd -- "$here/$at" && "$@" </dev/null 2>&1); echo "status $?"; } | progress "$order" 4>"$log"; then
         tail -n 16 "$log" >&2
         fail "the build of $made failed; all that was said is in $log"
     fi
@@ -191,7 +175,7 @@ build() { # NAME PRODUCT JOBS WORD.. (JOBS: how many crates are proved at one ti
 }
 
 # Builds NAME, unless another process did so while this one waited for it.
-build_alone() { # NAME PRODUCT JOBS WORD..
+build_alone() { # NAME PRODUCT FOLDER WORD..
     if ! flock -n 9; then
         say 'another build is running here: waiting for it'
         flock 9
@@ -200,7 +184,7 @@ build_alone() { # NAME PRODUCT JOBS WORD..
 }
 
 # Has NAME built, of the sources as they are.
-ready_by() { # NAME PRODUCT JOBS WORD..
+ready_by() { # NAME PRODUCT FOLDER WORD..
     if up_to_date "$1"; then return; fi
     mkdir -p "$programs" 2>/dev/null
     [ -w "$programs" ] || fail "$1 is not built of the sources as they are, and this user may not write in $here/target: its owner runs $name once"
@@ -209,10 +193,10 @@ ready_by() { # NAME PRODUCT JOBS WORD..
     build_alone "$@" 9>>"$programs/lock" || fail "can not write $programs/lock"
 }
 
-# Has a program built, or installed.
+# Has a program built, or installed. (rt builds a program by `rt run`, which then runs it: here on an empty standard input.)
 ready() { # PROGRAM
     if [ -z "$installed" ]; then
-        ready_by "$1" "target/bin/$1" many rt check "$1"
+        ready_by "$1" "crates/$1/out/$1" "crates/$1" rt run
     elif [ ! -x "$programs/$1" ]; then
         fail "the program $1 is not installed in $programs"
     fi
