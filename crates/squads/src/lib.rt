@@ -1,5 +1,7 @@
 // How many squads (request 5 of document 02): how often one field of a sheet goes into another. The call takes the sheet's bytes and checks them anew.
 
+#![tactic(auto)]
+
 // What the call answers.
 pub mod answers;
 
