@@ -218,7 +218,7 @@ module _ (s : List ℕ) (ok : Accepted s) (r : Settled) (S : IsSettled plain s r
   -- Its reached kinds, their rows and the form of the field at the settled stage, and what is kept of the stages.
   pub rows_settled : Bytes s → kind_count s ≤ most_kinds → {kinds : List ℕ} → kinds ≡ reached_kinds (card_of s) → InOrder kinds → (rows form : List ℕ) → rows ≡ r.base.rows
       → at form ≡ form_in (kind_count s) r.base.rows (field_of s i) → RowsAt s i r.stage kinds r.base.since r.before rows form
-  rows_settled bytes few all sorted rows form e d = rw (S.Stage-is, e) (record {
+  rows_settled bytes few all sorted rows form e d = rw (S.stage_is, e) (record {
     accepted = ok;
     bytes = bytes;
     few = few;
@@ -237,7 +237,7 @@ module _ (s : List ℕ) (ok : Accepted s) (r : Settled) (S : IsSettled plain s r
     where
       go : Dec (r.stage < q) → at related q ≡ related_to (card_of s) (field_of s i) size q
       go (no m) = later q h (omega arith)
-      go (yes m) = past q (omega arith) l ∙ ap (related_to (card_of s) (field_of s i) size) S.Stage-is ∙ sym (related_settled s ok i size q (omega (arith, S.Stage-is)))
+      go (yes m) = past q (omega arith) l ∙ ap (related_to (card_of s) (field_of s i) size) S.stage_is ∙ sym (related_settled s ok i size q (omega (arith, S.stage_is)))
 
 module _ (s : List ℕ) (ok : Accepted s) (i size : ℕ) where
   -- Where stage 0 relates none no stage does.

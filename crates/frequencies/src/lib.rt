@@ -1,6 +1,8 @@
 // How common each answer is (request 8 of document 02): of the fields of a size, how many are the same as a field of a sheet, and how many part from it at each stage. The call takes the
 // sheet's bytes and checks them anew.
 
+#![tactic(auto)]
+
 // What the call answers.
 pub mod answers;
 
