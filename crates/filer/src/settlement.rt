@@ -10,7 +10,7 @@ use tables::table::Base;
 use validation::checks::Checked;
 
 // What the checks 1 to 10 come to, the norms of the kinds, and what an accepted sheet settles to.
-#[derive(Drop)]
+#[derive(Clone, Copy)]
 pub struct Settlement {
     pub checked: Checked,
     pub norms: [u32; 32],

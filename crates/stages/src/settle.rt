@@ -22,7 +22,7 @@ use tables::sense::Sense;
 use tables::table::Base;
 
 // "the final base" with its marks, "the settled stage", and in a flat table each kind's row at the stage before its mark.
-#[derive(Drop)]
+#[derive(Clone, Copy)]
 pub struct Settled {
     pub base: Base,
     pub stage: usize,

@@ -8,7 +8,7 @@ use sheet::bytes::{byte_at, u32_at};
 use sheet::reader::Card;
 
 // What the check comes to: the card, or the refusal with its number and place.
-#[derive(Drop)]
+#[derive(Clone, Copy)]
 pub enum Checked {
     Passed(Card),
     Refused { number: usize, place: usize },
