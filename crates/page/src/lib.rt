@@ -1,5 +1,7 @@
 // The printed page of a sheet, into a lent buffer. One settle serves the whole page.
 
+#![tactic(auto)]
+
 // The lines of all kinds, of all fields and of all pairs.
 mod fields;
 mod kinds;
