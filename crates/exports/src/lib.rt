@@ -1,6 +1,8 @@
 // The library for C and Rust (include/limbatue.h): each call on numbers and slices. It returns 0, or a refusal's number and 256 times its place, and writes the
 // values of its answer to a lent array, in the layout that specs/Calls.antt gives.
 
+#![tactic(auto)]
+
 // The version of the library.
 pub mod version;
 
