@@ -22,7 +22,6 @@ use Rattle.frequencies_verb.proofs.common.common_answers.Goals.{After-of_header-
 few : (c : After-of_header-card) → let frequencies = c.frequencies in c.of_header-card.result.kinds + 2 ≤ length frequencies.new.buffer
 few c =
     let frequencies-room = c.frequencies_room-counts in
-    let frequencies = c.frequencies in
     omega (
       arith,
       ap (λ (x : Card). x.kinds) c.of_header-card.ensures,

@@ -21,7 +21,6 @@ use Rattle.squads_verb.proofs.count.count_squads.Goals.{After-of_header-card}
 few : (c : After-of_header-card) → let squads = c.squads in c.of_header-card.result.kinds ≤ length squads.new.remainder
 few c =
     let remainder-room = c.remainder_room-remainder in
-    let squads = c.squads in
     omega (
       arith,
       ap (λ (x : Card). x.kinds) c.of_header-card.ensures,
