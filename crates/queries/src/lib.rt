@@ -1,5 +1,7 @@
 // Calls in words: a verb and its numbers, and the text that the call answers.
 
+#![tactic(auto)]
+
 // The table of verbs.
 pub mod table;
 
