@@ -10,33 +10,32 @@ use Rattle.ranks.proofs.Classing.{firsts_lines, firsts_same, own_class, firsts_m
 use Rattle.ranks.proofs.classes.join.Goals as goal
 
 pub slice_bounds-place_of-end-2 : goal.slice_bounds-place_of-end-2
-slice_bounds-place_of-end-2 c = 
+slice_bounds-place_of-end-2 c =
     sym (length-take-le c.args.count c.args.list.now (omega arith))
 
 pub place_of-place-requires : goal.place_of-place-requires
-place_of-place-requires c = 
+place_of-place-requires c =
     let line = c.requires.line_bound.0 in
     let firsts = c.requires.firsts in
     record { cases = c.requires.cases; lines_of = firsts_lines firsts line; in_order = firsts.in_order; line_bound = line }
 
 pub slice_bounds-class_at-end-2 : goal.slice_bounds-class_at-end-2
-slice_bounds-class_at-end-2 c = 
+slice_bounds-class_at-end-2 c =
     sym (length-take-le c.args.count c.args.list.now (omega arith))
 
 pub returns-then-class-line : goal.returns-then-class-line
-returns-then-class-line c = 
+returns-then-class-line c =
     let a = c.args in
     record { least_match = c.class_at-class.ensures; count_bound = omega (arith, c.requires.line_bound.2); firsts_2 = firsts_same (line_order a.lines.now a.rows.now a.forms.now) c.requires.firsts c.class_at-class.ensures c.if-class-line.true }
 
 pub insert-requires : goal.insert-requires
-insert-requires c = 
-    let place_of = c.place_of in
-    (omega (arith, place_of.ensures.within, length-take-le c.args.count c.args.list.now (omega arith)), omega arith)
+insert-requires c =
+    (omega (arith, c.place_of-place.ensures.within, length-take-le c.args.count c.args.list.now (omega arith)), omega arith)
 
 pub returns : goal.returns
-returns c = 
+returns c =
     let a = c.args in
     let order = line_order a.lines.now a.rows.now a.forms.now in
     let own = own_class (MatchIn a.lines.now a.rows.now a.forms.now) c.class_at-class.ensures c.if-class-line.false in
     let room : a.count < length a.list.now = omega (arith, c.requires.line_bound.0, c.requires.line_bound.1, c.requires.line_bound.2) in
-    record { least_match = own; count_bound = omega (arith, c.requires.line_bound.2); firsts_2 = firsts_more order room c.requires.firsts c.place_of.ensures c.insert.ensures own }
+    record { least_match = own; count_bound = omega (arith, c.requires.line_bound.2); firsts_2 = firsts_more order room c.requires.firsts c.place_of-place.ensures c.insert.ensures own }

@@ -1,4 +1,3 @@
-use Prim.Native.Nat.{◌-◌}
 use native.Mathlib.Omega.{arith}
 use Rattle.tables.proofs.Tables.{tells_same, tells_other}
 use Rattle.ranks.proofs.Laws.{line_order}
@@ -9,7 +8,7 @@ pub loop-place-init : goal.loop-place-init
 loop-place-init c = passing_none
 
 pub overflow_cast-line : goal.overflow_cast-line
-overflow_cast-line c = omega (arith, c.shared_slice_known-in-loop-place-1.given c.loop-place.place)
+overflow_cast-line c = omega (arith, c.type_inv.list c.loop-place.place)
 
 pub skip-reached-requires : goal.skip-reached-requires
 skip-reached-requires c = record { cases = c.requires.cases; lines_of = (c.requires.lines_of.1, line_at c.args.lines.now c.args.list.now c.requires.lines_of.0 c.loop-place.place (omega (arith, c.loop-place-test.true))); from_in_bounds = c.loop-place.invariant.reached_within }
@@ -18,12 +17,12 @@ pub is_match_at-requires : goal.is_match_at-requires
 is_match_at-requires c = record { cases = c.requires.cases; lines_of = (c.requires.lines_of.1, line_at c.args.lines.now c.args.list.now c.requires.lines_of.0 c.loop-place.place (omega (arith, c.loop-place-test.true))) }
 
 pub loop-place-preserved : goal.loop-place-preserved
-loop-place-preserved c = 
+loop-place-preserved c =
     let order = line_order c.args.lines.now c.args.rows.now c.args.forms.now in
     passing_more order c.loop-place.invariant (omega (arith, c.loop-place-test.true)) c.skip-reached.ensures c.requires.in_order.0 c.is_match_at.ensures c.if-is_match_at.true
 
 pub returns-else-is_match_at : goal.returns-else-is_match_at
-returns-else-is_match_at c = 
+returns-else-is_match_at c =
     let order = line_order c.args.lines.now c.args.rows.now c.args.forms.now in
     tells_other (passing_fails order c.loop-place.invariant (omega (arith, c.loop-place-test.true)) c.skip-reached.ensures c.requires.in_order.1 c.is_match_at.ensures c.if-is_match_at.false)
 

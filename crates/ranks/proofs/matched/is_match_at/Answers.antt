@@ -6,8 +6,8 @@ use Rattle.ranks.proofs.Merging.{line_at}
 use Rattle.ranks.proofs.matched.is_match_at.Goals as goal
 
 pub overflow_cast-other : goal.overflow_cast-other
-overflow_cast-other c = 
-    omega (arith, c.shared_slice_known-then-place-others-1.given c.args.place)
+overflow_cast-other c =
+    omega (arith, c.type_inv.others c.args.place)
 
 pub lines_match-requires : goal.lines_match-requires
 lines_match-requires c = record { cases = c.requires.cases; line_bound = (c.requires.lines_of.1, line_at c.args.lines.now c.args.others.now c.requires.lines_of.0 c.args.place c.if-place-others.true) }
