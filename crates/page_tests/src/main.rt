@@ -1,4 +1,5 @@
 // page_tests NAME ..: the page of each stored sheet NAME.sheet against NAME.page, and the filer's verdicts against a second player of the round game.
+#![tactic(auto)]
 
 // The stored pages.
 mod stored;
@@ -6,8 +7,11 @@ mod stored;
 // The second player's counts.
 mod played;
 
-fn main() {
-    stored::check_all();
-    played::play_stored();
-    played::play_random();
+use std::io;
+
+fn main(rt: HostRuntime) -> io::Result<()> {
+    let mut output = rt.stdout();
+    stored::check_all(&rt, &mut output)?;
+    played::play_stored(&rt, &mut output)?;
+    played::play_random(&mut output)
 }

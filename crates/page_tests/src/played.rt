@@ -4,12 +4,13 @@ ghost use Rattle.std.specs.Prelude.{◌≤◌};
 ghost use Rattle.tables.specs.Senses.{sense_of};
 ghost use Rattle.filer.specs.Settlement.{IsSettlement};
 
-use crate::stored::read_stored;
+use crate::stored::{argument_count, name_of, read_stored};
 use filer::Verdict;
 use filer::compare::compare_settled;
 use filer::form::form_settled;
 use filer::settlement::{Settlement, settle_once};
-use libc::STDOUT_FILENO;
+use std::io::{self, Write};
+use std::rt::{Env, Files};
 use tables::sense::Sense;
 use tally::{Called, Played, Tally};
 use validation::checks::Checked;
@@ -184,24 +185,24 @@ fn with_stored(sheet: &[u8], count: Count) -> Count {
 }
 
 // The sheet that argument i names.
-fn with_argument(argument: usize, count: Count) -> Count {
+fn with_argument<R: Env + Files>(rt: &R, argument: usize, count: Count) -> io::Result<Count> {
     let mut name = [0u8; 32];
-    let length = os::arg(argument, &mut name);
+    let length = name_of(rt, argument, &mut name);
     let mut sheet = [0u8; 12821];
-    let bytes = read_stored(&name[..length], b".sheet", &mut sheet);
-    with_stored(&sheet[..bytes], count)
+    let bytes = read_stored(rt, &name[..length], b".sheet", &mut sheet)?;
+    Ok(with_stored(&sheet[..bytes], count))
 }
 
 // The stored sheets.
-pub fn play_stored() {
-    let end = os::arg_count();
+pub fn play_stored<R: Env + Files, O: Write>(rt: &R, output: &mut O) -> io::Result<()> {
+    let end = argument_count(rt);
     let mut count = Count::new();
     let mut i = 1;
     while i < end {
-        count = with_argument(i, count);
+        count = with_argument(rt, i, count)?;
         i += 1;
     }
-    print_count(b"stored sheets", count);
+    print_count(output, b"stored sheets", count)
 }
 
 // The sheet that a seed gives.
@@ -233,57 +234,61 @@ fn with_part(sheet: &[u8], part: [u8; 128], bytes: usize, count: Count) -> Count
 }
 
 // Random small sheets, of the seeds from 0 up.
-pub fn play_random() {
+pub fn play_random<O: Write>(output: &mut O) -> io::Result<()> {
     let mut count = Count::new();
     let mut seed = 0;
     while seed < 8000 {
         count = with_seed(seed, count);
         seed += 1;
     }
-    print_count(b"random sheets", count);
+    print_count(output, b"random sheets", count)
 }
 
 // One number after its name.
-fn print(name: &[u8], number: u64) {
-    io::write_all(STDOUT_FILENO, name);
-    io::print_decimal(STDOUT_FILENO, number);
+fn print<O: Write>(output: &mut O, name: &[u8], number: u64) -> io::Result<()> {
+    output.write_all(name)?;
+    write!(output, "{number}")
 }
 
 // What was counted.
-fn print_count(title: &[u8], count: Count) {
-    io::write_all(STDOUT_FILENO, title);
-    print(b": settled ", count.settled);
-    print(b", of which part-used ", count.part);
-    print(b", refused ", count.refused);
-    io::write_all(STDOUT_FILENO, b"\n");
-    print_tally(count.plain);
-    io::write_all(STDOUT_FILENO, b"  in the finer sense:\n");
-    print_tally(count.finer);
+fn print_count<O: Write>(output: &mut O, title: &[u8], count: Count) -> io::Result<()> {
+    output.write_all(title)?;
+    print(output, b": settled ", count.settled)?;
+    print(output, b", of which part-used ", count.part)?;
+    print(output, b", refused ", count.refused)?;
+    output.write_all(b"\n")?;
+    print_tally(output, count.plain)?;
+    output.write_all(b"  in the finer sense:\n")?;
+    print_tally(output, count.finer)
 }
 
-fn print_tally(tally: Tally) {
+fn print_tally<O: Write>(output: &mut O, tally: Tally) -> io::Result<()> {
     let sames = tally.sames;
     let differents = tally.differents;
-    print(b"  called same ", tally.same);
-    print(b", of which look unlike ", tally.unlike);
-    print_played(sames);
-    print(b"\n  called different ", tally.different);
-    print_played(differents);
-    print(b"\n  different at stage 0 ", tally.zero);
-    print(b", 1 ", tally.one);
-    print(b", 2 ", tally.two);
-    print(b", 3 ", tally.three);
-    print(b", later ", tally.later);
-    print(b"; from 1 up and below the settled stage ", tally.early);
-    print(b"\n  left open by the game ", tally.undecided);
-    print(b", contradicted ", tally.wrong);
-    print(b"; prime forms that disagree ", tally.misfiled);
-    io::write_all(STDOUT_FILENO, b"\n");
+    print(output, b"  called same ", tally.same)?;
+    print(output, b", of which look unlike ", tally.unlike)?;
+    print_played(output, sames)?;
+    print(output, b"\n  called different ", tally.different)?;
+    print_played(output, differents)?;
+    print(output, b"\n  different at stage 0 ", tally.zero)?;
+    print(output, b", 1 ", tally.one)?;
+    print(output, b", 2 ", tally.two)?;
+    print(output, b", 3 ", tally.three)?;
+    print(output, b", later ", tally.later)?;
+    print(
+        output,
+        b"; from 1 up and below the settled stage ",
+        tally.early,
+    )?;
+    print(output, b"\n  left open by the game ", tally.undecided)?;
+    print(output, b", contradicted ", tally.wrong)?;
+    print(output, b"; prime forms that disagree ", tally.misfiled)?;
+    output.write_all(b"\n")
 }
 
 // How far the pairs were played.
-fn print_played(played: Played) {
-    print(b"; played in full ", played.full);
-    print(b", in part ", played.part);
-    print(b", not at all ", played.none);
+fn print_played<O: Write>(output: &mut O, played: Played) -> io::Result<()> {
+    print(output, b"; played in full ", played.full)?;
+    print(output, b", in part ", played.part)?;
+    print(output, b", not at all ", played.none)
 }
