@@ -1,5 +1,5 @@
 -- What is printed: the page that was written, and the page of what was read.
-use Rattle.std.proofs.Common.{◌≡◌, refl, sym, ap, subst, ◌∙◌, Bool, true, false, ℕ, ◌≤◌, ◌<◌, List, [], ◌++◌, None, Some, IfSome, arith, length, take, drop, append-nil, take_all, length-append, length-take-le}
+use Rattle.std.proofs.Common.{◌≡◌, refl, sym, ap, subst, ◌∙◌, Bool, true, false, ℕ, ◌≤◌, ◌<◌, List, [], ◌++◌, None, Some, IfSome, arith, length, take, drop, take_all, length-append, length-take-le}
 use Rattle.std.specs.declared.option.Option.{Option}
 use Rattle.std.specs.Bool.{OnTrue}
 use Rattle.std.specs.Io.KnownBytes.{Consumes, IsAtEnd, Appends}
@@ -10,6 +10,7 @@ use Rattle.model.specs.Answer.{refused, given, written}
 use Rattle.model.specs.Limits.{most_input}
 use Rattle.model.specs.Page.{page_of, printed}
 use Rattle.page.specs.Writing.{write_page_of}
+use Rattle.console.proofs.Inputs.{read_front}
 
 -- A buffer too short for the page, and one with room for it.
 module _ (s buffer : List ℕ) where
@@ -39,15 +40,9 @@ module _ (s buffer : List ℕ) where
 -- The bytes that were read up to the limit, or up to the input's end, have the input's page.
 front_page : (s rest xs : List ℕ) (n : ℕ) → s ≡ take n xs ++ rest → n ≤ length xs → length xs ≡ most_input → (n < most_input → rest ≡ []) → printed (take n xs) ≡ printed s
 unfolding printed
-front_page s rest xs n joined within long ended = go (dec_lt n most_input)
-  where
-    go : Dec (n < most_input) → page_of (take most_input (take n xs)) ≡ page_of (take most_input s)
-    go (yes h) = ap (λ l. page_of (take most_input l)) (sym (joined ∙ ap (λ l. take n xs ++ l) (ended h) ∙ append-nil (take n xs)))
-    go (no h) =
-        let all : n ≡ most_input = omega arith in
-        let len : length (take n xs) ≡ most_input = length-take-le n xs within ∙ all in
-        let whole : take most_input (take n xs) ≡ take n xs = take_all most_input (take n xs) (omega arith) in
-        ap page_of (whole ∙ sym (ap (take most_input) joined ∙ take_at (take n xs) rest most_input len))
+front_page s rest xs n joined within long ended =
+    let short : length (take n xs) ≤ most_input = omega (arith, length-take-le n xs within) in
+    ap page_of (take_all most_input (take n xs) short ∙ read_front most_input n s rest xs joined within long ended)
 
 -- Where the page of what was read was written to an output, the input's page was.
 page_read : (a b : Option (List ℕ)) (xs : List ℕ) (n : ℕ) (from to : Option (List ℕ)) → Consumes a b (take n xs) → n ≤ length xs → length xs ≡ most_input → (n < most_input → IsAtEnd b)
