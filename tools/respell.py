@@ -13,7 +13,7 @@ import sys
 root = os.path.abspath(sys.argv[1] if len(sys.argv) > 1 else os.path.join(os.path.dirname(os.path.realpath(__file__)), ".."))
 IDENT = re.compile(r"[^\W\d][\w'-]*")
 MARKS = r"(?:(?:pattern|unfoldable|abbrev|pub|axiom|constructor)\s+)*"
-DECLARED = re.compile(r"^\s*(?:\|\s*)?" + MARKS + r"((?:[^\W\d][\w'-]*\s+)*[^\W\d][\w'-]*)\s+:(?:\s|$)", re.M)
+DECLARED = re.compile(r"^\s*(?:\|\s*)?" + MARKS + r"((?:[^\W\d][\w'-]*\s+)*[^\W\d][\w'-]*)\s+(?:\{[^}]*\}\s*)?:(?:\s|$)", re.M)
 GENERATED = re.compile(r"\b(?:tie|goal|given|Rules|step)\.")
 LIBRARY = re.compile(r"^\s*(?:ghost\s+)?use\s+(?!Rattle\.(?:%s)\.)([\w.·'-]+)\.\{([^}]*)\}", re.M)
 
@@ -61,7 +61,13 @@ FACTS = {
     "exports/proofs/WalkOutcomes.antt": {"laid_out": "laid_out_is"},
     "stages/proofs/Keeping.antt": {"row_before": "row_before_is"},
 }
-names = set()
+# Names that are only bound: by a λ, a pattern or a bracket.
+BOUND = """
+Tells-Alike after-second after-squad after-whole all-matched answers-v checks-refused e-different e-differents e-early e-later e-misfiled e-one e-same e-sames e-three e-two
+e-undecided e-unlike e-wrong e-zero finer-answer first-after form-begins form-ends is-end is-room none-changes not-early not-passed refused-checks says-false says-true second-after
+yes-found
+""".split()
+names = set(BOUND)
 tops = set()
 plain = set()
 local = {}

@@ -351,17 +351,17 @@ module _ (sense : Sense) (s : List ℕ) (i : ℕ) (buffer after : List ℕ) (d :
         let D : Demand2 {ℓ} sense s i i = (demands {ℓ}).demand2 sense s ok i i h h in
         record { primes = λ k x. D.form_primes k (rw begins at x); bisimilar = rw begins D.form_bisimilar }
 
-form_equal : (sense : Sense) (s : List ℕ) (i j : ℕ) (first second after_first after-second : List ℕ) (answer : Verdict)
-    → after_first ≡ (forming_in sense s i first).lent → after-second ≡ (forming_in sense s j second).lent → verdict_of answer ≡ compare_in sense s i j
+form_equal : (sense : Sense) (s : List ℕ) (i j : ℕ) (first second after_first after_second : List ℕ) (answer : Verdict)
+    → after_first ≡ (forming_in sense s i first).lent → after_second ≡ (forming_in sense s j second).lent → verdict_of answer ≡ compare_in sense s i j
     → Accepted s → i < field_count s → j < field_count s → kind_count s ≤ length first → kind_count s ≤ length second
-    → (take (kind_count s) after_first ≡ take (kind_count s) after-second) ↔ (answer ≡ Same)
-form_equal sense s i j first second after_first after-second answer d f e ok h l x y =
+    → (take (kind_count s) after_first ≡ take (kind_count s) after_second) ↔ (answer ≡ Same)
+form_equal sense s i j first second after_first after_second answer d f e ok h l x y =
     let D : Demand2 {0} sense s i j = (demands {0}).demand2 sense s ok i j h l in
-    rw (begins sense s i first after_first d ok h x, begins sense s j second after-second f ok l y) (Iff.trans D.form_equal (Iff.symm (is_same sense s i j answer e)))
+    rw (begins sense s i first after_first d ok h x, begins sense s j second after_second f ok l y) (Iff.trans D.form_equal (Iff.symm (is_same sense s i j answer e)))
 
-finer_same : (s : List ℕ) (i j : ℕ) (answer finer-answer : Verdict) → verdict_of answer ≡ compare_in plain s i j → verdict_of finer-answer ≡ compare_in finer s i j
-    → finer-answer ≡ Same → answer ≡ Same
-finer_same s i j answer finer-answer e d x = (is_same plain s i j answer e).1 (((meanings {0}).finer s).finer_same i j ((is_same finer s i j finer-answer d).0 x))
+finer_same : (s : List ℕ) (i j : ℕ) (answer finer_answer : Verdict) → verdict_of answer ≡ compare_in plain s i j → verdict_of finer_answer ≡ compare_in finer s i j
+    → finer_answer ≡ Same → answer ≡ Same
+finer_same s i j answer finer_answer e d x = (is_same plain s i j answer e).1 (((meanings {0}).finer s).finer_same i j ((is_same finer s i j finer_answer d).0 x))
 
 pub promises {ℓ} : Promises {ℓ}
 promises = record {

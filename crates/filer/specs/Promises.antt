@@ -163,14 +163,14 @@ pub record Promises {ℓ} : Type (ℓ + 1) where
   pub compare_games : (sense : Sense) (s : List ℕ) (i j : ℕ) (answer : Verdict) → verdict_of answer ≡ compare_in sense s i j
       → Accepted s → i < field_count s → j < field_count s → CompareGames sense s i j answer
   -- "finer same always implies same"
-  pub finer_same : (s : List ℕ) (i j : ℕ) (answer finer-answer : Verdict) → verdict_of answer ≡ compare_in plain s i j → verdict_of finer-answer ≡ compare_in finer s i j
-      → finer-answer ≡ Same → answer ≡ Same
+  pub finer_same : (s : List ℕ) (i j : ℕ) (answer finer_answer : Verdict) → verdict_of answer ≡ compare_in plain s i j → verdict_of finer_answer ≡ compare_in finer s i j
+      → finer_answer ≡ Same → answer ≡ Same
   pub form_answers : (sense : Sense) (s : List ℕ) (i : ℕ) (buffer : List ℕ) (answer : Forming) (after : List ℕ)
       → forming_of answer ≡ (forming_in sense s i buffer).answer → after ≡ (forming_in sense s i buffer).lent → FormAnswers sense s i buffer answer after
   pub form_means : (sense : Sense) (s : List ℕ) (i : ℕ) (buffer after : List ℕ) → after ≡ (forming_in sense s i buffer).lent
       → Accepted s → i < field_count s → kind_count s ≤ length buffer → FormMeans {ℓ} sense s i after
   -- Demand 2: a prime form "is equal for two fields just when they are the same".
-  pub form_equal : (sense : Sense) (s : List ℕ) (i j : ℕ) (first second after_first after-second : List ℕ) (answer : Verdict)
-      → after_first ≡ (forming_in sense s i first).lent → after-second ≡ (forming_in sense s j second).lent → verdict_of answer ≡ compare_in sense s i j
+  pub form_equal : (sense : Sense) (s : List ℕ) (i j : ℕ) (first second after_first after_second : List ℕ) (answer : Verdict)
+      → after_first ≡ (forming_in sense s i first).lent → after_second ≡ (forming_in sense s j second).lent → verdict_of answer ≡ compare_in sense s i j
       → Accepted s → i < field_count s → j < field_count s → kind_count s ≤ length first → kind_count s ≤ length second
-      → (take (kind_count s) after_first ≡ take (kind_count s) after-second) ↔ (answer ≡ Same)
+      → (take (kind_count s) after_first ≡ take (kind_count s) after_second) ↔ (answer ≡ Same)

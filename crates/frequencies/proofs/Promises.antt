@@ -19,7 +19,7 @@ use Rattle.model.specs.Answer.{Answer, refused, given, Lent, Verdict, verdict_in
 use Rattle.theory.specs.Frequencies.{OfSize}
 use Rattle.theory.proofs.Answers.{demand1}
 use Rattle.theory.proofs.Exec.{on_keep, tells_eq}
-use Rattle.theory.proofs.Frequencies.{frequencies-claims}
+use Rattle.theory.proofs.Frequencies.{frequencies_claims}
 use Rattle.theory.proofs.Sheets.{field_kinds, sheet_clear}
 use Rattle.theory.proofs.Shelves.{shelves}
 use Rattle.theory.proofs.Told.{told, found, cleared, answer_of_lem, lent_of}
@@ -82,11 +82,11 @@ module _ (s : List ℕ) (i t : ℕ) (buffer : List ℕ) (answer : Frequencies) (
     begins = ap (take (kind_count s + 2)) (d ∙ lent_of ((demand1 s).frequencies_given i t buffer (clears h))) ∙ take_at (frequencies s i t) _ (kind_count s + 2) ((demand1 s).frequencies_size i t)
 
     counted : (p : ℕ) → p < kind_count s + 2 → length (judged_at (card_of s) (field_of s i) t p) ≡ at after p
-    counted p l = sym ((frequencies-claims {0} s ok i t).counted p l) ∙ ap (λ (xs : List ℕ). at xs p) (sym begins) ∙ first_below after (kind_count s + 2) p l
+    counted p l = sym ((frequencies_claims {0} s ok i t).counted p l) ∙ ap (λ (xs : List ℕ). at xs p) (sym begins) ∙ first_below after (kind_count s + 2) p l
 
     mean {ℓ} : FrequenciesMean {ℓ} s i t after
     mean =
-        let F = frequencies-claims s ok i t in
+        let F = frequencies_claims s ok i t in
         record {
           same = record { fields = judged_at (card_of s) (field_of s i) t 0; has = F.same; once = F.once 0; many = counted 0 (omega arith) };
           parted = λ q l. record { fields = judged_at (card_of s) (field_of s i) t (suc q); has = F.parted q; once = F.once (suc q); many = counted (suc q) (omega arith) };
@@ -94,14 +94,14 @@ module _ (s : List ℕ) (i t : ℕ) (buffer : List ℕ) (answer : Frequencies) (
         }
 
     -- A field of the sheet that has t tokens is counted at the place of what Compare answers.
-    module _ (j : ℕ) (v : Verdict) (answers-v : compare_of s i j ≡ given v) (size : tokens (kind_count s) (field_of s j) ≡ t) where
+    module _ (j : ℕ) (v : Verdict) (answers_v : compare_of s i j ≡ given v) (size : tokens (kind_count s) (field_of s j) ≡ t) where
       of_size : OfSize (card_of s) t (field_of s j)
       unfolding card_of
       of_size = (field_kinds s (sheet_clear s ok) j, size)
 
       verdict_is : verdict_in plain (card_of s) (kind_norm (card_of s)) (field_of s i) (field_of s j) ≡ v
       unfolding compare_in
-      verdict_is = go (first_of (compare_checks s i j)) answers-v
+      verdict_is = go (first_of (compare_checks s i j)) answers_v
         where
           found_v : Verdict
           found_v = verdict_in plain (card_of s) (kind_norm (card_of s)) (field_of s i) (field_of s j)
@@ -118,7 +118,7 @@ module _ (s : List ℕ) (i t : ℕ) (buffer : List ℕ) (answer : Frequencies) (
 
       counted_there : 0 < at after (verdict_place v)
       counted_there =
-          let place = (frequencies-claims {0} s ok i t).one_place (field_of s j) of_size in
+          let place = (frequencies_claims {0} s ok i t).one_place (field_of s j) of_size in
           let here : verdict_place v ≡ place.0 = (place.2 (verdict_place v)).0 judged in
           omega (arith, some_member judged, counted (verdict_place v) (rw here place.1))
 

@@ -176,14 +176,14 @@ field_number s i t x number buffer field after e f d h l m =
     let same : shelf_number (card_of s) (field_of s i) ≡ x = ap (shelf_number (card_of s)) is ∙ (shelves s t).number_field x w.2 in
     number_given s i number e (((demand1 s).number_taken i).1 (w.0, l, rw size w.1)) ∙ rw (size, same) refl
 
-field_order : (s : List ℕ) (t x y : ℕ) (first second : List ℕ) (before after : ShelfField) (first-after second-after : List ℕ)
-    → field_answer before ≡ (shelf_field_of s t x first).answer → first-after ≡ (shelf_field_of s t x first).lent → before ≡ Written
-    → field_answer after ≡ (shelf_field_of s t y second).answer → second-after ≡ (shelf_field_of s t y second).lent → after ≡ Written
-    → x < y → Precedes (last_first (card_of s)) (at (take (kind_count s) first-after)) (at (take (kind_count s) second-after))
-field_order s t x y first second before after first-after second-after e d h f g l m =
-    let c = field_clear s t x first first-after d before e h in
-    let k = field_clear s t y second second-after g after f l in
-    rw (begins s t x first first-after d c, begins s t y second second-after g k) ((shelves s t).order x y m (((demand1 s).shelf_taken t y (length second)).0 k).2)
+field_order : (s : List ℕ) (t x y : ℕ) (first second : List ℕ) (before after : ShelfField) (first_after second_after : List ℕ)
+    → field_answer before ≡ (shelf_field_of s t x first).answer → first_after ≡ (shelf_field_of s t x first).lent → before ≡ Written
+    → field_answer after ≡ (shelf_field_of s t y second).answer → second_after ≡ (shelf_field_of s t y second).lent → after ≡ Written
+    → x < y → Precedes (last_first (card_of s)) (at (take (kind_count s) first_after)) (at (take (kind_count s) second_after))
+field_order s t x y first second before after first_after second_after e d h f g l m =
+    let c = field_clear s t x first first_after d before e h in
+    let k = field_clear s t y second second_after g after f l in
+    rw (begins s t x first first_after d c, begins s t y second second_after g k) ((shelves s t).order x y m (((demand1 s).shelf_taken t y (length second)).0 k).2)
 
 number_order : (s : List ℕ) (i j t x y : ℕ) (first second : ShelfNumber) → number_answer first ≡ shelf_number_of s i → number_answer second ≡ shelf_number_of s j
     → first ≡ Given t x → second ≡ Given t y → (x < y) ↔ Precedes (last_first (card_of s)) (field_of s i) (field_of s j)

@@ -53,10 +53,10 @@ pub record Promises : Type 0 where
       → number_answer number ≡ shelf_number_of s i → field_answer field ≡ (shelf_field_of s t x buffer).answer → after ≡ (shelf_field_of s t x buffer).lent
       → field ≡ Written → i < field_count s → at (take (kind_count s) after) ≡ field_of s i → number ≡ Given t x
   -- "listed with the smaller count of the last kind first, then of the one before it, and so on, from number 0": of two numbers of a size, and of two fields of a size.
-  pub field_order : (s : List ℕ) (t x y : ℕ) (first second : List ℕ) (before after : ShelfField) (first-after second-after : List ℕ)
-      → field_answer before ≡ (shelf_field_of s t x first).answer → first-after ≡ (shelf_field_of s t x first).lent → before ≡ Written
-      → field_answer after ≡ (shelf_field_of s t y second).answer → second-after ≡ (shelf_field_of s t y second).lent → after ≡ Written
-      → x < y → Precedes (last_first (card_of s)) (at (take (kind_count s) first-after)) (at (take (kind_count s) second-after))
+  pub field_order : (s : List ℕ) (t x y : ℕ) (first second : List ℕ) (before after : ShelfField) (first_after second_after : List ℕ)
+      → field_answer before ≡ (shelf_field_of s t x first).answer → first_after ≡ (shelf_field_of s t x first).lent → before ≡ Written
+      → field_answer after ≡ (shelf_field_of s t y second).answer → second_after ≡ (shelf_field_of s t y second).lent → after ≡ Written
+      → x < y → Precedes (last_first (card_of s)) (at (take (kind_count s) first_after)) (at (take (kind_count s) second_after))
   pub number_order : (s : List ℕ) (i j t x y : ℕ) (first second : ShelfNumber) → number_answer first ≡ shelf_number_of s i → number_answer second ≡ shelf_number_of s j
       → first ≡ Given t x → second ≡ Given t y → (x < y) ↔ Precedes (last_first (card_of s)) (field_of s i) (field_of s j)
   -- "how many fields there are": every field of t tokens of the reached kinds is found by a number under the entry.

@@ -29,7 +29,7 @@ use Rattle.validation.specs.declared.checks.Checked.TheVariants.{Refused}
 use Rattle.sheet.proofs.Laws.{kinds_are, fields_are}
 use Rattle.norms.specs.Norms.{Accepts}
 use Rattle.norms.proofs.Laws.{norms_at}
-use Rattle.acceptance.proofs.Acceptances.{refused as checks-refused}
+use Rattle.acceptance.proofs.Acceptances.{refused as checks_refused}
 use Rattle.rows.specs.Stage.{BaseAt}
 use Rattle.filer.specs.Settlement.{IsSettlement, table_in}
 use Rattle.filer.specs.declared.settlement.Settlement.{Settlement}
@@ -114,7 +114,7 @@ module _ {s : List ℕ} {c : Card} {norms : List ℕ} (A : Accepts s c norms) wh
 -- The page of a refused sheet is its refusal.
 pub page_refusal : {s : List ℕ} {x : Settlement} → IsSettlement plain s x → (k p : ℕ) → x.checked ≡ Refused k p → refused_line k p ≡ page_of s
 unfolding page_of
-page_refusal {s} S k p e = rw (checks-refused s k p (sym S.checked_is ∙ e), page_of) refl
+page_refusal {s} S k p e = rw (checks_refused s k p (sym S.checked_is ∙ e), page_of) refl
 
 -- A buffer too short for the page, and one with room for it.
 module _ (s buffer : List ℕ) where

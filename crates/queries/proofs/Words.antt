@@ -30,22 +30,22 @@ unfolding verb_in
 verb_none word = refl
 
 -- The words of a query: none, or a verb and what follows it.
-module _ (s text : List ℕ) (end : ℕ) (is-end : end ≡ length (first_word text)) where
+module _ (s text : List ℕ) (end : ℕ) (is_end : end ≡ length (first_word text)) where
   pub query_none : length text ≤ end → no_call ≡ query_of s text
   unfolding query_of words_told
-  query_none h = ap (words_told s) (sym (words_none text (omega (arith, is-end))))
+  query_none h = ap (words_told s) (sym (words_none text (omega (arith, is_end))))
 
   module _ (h : end < length text) where
     -- The words that follow the verb, as a part of the text.
     rest : take (length text - (end + 1)) (drop (end + 1) text) ≡ drop (suc (length (first_word text))) text
     rest =
-        let e : end + 1 ≡ suc (length (first_word text)) = omega (arith, is-end) in
+        let e : end + 1 ≡ suc (length (first_word text)) = omega (arith, is_end) in
         take_all (length text - (end + 1)) (drop (end + 1) text) (omega (arith, length-drop (end + 1) text)) ∙ ap (λ (n : ℕ). drop n text) e
 
     pub query_verb : (verb : Verb) (said : Said) → verb ≡ verb_of (take end text) → said ≡ numbers_of most_numbers (words_of (take (length text - (end + 1)) (drop (end + 1) text)))
         → said_told s verb said ≡ query_of s text
     unfolding query_of words_told
     query_verb verb said v e =
-        ap (λ (x : Verb). said_told s x said) (v ∙ ap (λ (n : ℕ). verb_of (take n text)) is-end)
+        ap (λ (x : Verb). said_told s x said) (v ∙ ap (λ (n : ℕ). verb_of (take n text)) is_end)
         ∙ ap (said_told s (verb_of (take (length (first_word text)) text))) (e ∙ ap (λ (l : List ℕ). numbers_of most_numbers (words_of l)) rest)
-        ∙ ap (words_told s) (sym (words_next text (omega (arith, is-end))))
+        ∙ ap (words_told s) (sym (words_next text (omega (arith, is_end))))

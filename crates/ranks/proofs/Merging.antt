@@ -37,15 +37,15 @@ module _ {B : ℕ → ℕ → Type 0} {xs : List ℕ} {start i : ℕ} where
 
   -- The test of the entry at hand says that it comes before i: the search goes on.
   pub skipping_more : {place : ℕ} → Skipping B xs start i place → place < length xs → {answer : Bool} → (answer ≡ true) ↔ B (at xs place) i → answer ≡ true → Skipping B xs start i (place + 1)
-  skipping_more {place} so_far here test says-true = record { onward = omega (arith, so_far.onward); within = omega arith; before = λ x from to. go x from to (ℕ_discrete x place) }
+  skipping_more {place} so_far here test says_true = record { onward = omega (arith, so_far.onward); within = omega arith; before = λ x from to. go x from to (ℕ_discrete x place) }
     where
       go : (x : ℕ) → start ≤ x → x < place + 1 → Dec (x ≡ place) → B (at xs x) i
-      go x from to (yes same) = rw same (test.0 says-true)
+      go x from to (yes same) = rw same (test.0 says_true)
       go x from to (no other) = so_far.before x from (omega arith)
 
   -- The test of the entry at hand says that it does not come before i: it is the first.
   pub skipping_found : {place : ℕ} → Skipping B xs start i place → {answer : Bool} → (answer ≡ true) ↔ B (at xs place) i → answer ≡ false → FirstNotBefore B xs start i place
-  skipping_found so_far test says-false = record { onward = so_far.onward; within = so_far.within; before = so_far.before; first = λ _. told_not test says-false }
+  skipping_found so_far test says_false = record { onward = so_far.onward; within = so_far.within; before = so_far.before; first = λ _. told_not test says_false }
 
   -- The search has come to the end of the list.
   pub skipping_end : {place : ℕ} → Skipping B xs start i place → length xs ≤ place → FirstNotBefore B xs start i place
@@ -77,12 +77,12 @@ module _ {M B : ℕ → ℕ → Type 0} (order : LineOrder M B) {xs ys : List �
     where
       go : Dec (y < reached) → B (at ys y) (at xs place)
       go (yes passed) = so_far.passed place y (omega arith) here passed
-      go (no not-passed) = skipped.before y (omega arith) early
+      go (no not_passed) = skipped.before y (omega arith) early
 
   -- The test at place next of ys says that the entry there is a match: the pass goes on to the entry of xs that follows. What comes before an entry of xs comes before the later ones.
   pub passing_more : InOrder B xs → {answer : Bool} → (answer ≡ true) ↔ ((next < length ys) × M (at xs place) (at ys next)) → answer ≡ true → Passing M B xs ys next (place + 1)
-  passing_more sorted test says-true =
-      let found = test.0 says-true in
+  passing_more sorted test says_true =
+      let found = test.0 says_true in
       record {
         reached_within = skipped.within;
         within = omega arith;
@@ -96,12 +96,12 @@ module _ {M B : ℕ → ℕ → Type 0} (order : LineOrder M B) {xs ys : List �
 
   -- The test at place next of ys says that there is no match: the entry of xs has none anywhere. The entries of ys before that place come before it, and those from there on come after it.
   pub passing_fails : InOrder B ys → {answer : Bool} → (answer ≡ true) ↔ ((next < length ys) × M (at xs place) (at ys next)) → answer ≡ false → EachMatched M (Among xs) (Among ys) → ⊥
-  passing_fails sorted test says-false all-matched =
-      let match = all-matched (at xs place) (place, here, refl) in
+  passing_fails sorted test says_false all_matched =
+      let match = all_matched (at xs place) (place, here, refl) in
       go match.1.0 match.1.1 (rw match.1.2 match.2) (dec_lt match.1.0 next)
     where
       not_there : (next < length ys) × M (at xs place) (at ys next) → ⊥
-      not_there = told_not test says-false
+      not_there = told_not test says_false
 
       there_after : next < length ys → B (at xs place) (at ys next)
       there_after within =
@@ -113,7 +113,7 @@ module _ {M B : ℕ → ℕ → Type 0} (order : LineOrder M B) {xs ys : List �
 
       go : (y : ℕ) → y < length ys → M (at xs place) (at ys y) → Dec (y < next) → ⊥
       go y within matches (yes early) = order.apart (all_before y early) (order.same.back matches)
-      go y within matches (no not-early) = later y within (omega arith) matches (ℕ_discrete y next)
+      go y within matches (no not_early) = later y within (omega arith) matches (ℕ_discrete y next)
 
 -- Lists that are put in order have matches among each other just when the lists as they stood do.
 pub sorted_tells : {r : Bool} {M : ℕ → ℕ → Type 0} {xs ys newXs newYs : List ℕ} → Equivalence M → Rearranged xs newXs → Rearranged ys newYs

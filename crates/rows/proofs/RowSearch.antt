@@ -107,7 +107,7 @@ module _ {sense : Sense} {lines classes forms : List ℕ} {k l : ℕ} {old rows 
         }
 
     -- It is set in the table.
-    module _ (yes-found : found ≡ true) (wide : length counts ≡ most_kinds) (room : k * most_kinds + most_kinds ≤ length rows) {new : List ℕ} (e : new ≡ with_row rows k counts) where
+    module _ (yes_found : found ≡ true) (wide : length counts ≡ most_kinds) (room : k * most_kinds + most_kinds ≤ length rows) {new : List ℕ} (e : new ≡ with_row rows k counts) where
       row_is : row_in new k ≡ at counts
       row_is = rw e (with_row_is rows counts k wide room)
 
@@ -115,7 +115,7 @@ module _ {sense : Sense} {lines classes forms : List ℕ} {k l : ℕ} {old rows 
       kept i d = rw e (with_others rows counts k wide room i d)
 
       row_told : ToldIn lines forms l m (row_in new k)
-      row_told = rw row_is (I.gives yes-found)
+      row_told = rw row_is (I.gives yes_found)
 
       module _ {s : List ℕ} {t : ℕ} (G : StageGiven sense s t lines classes) (K : RowSought sense s t k old forms) where
         product : Product sense (card_of s) t k (row_in new k)

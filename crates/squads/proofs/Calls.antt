@@ -25,7 +25,7 @@ use Rattle.validation.specs.declared.checks.Checked.{Checked}
 use Rattle.validation.specs.declared.checks.Checked.TheVariants.{Refused}
 use Rattle.sheet.proofs.Laws.{fields_are}
 use Rattle.acceptance.specs.Acceptance.{acceptance_of}
-use Rattle.acceptance.proofs.Acceptances.{accepts, refused as refused-checks}
+use Rattle.acceptance.proofs.Acceptances.{accepts, refused as refused_checks}
 
 -- The test for tokens, as it is read in the code.
 module _ (n : ℕ) (b : Bool) (e : b ≡ eqb n 0) where
@@ -48,7 +48,7 @@ module _ (s : List ℕ) (i j : ℕ) (buffer : List ℕ) where
   unfolding Accepted squads_checks
   fields_refuse checked e k p r =
       refuses k p
-      (fields_refused (accept_checks s) _ (field_count s) i j k p checked (λ f. refused-checks s k p (sym e ∙ f)) (λ c f. let A = accepts s c (sym e ∙ f) in (A.accepted, fields_are A.reads)) r)
+      (fields_refused (accept_checks s) _ (field_count s) i j k p checked (λ f. refused_checks s k p (sym e ∙ f)) (λ c f. let A = accepts s c (sym e ∙ f) in (A.accepted, fields_are A.reads)) r)
 
   -- The call's own: 17 and 12.
   module _ (ok : Accepted s) (h : i < field_count s) (l : j < field_count s) where

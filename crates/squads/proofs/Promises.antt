@@ -16,7 +16,7 @@ use Rattle.model.specs.Answer.{refused, given, Lent, written, form_of, squad_cou
 use Rattle.theory.proofs.Answers.{demand1}
 use Rattle.theory.proofs.Squads.{squads}
 use Rattle.theory.proofs.Told.{told, found, cleared, answer_of_lem, lent_of}
-use Rattle.filer.proofs.Promises.{begins as form-begins}
+use Rattle.filer.proofs.Promises.{begins as form_begins}
 use Rattle.squads.specs.Answers.{squads_answer}
 use Rattle.squads.specs.Promises.{SquadsAnswers, SquadsMeans, Promises}
 use Rattle.squads.specs.declared.answers.Squads.{Squads}
@@ -83,17 +83,17 @@ module _ (s : List ℕ) (i j : ℕ) (buffer : List ℕ) (answer : Squads) (after
           no_other = λ x f p. rw begins (S.no_other_joined x f (rw (← count_is) at p));
         }
 
-    exact : (whole squad after-whole after-squad : List ℕ) → after-whole ≡ (form_of s i whole).lent → after-squad ≡ (form_of s j squad).lent
+    exact : (whole squad after_whole after_squad : List ℕ) → after_whole ≡ (form_of s i whole).lent → after_squad ≡ (form_of s j squad).lent
         → kind_count s ≤ length whole → kind_count s ≤ length squad
-        → ((k : ℕ) → q * at (take (kind_count s) after-squad) k + at (take (kind_count s) after) k ≡ at (take (kind_count s) after-whole) k)
-        × ((x : Field) → ((k : ℕ) → q * at (take (kind_count s) after-squad) k + x k ≡ at (take (kind_count s) after-whole) k) → x ≡ at (take (kind_count s) after))
-    exact whole squad after-whole after-squad f g l m =
+        → ((k : ℕ) → q * at (take (kind_count s) after_squad) k + at (take (kind_count s) after) k ≡ at (take (kind_count s) after_whole) k)
+        × ((x : Field) → ((k : ℕ) → q * at (take (kind_count s) after_squad) k + x k ≡ at (take (kind_count s) after_whole) k) → x ≡ at (take (kind_count s) after))
+    exact whole squad after_whole after_squad f g l m =
         let S = squads {0} s ok i j in
-        rw (form-begins plain s i whole after-whole f ok taken.1 l, form-begins plain s j squad after-squad g ok taken.2 m, begins, ← count_is) (S.exact, S.no_other)
+        rw (form_begins plain s i whole after_whole f ok taken.1 l, form_begins plain s j squad after_squad g ok taken.2 m, begins, ← count_is) (S.exact, S.no_other)
 
 pub promises {ℓ} : Promises {ℓ}
 promises = record {
   squads_answers = answers;
   squads_means = λ s i j buffer answer after q e d h. means s i j buffer answer after e d q h;
-  squads_exact = λ s i j buffer whole squad answer after after-whole after-squad q e d h f g l m. exact s i j buffer answer after e d q h whole squad after-whole after-squad f g l m;
+  squads_exact = λ s i j buffer whole squad answer after after_whole after_squad q e d h f g l m. exact s i j buffer answer after e d q h whole squad after_whole after_squad f g l m;
 }

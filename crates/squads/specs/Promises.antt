@@ -43,8 +43,8 @@ pub record Promises {ℓ} : Type (ℓ + 1) where
   pub squads_means : (s : List ℕ) (i j : ℕ) (buffer : List ℕ) (answer : Squads) (after : List ℕ) (q : ℕ)
       → squads_answer answer ≡ (squads_of s i j buffer).answer → after ≡ (squads_of s i j buffer).lent → answer ≡ Counted q → SquadsMeans {ℓ} s i j q after
   -- "The remainder is exact: q squads and it give the whole's prime form, and no other prime form does so with that q": of what Prime form wrote for the whole and for the squad.
-  pub squads_exact : (s : List ℕ) (i j : ℕ) (buffer whole squad : List ℕ) (answer : Squads) (after after-whole after-squad : List ℕ) (q : ℕ)
+  pub squads_exact : (s : List ℕ) (i j : ℕ) (buffer whole squad : List ℕ) (answer : Squads) (after after_whole after_squad : List ℕ) (q : ℕ)
       → squads_answer answer ≡ (squads_of s i j buffer).answer → after ≡ (squads_of s i j buffer).lent → answer ≡ Counted q
-      → after-whole ≡ (form_of s i whole).lent → after-squad ≡ (form_of s j squad).lent → kind_count s ≤ length whole → kind_count s ≤ length squad
-      → ((k : ℕ) → q * at (take (kind_count s) after-squad) k + at (take (kind_count s) after) k ≡ at (take (kind_count s) after-whole) k)
-      × ((x : Field) → ((k : ℕ) → q * at (take (kind_count s) after-squad) k + x k ≡ at (take (kind_count s) after-whole) k) → x ≡ at (take (kind_count s) after))
+      → after_whole ≡ (form_of s i whole).lent → after_squad ≡ (form_of s j squad).lent → kind_count s ≤ length whole → kind_count s ≤ length squad
+      → ((k : ℕ) → q * at (take (kind_count s) after_squad) k + at (take (kind_count s) after) k ≡ at (take (kind_count s) after_whole) k)
+      × ((x : Field) → ((k : ℕ) → q * at (take (kind_count s) after_squad) k + x k ≡ at (take (kind_count s) after_whole) k) → x ≡ at (take (kind_count s) after))

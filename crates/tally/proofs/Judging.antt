@@ -74,7 +74,7 @@ pub equal_tallies : {same same' unlike unlike' different different' zero zero' o
     → ◌≡◌ {A = Tally}
     (record { same = same; unlike = unlike; different = different; zero = zero; one = one; two = two; three = three; later = later; early = early; sames = sames; differents = differents; undecided = undecided; wrong = wrong; misfiled = misfiled })
     (record { same = same'; unlike = unlike'; different = different'; zero = zero'; one = one'; two = two'; three = three'; later = later'; early = early'; sames = sames'; differents = differents'; undecided = undecided'; wrong = wrong'; misfiled = misfiled' })
-equal_tallies e-same e-unlike e-different e-zero e-one e-two e-three e-later e-early e-sames e-differents e-undecided e-wrong e-misfiled = rw (e-same, e-unlike, e-different, e-zero, e-one, e-two, e-three, e-later, e-early, e-sames, e-differents, e-undecided, e-wrong, e-misfiled)
+equal_tallies e_same e_unlike e_different e_zero e_one e_two e_three e_later e_early e_sames e_differents e_undecided e_wrong e_misfiled = rw (e_same, e_unlike, e_different, e_zero, e_one, e_two, e_three, e_later, e_early, e_sames, e_differents, e_undecided, e_wrong, e_misfiled)
 
 -- Two lists are as long, and have the same numbers below i.
 pub record SameBelow (a b : List ℕ) (i : ℕ) : Type 0 where

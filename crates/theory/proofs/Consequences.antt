@@ -11,7 +11,7 @@ use Rattle.theory.proofs.Field.{weigh_plus}
 use Rattle.theory.proofs.Normed.{Normed, norm, Tidy, fire_low, some_low, part_norm}
 use Rattle.theory.proofs.Norms.{clears_least}
 use Rattle.theory.proofs.Stages.{Stage, level, level_cong, stage_less}
-use Rattle.theory.proofs.Game.{FineHolds, Fine, rounds, holds_stage, bisimilar-stage}
+use Rattle.theory.proofs.Game.{FineHolds, Fine, rounds, holds_stage, bisimilar_stage}
 use Rattle.theory.proofs.Rank.{Within, within_plus}
 use Rattle.theory.proofs.Base.{Base, form, form_plus}
 use Rattle.theory.proofs.Unique.{form_iff}
@@ -91,7 +91,7 @@ module _ (N : Normed) where
 
   -- From the settled stage on nothing changes.
   pub settled_stays : (s : ℕ) → Settled N s → (t : ℕ) (a b : Field) → Tidy N a → Tidy N b → Stage N s a b → Stage N t a b
-  settled_stays s S t a b u v p = bisimilar-stage N (AtStage N s) (settled_bisimulation N s S) t a b (u, v, p)
+  settled_stays s S t a b u v p = bisimilar_stage N (AtStage N s) (settled_bisimulation N s S) t a b (u, v, p)
 
   pub stage_down : (s i : ℕ) (a b : Field) → i ≤ s → Stage N s a b → Stage N i a b
   stage_down zero i a b h p = let e : 0 ≡ i = omega arith in rw e at p
@@ -116,4 +116,4 @@ module _ (N : Normed) where
   -- What the settled stage relates is what some bisimulation whose pairs share the second weight relates.
   pub settled_fine : (s : ℕ) → Settled N s → (a b : Field) → Tidy N a → Tidy N b → Stage N s a b ↔ ((R : Field → Field → Type 0) × Fine N R × R a b)
   settled_fine s S a b t u =
-      ((λ p. (AtStage N s, settled_bisimulation N s S, (t, u, p))), (λ x. bisimilar-stage N x.0 x.1 s a b x.2))
+      ((λ p. (AtStage N s, settled_bisimulation N s S, (t, u, p))), (λ x. bisimilar_stage N x.0 x.1 s a b x.2))

@@ -137,10 +137,10 @@ module _ (N : Normed) (xs : List Line) (to : (l : Line) → N.on l → Memᴰ l 
       (λ l m. let u = keep_on _ (λ l. norm N l.left < N.w l.kind) low_test xs l m in (from l u.0, u.1))
       (falling N.n xs N.w p f) (down N P f) (tells_down p P g f) a b)
 
-  module _ (r : Field → Field → Bool) (Tells-Alike : (x y : Field) → Tells (r x y) (Alike N x y)) where
+  module _ (r : Field → Field → Bool) (tells_alike : (x y : Field) → Tells (r x y) (Alike N x y)) where
     pub tells_stage : (s : ℕ) (a b : Field) → Tells (stage_from N.n xs N.w r s a b) (Stage N s a b)
     unfolding stage_from Stage level
-    tells_stage zero a b = Tells-Alike a b
-    tells_stage (suc zero) a b = tells_down r (Alike N) Tells-Alike (norm N a) a b
+    tells_stage zero a b = tells_alike a b
+    tells_stage (suc zero) a b = tells_down r (Alike N) tells_alike (norm N a) a b
     tells_stage (suc (suc s)) a b =
         tells_down _ (Next N (level N s)) (tells_next (stage_from N.n xs N.w r (suc s)) (level N s) (tells_stage (suc s))) (norm N a) a b

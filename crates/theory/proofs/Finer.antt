@@ -28,9 +28,9 @@ not_refused clear x y e = refl
 not_refused (refusal k p) x y e = let z : ◌≡◌ {A = ℕ} 0 1 = cc in absurd (omega arith)
 
 -- A bisimulation whose pairs have equal totals is one.
-finer-bisimilar {ℓ} : (c : Card) (a b : Field) → FinerBisimilar {ℓ} c a b → Bisimilar {ℓ} (On c) a b
+finer_bisimilar {ℓ} : (c : Card) (a b : Field) → FinerBisimilar {ℓ} c a b → Bisimilar {ℓ} (On c) a b
 unfolding FinerBisimilar Bisimilar
-finer-bisimilar c a b x = (x.0, x.1, x.3)
+finer_bisimilar c a b x = (x.0, x.1, x.3)
 
 finer_same : (s : List ℕ) (i j : ℕ) → finer_compare_of s i j ≡ given same → compare_of s i j ≡ given same
 unfolding compare_in
@@ -40,7 +40,7 @@ finer_same s i j e = go ((compare_taken s i j).0 (not_refused (first_of (compare
     go p e =
         let ok = limits_accepted s p.0 in
         (demand2 {0} plain s ok i j p.1 p.2).same_means.1
-        (finer-bisimilar (card_of s) (field_of s i) (field_of s j) ((demand2 {0} finer s ok i j p.1 p.2).same_means.0 e))
+        (finer_bisimilar (card_of s) (field_of s i) (field_of s j) ((demand2 {0} finer s ok i j p.1 p.2).same_means.0 e))
 
 -- A sum of counts, the first kind first, is that of their list.
 from_sum : (i m : ℕ) (a : Field) → weigh_from i m (λ _. 1) a ≡ sum (list_from a i m)

@@ -221,8 +221,8 @@ module _ (s : List ℕ) (ok : Accepted s) (i : ℕ) where
         )
 
     -- The same are the bisimilar ones, and those that part at a stage are told by the stages.
-    judged-same {ℓ} : (b : Field) → Memᴰ b (judged_at c a t 0) ↔ (OfSize c t b × Bisimilar {ℓ} (On c) a b)
-    judged-same b = (
+    judged_same {ℓ} : (b : Field) → Memᴰ b (judged_at c a t 0) ↔ (OfSize c t b × Bisimilar {ℓ} (On c) a b)
+    judged_same b = (
       (λ m. let x = (judged_iff 0 b).0 m in (x.0, (bisimilar_to x.0.0).0 ((place_zero b x.0.0).0 x.1))),
       (λ x. (judged_iff 0 b).1 (x.0, (place_zero b x.0.0).1 ((bisimilar_to x.0.0).1 x.1))),
     )
@@ -288,9 +288,9 @@ module _ (s : List ℕ) (ok : Accepted s) (i : ℕ) where
         go (yes h) = omega (arith, counted p h, count_most (λ b. eqb (place b) p) (shelf c t), (shelves s t).many)
         go (no h) = omega (arith, get_d_past (λ q. length (judged_at c a t q)) 0 (kind_count s + 2) p 0 (omega arith))
 
-    pub frequencies-claims {ℓ} : Frequencies {ℓ} s i t
-    frequencies-claims = record {
-      same = judged-same;
+    pub frequencies_claims {ℓ} : Frequencies {ℓ} s i t
+    frequencies_claims = record {
+      same = judged_same;
       parted = judged_parted;
       once = judged_once;
       counted = counted;

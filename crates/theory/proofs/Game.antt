@@ -26,10 +26,10 @@ module _ (N : Normed) where
   holds_extra zero a b h = h
   holds_extra (suc r) a b h = h.0
 
-  pub bisimilar-holds {ℓ} : (R : Field → Field → Type ℓ) → Fine R → (r : ℕ) (a b : Field) → R a b → FineHolds r a b
+  pub bisimilar_holds {ℓ} : (R : Field → Field → Type ℓ) → Fine R → (r : ℕ) (a b : Field) → R a b → FineHolds r a b
   unfolding FineHolds Fine
-  bisimilar-holds R B zero a b p = B.0 a b p
-  bisimilar-holds R B (suc r) a b p = (B.0 a b p, expands_mono N.on R (FineHolds r) (bisimilar-holds R B r) a b (B.1 a b p))
+  bisimilar_holds R B zero a b p = B.0 a b p
+  bisimilar_holds R B (suc r) a b p = (B.0 a b p, expands_mono N.on R (FineHolds r) (bisimilar_holds R B r) a b (B.1 a b p))
 
   pub holds_less : (r d : ℕ) (a b : Field) → r ≤ d → FineHolds d a b → FineHolds r a b
   unfolding FineHolds
@@ -159,5 +159,5 @@ module _ (N : Normed) where
   parted s a b n h = n (holds_stage s a b h)
 
   -- A bisimulation lies in every stage.
-  pub bisimilar-stage {ℓ} : (R : Field → Field → Type ℓ) → Fine R → (s : ℕ) (a b : Field) → R a b → Stage N s a b
-  bisimilar-stage R B s a b p = holds_stage s a b (bisimilar-holds R B (rounds s a b) a b p)
+  pub bisimilar_stage {ℓ} : (R : Field → Field → Type ℓ) → Fine R → (s : ℕ) (a b : Field) → R a b → Stage N s a b
+  bisimilar_stage R B s a b p = holds_stage s a b (bisimilar_holds R B (rounds s a b) a b p)

@@ -24,10 +24,10 @@ use Rattle.theory.proofs.Pages.{pages}
 use Rattle.theory.proofs.Widths.{widths}
 use Rattle.theory.proofs.Shelves.{shelves, entries_fit}
 use Rattle.theory.proofs.Squads.{squads}
-use Rattle.theory.proofs.Frequencies.{frequencies-claims}
-use Rattle.theory.proofs.Since.{sheet-sinces}
+use Rattle.theory.proofs.Frequencies.{frequencies_claims}
+use Rattle.theory.proofs.Since.{sheet_sinces}
 use Rattle.theory.proofs.Finer.{totals, finer_claims}
-use Rattle.theory.proofs.Settling.{sheet_settles, sheet-primes}
+use Rattle.theory.proofs.Settling.{sheet_settles, sheet_primes}
 
 turn_passed : (c : Card) (l m : Line) (P : Field → Field → Type 0) (s : Side) (a b : Field) → ¬ (0 < side_of s a b l.kind) → Turn c s l m a b P ↔ P a b
 turn_passed c l m P first a b n = ((λ t. t.1 n), (λ p. ((λ u. absurd (n u)), λ _. p)))
@@ -77,4 +77,4 @@ steps L R = (
 )
 
 pub meanings {ℓ} : Meanings {ℓ}
-meanings = record { firsts = firsts; headers = headers; places = sheet_places; reaches = sheet_reaches; used = used; parts = parts; norms = sheet_norms; steps = steps; games = games; walks = walks; settles = sheet_settles; primes = λ m s ok. sheet-primes m s ok; decimals = decimals; pages = pages; widths = widths; days = days; shelves = shelves; entries_fit = entries_fit; squads = λ s ok i j. squads s ok i j; frequencies = λ s ok i t. frequencies-claims s ok i t; sinces = λ m s ok. sheet-sinces m s ok; totals = totals; finer = finer_claims }
+meanings = record { firsts = firsts; headers = headers; places = sheet_places; reaches = sheet_reaches; used = used; parts = parts; norms = sheet_norms; steps = steps; games = games; walks = walks; settles = sheet_settles; primes = λ m s ok. sheet_primes m s ok; decimals = decimals; pages = pages; widths = widths; days = days; shelves = shelves; entries_fit = entries_fit; squads = λ s ok i j. squads s ok i j; frequencies = λ s ok i t. frequencies_claims s ok i t; sinces = λ m s ok. sheet_sinces m s ok; totals = totals; finer = finer_claims }

@@ -39,21 +39,21 @@ module _ {ℓ κ} (L : Line → Type 0) (R : Field → Field → Type ℓ) (Q : 
       let r = s l o h in
       reply_map r (λ p. p) (f l o h r.line r.on r.can)
 
-pub sim-refl {ℓ} : (L : Line → Type 0) (R : Field → Field → Type ℓ) → ((x : Field) → R x x) → (a : Field) → Simulates L R a a
-sim-refl L R f a l o h = record { line = l; on = o; can = h; same = refl; rel = f _ }
+pub sim_refl {ℓ} : (L : Line → Type 0) (R : Field → Field → Type ℓ) → ((x : Field) → R x x) → (a : Field) → Simulates L R a a
+sim_refl L R f a l o h = record { line = l; on = o; can = h; same = refl; rel = f _ }
 
-pub sim-trans {ℓ} : (L : Line → Type 0) (R Q S : Field → Field → Type ℓ) → ((x y z : Field) → R x y → Q y z → S x z)
+pub sim_trans {ℓ} : (L : Line → Type 0) (R Q S : Field → Field → Type ℓ) → ((x y z : Field) → R x y → Q y z → S x z)
     → (a b c : Field) → Simulates L R a b → Simulates L Q b c → Simulates L S a c
-sim-trans L R Q S f a b c s t l o h =
+sim_trans L R Q S f a b c s t l o h =
     let r = s l o h in
     let q = t r.line r.on r.can in
     record { line = q.line; on = q.on; can = q.can; same = q.same ∙ r.same; rel = f _ _ _ r.rel q.rel }
 
 -- A sum is challenged through one of its parts, and the other part stays.
-pub sim-plus {ℓ} : (L : Line → Type 0) (R Q S : Field → Field → Type ℓ) (a b c d : Field)
+pub sim_plus {ℓ} : (L : Line → Type 0) (R Q S : Field → Field → Type ℓ) (a b c d : Field)
     → ((x y : Field) → R x y → S (x ⊕ c) (y ⊕ d)) → ((x y : Field) → Q x y → S (a ⊕ x) (b ⊕ y))
     → Simulates L R a b → Simulates L Q c d → Simulates L S (a ⊕ c) (b ⊕ d)
-sim-plus L R Q S a b c d f g s t l o h = go (dec_lt 0 (a l.kind))
+sim_plus L R Q S a b c d f g s t l o h = go (dec_lt 0 (a l.kind))
   where
     go : Dec (0 < a l.kind) → Reply L S l.code (fire l (a ⊕ c)) (b ⊕ d)
     go (yes p) =
@@ -78,26 +78,26 @@ module _ {ℓ κ} (L : Line → Type 0) (R : Field → Field → Type ℓ) (Q : 
   pub expands_sym : ((x y : Field) → R x y → Q y x) → (a b : Field) → Expands L R a b → Expands L Q b a
   expands_sym f a b x = (sim_mono L (flip R) Q (λ u v. f v u) b a x.1, sim_mono L R (flip Q) f a b x.0)
 
-pub expands-refl {ℓ} : (L : Line → Type 0) (R : Field → Field → Type ℓ) → ((x : Field) → R x x) → (a : Field) → Expands L R a a
-expands-refl L R f a = (sim-refl L R f a, sim-refl L (flip R) f a)
+pub expands_refl {ℓ} : (L : Line → Type 0) (R : Field → Field → Type ℓ) → ((x : Field) → R x x) → (a : Field) → Expands L R a a
+expands_refl L R f a = (sim_refl L R f a, sim_refl L (flip R) f a)
 
-pub expands-trans {ℓ} : (L : Line → Type 0) (R Q S : Field → Field → Type ℓ) → ((x y z : Field) → R x y → Q y z → S x z)
+pub expands_trans {ℓ} : (L : Line → Type 0) (R Q S : Field → Field → Type ℓ) → ((x y z : Field) → R x y → Q y z → S x z)
     → (a b c : Field) → Expands L R a b → Expands L Q b c → Expands L S a c
-expands-trans L R Q S f a b c x y =
-    (sim-trans L R Q S f a b c x.0 y.0, sim-trans L (flip Q) (flip R) (flip S) (λ u v w p q. f w v u q p) c b a y.1 x.1)
+expands_trans L R Q S f a b c x y =
+    (sim_trans L R Q S f a b c x.0 y.0, sim_trans L (flip Q) (flip R) (flip S) (λ u v w p q. f w v u q p) c b a y.1 x.1)
 
-pub expands-plus {ℓ} : (L : Line → Type 0) (R Q S : Field → Field → Type ℓ) (a b c d : Field)
+pub expands_plus {ℓ} : (L : Line → Type 0) (R Q S : Field → Field → Type ℓ) (a b c d : Field)
     → ((x y : Field) → R x y → S (x ⊕ c) (y ⊕ d)) → ((x y : Field) → Q x y → S (a ⊕ x) (b ⊕ y))
     → Expands L R a b → Expands L Q c d → Expands L S (a ⊕ c) (b ⊕ d)
-expands-plus L R Q S a b c d f g x y =
-    (sim-plus L R Q S a b c d f g x.0 y.0, sim-plus L (flip R) (flip Q) (flip S) b a d c (λ u v. f v u) (λ u v. g v u) x.1 y.1)
+expands_plus L R Q S a b c d f g x y =
+    (sim_plus L R Q S a b c d f g x.0 y.0, sim_plus L (flip R) (flip Q) (flip S) b a d c (λ u v. f v u) (λ u v. g v u) x.1 y.1)
 
 -- By other lines, where each that a side can use is one of both sorts.
-sim-on {ℓ} : (L M : Line → Type 0) (R : Field → Field → Type ℓ) (a b : Field) → ((l : Line) → M l → 0 < a l.kind → L l) → ((l : Line) → L l → 0 < b l.kind → M l)
+sim_on {ℓ} : (L M : Line → Type 0) (R : Field → Field → Type ℓ) (a b : Field) → ((l : Line) → M l → 0 < a l.kind → L l) → ((l : Line) → L l → 0 < b l.kind → M l)
     → Simulates L R a b → Simulates M R a b
-sim-on L M R a b f g s l o h = let r = s l (f l o h) h in record { line = r.line; on = g r.line r.on r.can; can = r.can; same = r.same; rel = r.rel }
+sim_on L M R a b f g s l o h = let r = s l (f l o h) h in record { line = r.line; on = g r.line r.on r.can; can = r.can; same = r.same; rel = r.rel }
 
-pub expands-on {ℓ} : (L M : Line → Type 0) (R : Field → Field → Type ℓ) (a b : Field)
+pub expands_on {ℓ} : (L M : Line → Type 0) (R : Field → Field → Type ℓ) (a b : Field)
     → ((l : Line) → M l → 0 < a l.kind → L l) → ((l : Line) → M l → 0 < b l.kind → L l)
     → ((l : Line) → L l → 0 < a l.kind → M l) → ((l : Line) → L l → 0 < b l.kind → M l) → Expands L R a b → Expands M R a b
-expands-on L M R a b f g f' g' x = (sim-on L M R a b f g' x.0, sim-on L M (flip R) b a g f' x.1)
+expands_on L M R a b f g f' g' x = (sim_on L M R a b f g' x.0, sim_on L M (flip R) b a g f' x.1)

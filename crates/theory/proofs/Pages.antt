@@ -30,7 +30,7 @@ use Rattle.theory.proofs.Reach.{dec_tells}
 use Rattle.theory.proofs.Checks.{from_outside, from_less, cons_none}
 use Rattle.theory.proofs.Limits.{accepted_limits}
 use Rattle.theory.proofs.Answers.{demand1}
-use Rattle.theory.proofs.Settling.{sheet_settles, sheet-primes}
+use Rattle.theory.proofs.Settling.{sheet_settles, sheet_primes}
 
 -- The header's checks but the last.
 early : List ℕ → List Check
@@ -183,7 +183,7 @@ module _ (s : List ℕ) where
 
         go : Dec (Reached (card_of s) k) → T (eqb r 1) ↔ Prime {ℓ} (card_of s) k
         go (yes v) =
-            let p = (sheet-primes plain s ok).own_row k v in (
+            let p = (sheet_primes plain s ok).own_row k v in (
               (λ t. p.0 ((own k v).0 (sym e ∙ (tells_eq r 1).fact t))),
               (λ x. (tells_eq r 1).test (e ∙ (own k v).1 (p.1 x))),
             )

@@ -15,7 +15,7 @@ use Rattle.theory.specs.Expansion.{Expands}
 use Rattle.theory.specs.Meanings.{Reaches}
 use Rattle.theory.proofs.Search.{dec_and, some_below}
 use Rattle.theory.proofs.Field.{weigh_mono, weigh_less, weigh_ones}
-use Rattle.theory.proofs.Moves.{expands-on}
+use Rattle.theory.proofs.Moves.{expands_on}
 use Rattle.theory.proofs.Decide.{list_finite}
 use Rattle.theory.proofs.Exec.{Tells, tells_and, tells_lt, tells_any, keep_on, on_keep}
 use Rattle.theory.proofs.Lists.{get_d_from, get_d_past, below_mem}
@@ -99,10 +99,10 @@ module _ (c : Card) where
 
   module _ {ℓ} (R : Field → Field → Type ℓ) (a b : Field) (u : OfKinds c a) (v : OfKinds c b) where
     pub all_expands : Expands (OnReached c) R a b → Expands (On c) R a b
-    all_expands = expands-on (OnReached c) (On c) R a b (λ l o h. (o, u l.kind h)) (λ l o h. (o, v l.kind h)) (λ l o _. o.0) (λ l o _. o.0)
+    all_expands = expands_on (OnReached c) (On c) R a b (λ l o h. (o, u l.kind h)) (λ l o h. (o, v l.kind h)) (λ l o _. o.0) (λ l o _. o.0)
 
     pub expands_reached : Expands (On c) R a b → Expands (OnReached c) R a b
-    expands_reached = expands-on (On c) (OnReached c) R a b (λ l o _. o.0) (λ l o _. o.0) (λ l o h. (o, u l.kind h)) (λ l o h. (o, v l.kind h))
+    expands_reached = expands_on (On c) (OnReached c) R a b (λ l o _. o.0) (λ l o _. o.0) (λ l o h. (o, u l.kind h)) (λ l o h. (o, v l.kind h))
 
 module _ (c : Card) where
   -- Kind k is found in d turns.

@@ -7,7 +7,7 @@ use Rattle.model.specs.Card.{Line, Card, On, fire}
 use Rattle.model.specs.Norm.{Clears}
 use Rattle.theory.specs.Expansion.{flip, Expands, Bisimulation, Bisimilar}
 use Rattle.theory.specs.Terms.{OfKinds}
-use Rattle.theory.proofs.Moves.{fire_left, sim-refl, sim-trans, sim-plus}
+use Rattle.theory.proofs.Moves.{fire_left, sim_refl, sim_trans, sim_plus}
 
 data Alike {ℓ} : Field → Field → Type ℓ where
   alike : (x : Field) → Alike x x
@@ -17,7 +17,7 @@ unfolding Bisimilar
 itself L a = (Alike {ℓ}, steps, alike a)
   where
     steps : Bisimulation L (Alike {ℓ})
-    steps _ _ (alike x) = (sim-refl L (Alike {ℓ}) alike x, sim-refl L (flip (Alike {ℓ})) alike x)
+    steps _ _ (alike x) = (sim_refl L (Alike {ℓ}) alike x, sim_refl L (flip (Alike {ℓ})) alike x)
 
 -- Two fields with one first part, and second parts that R relates.
 data Exchanged {ℓ} (R : Field → Field → Type ℓ) : Field → Field → Type ℓ where
@@ -32,8 +32,8 @@ module _ {ℓ} (L : Line → Type 0) (R : Field → Field → Type ℓ) (B : Bis
 
   exchanged_expands : (a b : Field) → Exchanged R a b → Expands L (Exchanged R) a b
   exchanged_expands _ _ (exchanged y z x r) = (
-    sim-plus L (Alike {ℓ}) (flip R) (Exchanged R) y y z x (first_moved z x r) (λ u v e. exchanged y u v e) (sim-refl L (Alike {ℓ}) alike y) (B x z r).1,
-    sim-plus L (Alike {ℓ}) R (flip (Exchanged R)) y y x z (first_moved_back z x r) (λ u v e. exchanged y v u e) (sim-refl L (Alike {ℓ}) alike y) (B x z r).0,
+    sim_plus L (Alike {ℓ}) (flip R) (Exchanged R) y y z x (first_moved z x r) (λ u v e. exchanged y u v e) (sim_refl L (Alike {ℓ}) alike y) (B x z r).1,
+    sim_plus L (Alike {ℓ}) R (flip (Exchanged R)) y y x z (first_moved_back z x r) (λ u v e. exchanged y v u e) (sim_refl L (Alike {ℓ}) alike y) (B x z r).0,
   )
 
   -- R, and then an exchange.
@@ -46,8 +46,8 @@ module _ {ℓ} (L : Line → Type 0) (R : Field → Field → Type ℓ) (B : Bis
     where
       steps : Bisimulation L Through
       steps a b (m, p, q) = (
-        sim-trans L R (Exchanged R) Through (λ u v w e f. (v, e, f)) a m b (B a m p).0 (exchanged_expands m b q).0,
-        sim-trans L (flip (Exchanged R)) (flip R) (flip Through) (λ u v w e f. (v, f, e)) b m a (exchanged_expands m b q).1 (B a m p).1,
+        sim_trans L R (Exchanged R) Through (λ u v w e f. (v, e, f)) a m b (B a m p).0 (exchanged_expands m b q).0,
+        sim_trans L (flip (Exchanged R)) (flip R) (flip Through) (λ u v w e f. (v, f, e)) b m a (exchanged_expands m b q).1 (B a m p).1,
       )
 
 -- Where y can be cleared, what is related to y joined with z leads to what is related to z.

@@ -34,7 +34,7 @@ pub tells_not : (b : Bool) (A : Type 0) → Tells b A → Tells (not b) (¬ A)
 tells_not b A f = record { fact = λ t a. T_not b t (f.test a); test = λ n. not_T b (λ t. n (f.fact t)) }
 
 -- A card with certified norms of the reached kinds, a second weight, and a test that decides its stage 0.
-module _ (card : Card) (w e : ℕ → ℕ) (F : Found card w) (r : Field → Field → Bool) (Tells-Alike : (x y : Field) → Tells (r x y) (Alike (normed card w e F) x y)) where
+module _ (card : Card) (w e : ℕ → ℕ) (F : Found card w) (r : Field → Field → Bool) (tells_alike : (x y : Field) → Tells (r x y) (Alike (normed card w e F) x y)) where
   abbrev N : Normed
   N = normed card w e F
 
@@ -67,7 +67,7 @@ module _ (card : Card) (w e : ℕ → ℕ) (F : Found card w) (r : Field → Fie
 
   tells : (s : ℕ) (a b : Field) → Tells (S (suc s) a b) (level N s a b)
   unfolding Stage
-  tells s a b = tells_stage N xs to from r Tells-Alike (suc s) a b
+  tells s a b = tells_stage N xs to from r tells_alike (suc s) a b
 
   -- The order of kinds.
   abbrev pub Earlier : ℕ → ℕ → Type 0

@@ -21,7 +21,7 @@ use Rattle.model.specs.Answer.{Verdict, same, different, verdict_in}
 use Rattle.theory.proofs.Moves.{expands_map, expands_mono}
 use Rattle.theory.proofs.Normed.{Normed, Tidy}
 use Rattle.theory.proofs.Stages.{Alike, Stage, stage_cong, stage_one, stage_next}
-use Rattle.theory.proofs.Game.{FineHolds, Fine, rounds, parted, bisimilar-stage}
+use Rattle.theory.proofs.Game.{FineHolds, Fine, rounds, parted, bisimilar_stage}
 use Rattle.theory.proofs.Settle.{Settled, AtStage, settled_bisimulation}
 use Rattle.theory.proofs.Consequences.{Parts, always_iff, settled_stays}
 use Rattle.theory.proofs.Exec.{Tells, tells_and, tells_eq, tells_map, tells_stage}
@@ -106,15 +106,15 @@ zeroth finer c w F a b = ((λ p. p), (λ p. p))
 abbrev Sharing {ℓ} : Sense → Card → (Field → Field → Type ℓ) → Type ℓ
 Sharing m c R = Bisimulation (On c) R × ((u v : Field) → R u v → weigh c.kinds (weight_of m) u ≡ weigh c.kinds (weight_of m) v)
 
-to-bisimulation {ℓ} : (m : Sense) (c : Card) (a b : Field) → BisimilarIn {ℓ} m c a b → (R : Field → Field → Type ℓ) × Sharing m c R × R a b
+to_bisimulation {ℓ} : (m : Sense) (c : Card) (a b : Field) → BisimilarIn {ℓ} m c a b → (R : Field → Field → Type ℓ) × Sharing m c R × R a b
 unfolding Bisimilar FinerBisimilar
-to-bisimulation plain c a b x = (x.0, (x.1, (λ u v _. flat c.kinds u v)), x.2)
-to-bisimulation finer c a b x = (x.0, (x.1, x.2), x.3)
+to_bisimulation plain c a b x = (x.0, (x.1, (λ u v _. flat c.kinds u v)), x.2)
+to_bisimulation finer c a b x = (x.0, (x.1, x.2), x.3)
 
-from-bisimulation {ℓ} : (m : Sense) (c : Card) (R : Field → Field → Type ℓ) → Sharing m c R → (a b : Field) → R a b → BisimilarIn {ℓ} m c a b
+from_bisimulation {ℓ} : (m : Sense) (c : Card) (R : Field → Field → Type ℓ) → Sharing m c R → (a b : Field) → R a b → BisimilarIn {ℓ} m c a b
 unfolding Bisimilar FinerBisimilar
-from-bisimulation plain c R B a b p = (R, B.0, p)
-from-bisimulation finer c R B a b p = (R, B.0, B.1, p)
+from_bisimulation plain c R B a b p = (R, B.0, p)
+from_bisimulation finer c R B a b p = (R, B.0, B.1, p)
 
 module _ (m : Sense) (c : Card) (w : ℕ → ℕ) (F : Found c w) where
   abbrev N : Normed
@@ -183,11 +183,11 @@ module _ (m : Sense) (c : Card) (w : ℕ → ℕ) (F : Found c w) where
 
   module _ (t : ℕ) (most : t ≤ max 1 (reached_count c)) (S : Settled N t) (a b : Field) (p : Tidy N a) (q : Tidy N b) where
     -- The settled stage relates what some bisimulation relates.
-    pub settled-bisimilar {ℓ} : Stage N t a b ↔ BisimilarIn {ℓ} m c a b
+    pub settled_bisimilar {ℓ} : Stage N t a b ↔ BisimilarIn {ℓ} m c a b
     unfolding Fine
-    settled-bisimilar = (
-      (λ h. from-bisimulation m c (λ u v. Lift {0, ℓ} (AtStage N t u v)) lifted a b (record { lower = (p, q, h) })),
-      (λ x. let y = to-bisimulation m c a b x in bisimilar-stage N (Within y.0) (within y.0 y.1) t a b (y.2, of_tidy a p, of_tidy b q)),
+    settled_bisimilar = (
+      (λ h. from_bisimulation m c (λ u v. Lift {0, ℓ} (AtStage N t u v)) lifted a b (record { lower = (p, q, h) })),
+      (λ x. let y = to_bisimulation m c a b x in bisimilar_stage N (Within y.0) (within y.0 y.1) t a b (y.2, of_tidy a p, of_tidy b q)),
     )
       where
         lifted : Sharing m c (λ u v. Lift {0, ℓ} (AtStage N t u v))

@@ -9,7 +9,7 @@ use Rattle.theory.specs.Expansion.{Expands}
 use Rattle.theory.proofs.Moves.{expands_map}
 use Rattle.theory.proofs.Normed.{Normed, Low, Tidy}
 use Rattle.theory.proofs.Stages.{Cong, Next, Stage, next_cong, stage_cong}
-use Rattle.theory.proofs.Game.{Fine, FineHolds, bisimilar-stage, bisimilar-holds}
+use Rattle.theory.proofs.Game.{Fine, FineHolds, bisimilar_stage, bisimilar_holds}
 use Rattle.theory.proofs.Rank.{rank, Within, decomp_rel}
 use Rattle.theory.proofs.Base.{Base, Prime, form, form_unit, within_unit}
 use Rattle.theory.proofs.Unique.{form_iff}
@@ -81,9 +81,9 @@ module _ (N : Normed) where
   )
 
   -- The settled stage is the largest bisimulation, and what it relates holds at every number of rounds.
-  pub settled-largest {ℓ} : (s : ℕ) → Settled s → (a b : Field) → Tidy N a → Tidy N b
+  pub settled_largest {ℓ} : (s : ℕ) → Settled s → (a b : Field) → Tidy N a → Tidy N b
       → (Stage N s a b → Fine N (AtStage s) × AtStage s a b) × ((R : Field → Field → Type ℓ) → Fine N R → R a b → Stage N s a b)
-  settled-largest s S a b t u = ((λ p. (settled_bisimulation s S, (t, u, p))), (λ R I p. bisimilar-stage N R I s a b p))
+  settled_largest s S a b t u = ((λ p. (settled_bisimulation s S, (t, u, p))), (λ R I p. bisimilar_stage N R I s a b p))
 
   pub settled_holds : (s : ℕ) → Settled s → (a b : Field) → Tidy N a → Tidy N b → Stage N s a b → (r : ℕ) → FineHolds N r a b
-  settled_holds s S a b t u p r = bisimilar-holds N (AtStage s) (settled_bisimulation s S) r a b (t, u, p)
+  settled_holds s S a b t u p r = bisimilar_holds N (AtStage s) (settled_bisimulation s S) r a b (t, u, p)

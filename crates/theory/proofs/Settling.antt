@@ -34,7 +34,7 @@ use Rattle.theory.proofs.Paper.{stages_only}
 use Rattle.theory.proofs.Sheets.{certified}
 use Rattle.theory.proofs.Gain.{is_gain}
 use Rattle.theory.proofs.Verdicts
-use Rattle.theory.proofs.Verdicts.{L, q, R, B, D, prime-iff}
+use Rattle.theory.proofs.Verdicts.{L, q, R, B, D, prime_iff}
 
 module _ (m : Sense) (c : Card) (F : Found c (kind_norm c)) where
   abbrev w : ℕ → ℕ
@@ -181,15 +181,15 @@ module _ (m : Sense) (s : List ℕ) (ok : Accepted s) where
   pub settled_row_is : (k : ℕ) → Reached (card_of s) k → settled_row_in m (card_of s) k ≡ (D m s ok).row k
   settled_row_is k h = rw (L m s ok).is (row_of m (card_of s) (certified s ok) (q m s ok) k h)
 
-  pub sheet-primes {ℓ} : Primes {ℓ} m (card_of s)
-  sheet-primes = record {
+  pub sheet_primes {ℓ} : Primes {ℓ} m (card_of s)
+  sheet_primes = record {
     own_row = λ k h.
         let pos = (certified s ok).positive k h in
         let i = under (card_of s) (kind_norm (card_of s)) (certified s ok) k h in
         let W = past_whole (Verdicts.N m s ok) (Verdicts.fin m s ok) k i in
         let C = level_cong (Verdicts.N m s ok) (q m s ok) in
         let X = level_low (Verdicts.N m s ok) (Verdicts.fin m s ok) (q m s ok) in (
-          (λ e. (prime-iff m s ok k h).0 (atom_prime (Verdicts.N m s ok) (R m s ok) (B m s ok) C X (D m s ok) k i pos W (sym (settled_row_is k h) ∙ e))),
-          (λ p. settled_row_is k h ∙ prime_atom (Verdicts.N m s ok) (R m s ok) (B m s ok) C X (D m s ok) k i pos W ((prime-iff m s ok k h).1 p)),
+          (λ e. (prime_iff m s ok k h).0 (atom_prime (Verdicts.N m s ok) (R m s ok) (B m s ok) C X (D m s ok) k i pos W (sym (settled_row_is k h) ∙ e))),
+          (λ p. settled_row_is k h ∙ prime_atom (Verdicts.N m s ok) (R m s ok) (B m s ok) C X (D m s ok) k i pos W ((prime_iff m s ok k h).1 p)),
         );
   }

@@ -37,7 +37,7 @@ use Rattle.theory.proofs.Certified.{Found, under, live}
 use Rattle.theory.proofs.Senses.{tidy, stages}
 use Rattle.theory.proofs.Sheets.{certified}
 use Rattle.theory.proofs.Verdicts.{L}
-use Rattle.theory.proofs.Settling.{N, fin, row_of, out_row, row_kinds, sheet_settles, sheet-primes}
+use Rattle.theory.proofs.Settling.{N, fin, row_of, out_row, row_kinds, sheet_settles, sheet_primes}
 use Rattle.theory.proofs.Program.{stage_forms}
 
 -- A row that a smaller relation still relates to its kind is the row there too: its atoms stay atoms.
@@ -212,14 +212,14 @@ module _ (m : Sense) (c : Card) (F : Found c (kind_norm c)) where
     dec_changes k (no n) = no (λ x. n x.0)
 
     -- Where no row changes, the two stages relate the same fields, so that the first of them is settled.
-    module _ (none-changes : (k : ℕ) → k < c.kinds → ¬ Changes k) where
+    module _ (none_changes : (k : ℕ) → k < c.kinds → ¬ Changes k) where
       each_row : (k : ℕ) → Dec (Reached c k) → rows u k ≡ rows (suc u) k
       each_row k (no n) = out_row m c F (suc u) k n ∙ sym (out_row m c F (suc (suc u)) k n)
       each_row k (yes v) = go (dec_same k v)
         where
           go : Dec (rows (suc u) k ≡ rows u k) → rows u k ≡ rows (suc u) k
           go (yes e) = sym e
-          go (no x) = absurd (none-changes k (under c w F k v) (v, x))
+          go (no x) = absurd (none_changes k (under c w F k v) (v, x))
 
       same_forms : (a : Field) → stage_form_in m c (suc u) a ≡ stage_form_in m c (suc (suc u)) a
       unfolding form_at
@@ -276,7 +276,7 @@ module _ (m : Sense) (s : List ℕ) (ok : Accepted s) where
   prime k x q l = ((λ e. go e (dec_lt q (since_in m c k))), (λ h. stays k x.0 q h ∙ own))
     where
       own : settled_row_in m c k ≡ unit k
-      own = ((sheet-primes m s ok).own_row k x.0).1 x
+      own = ((sheet_primes m s ok).own_row k x.0).1 x
 
       go : stage_row_in m c q k ≡ unit k → Dec (q < since_in m c k) → since_in m c k ≤ q
       go e (yes i) = absurd (first k x.0 q l i (e ∙ sym own))
@@ -294,8 +294,8 @@ module _ (m : Sense) (s : List ℕ) (ok : Accepted s) where
           side (inl x) = (x.0, x.1.0, ap (λ t. stage_since_in m c t x.0) e ∙ since_changed m c F p x.0 x.1.1 ∙ sym e)
           side (inr f) = absurd ((sheet_settles m s ok).least (suc p) (omega arith) (omega arith) f)
 
-  pub sheet-sinces {ℓ} : Sinces {ℓ} m (card_of s)
-  sheet-sinces = record {
+  pub sheet_sinces {ℓ} : Sinces {ℓ} m (card_of s)
+  sheet_sinces = record {
     from = from;
     most = most;
     stays = stays;

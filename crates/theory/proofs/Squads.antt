@@ -31,8 +31,8 @@ use Rattle.theory.proofs.Senses.{tidy}
 use Rattle.theory.proofs.Program.{theirs}
 use Rattle.theory.proofs.Gain.{sheet_norms}
 use Rattle.theory.proofs.Sheets.{sheet_clear, sheet_reaches, under_kinds, certified, field_kinds}
-use Rattle.theory.proofs.Settling.{settled_row_is, sheet-primes}
-use Rattle.theory.proofs.Verdicts.{N, B, R, D, L, q, fin, at_form, written_is, form-prime, bisimilar, to_stage, from_stage, kinds_is}
+use Rattle.theory.proofs.Settling.{settled_row_is, sheet_primes}
+use Rattle.theory.proofs.Verdicts.{N, B, R, D, L, q, fin, at_form, written_is, form_prime, bisimilar, to_stage, from_stage, kinds_is}
 use Rattle.theory.proofs.Quotients.{times_largest, times_most, remainder_exact}
 use Rattle.theory.proofs.Remainders.{itself, exchange, left_over}
 
@@ -80,8 +80,8 @@ module _ (s : List ℕ) (ok : Accepted s) where
       let u : OfKinds c x = λ k h. (f k h).0 in
       prime_is x u ∙ form_self (N plain s ok) (R plain s ok) (B plain s ok) (D plain s ok) x (within x u, λ k h. (f k h).1)
 
-  same-prime {ℓ} : (x y : Field) → OfKinds c x → OfKinds c y → Bisimilar {ℓ} (On c) x y ↔ (prime x ≡ prime y)
-  same-prime x y u v =
+  same_prime {ℓ} : (x y : Field) → OfKinds c x → OfKinds c y → Bisimilar {ℓ} (On c) x y ↔ (prime x ≡ prime y)
+  same_prime x y u v =
       let F = certified s ok in
       let b = bisimilar plain s ok x y (tidy plain c (kind_norm c) F x u) (tidy plain c (kind_norm c) F y v) in
       let f = form_iff (N plain s ok) (R plain s ok) (B plain s ok) (D plain s ok) (level_cong (N plain s ok) (q plain s ok)) (level_low (N plain s ok) (fin plain s ok) (q plain s ok)) x y (within x u) (within y v) in (
@@ -104,8 +104,8 @@ module _ (s : List ℕ) (ok : Accepted s) where
       let r = weigh_some c.kinds (kind_norm c) (prime x) (omega (arith, prime_norm x u, p, m, t.2)) in
       (r.0, r.1, r.2)
 
-  prime-own {ℓ} : (k : ℕ) → Prime {ℓ} c k → (D plain s ok).row k ≡ unit k
-  prime-own k p = sym (settled_row_is plain s ok k p.0) ∙ ((sheet-primes plain s ok).own_row k p.0).1 p
+  prime_own {ℓ} : (k : ℕ) → Prime {ℓ} c k → (D plain s ok).row k ≡ unit k
+  prime_own k p = sym (settled_row_is plain s ok k p.0) ∙ ((sheet_primes plain s ok).own_row k p.0).1 p
 
   form_at_is : (i k : ℕ) → at (prime_form s i) k ≡ prime (field_of s i) k
   form_at_is i k = ap (λ (f : Field). f k) (at_form plain s ok i ∙ sym (written_is plain s ok i))
@@ -171,19 +171,19 @@ module _ (s : List ℕ) (ok : Accepted s) where
 
     joined {ℓ} : Joined {ℓ} c whole squad count left
     joined =
-        (same-prime whole (times count squad ⊕ left) (of_kinds i) (joined_kinds count left (λ k h. (left_parts k h).0))).1
+        (same_prime whole (times count squad ⊕ left) (of_kinds i) (joined_kinds count left (λ k h. (left_parts k h).0))).1
         (fun_ext (λ k. sym (prime_joined count squad left k ∙ ap (λ n. count * prime squad k + n) (ap (λ (f : Field). f k) (prime_self left left_parts)) ∙ exact_prime k)))
 
     -- Squads and a remainder that are the same as the whole divide its form.
     divides {ℓ} : (m : ℕ) (x : Field) → OfKinds c x → Joined {ℓ} c whole squad m x → (k : ℕ) → m * prime squad k + prime x k ≡ prime whole k
     divides m x u p k =
-        sym (ap (λ (f : Field). f k) ((same-prime whole (times m squad ⊕ x) (of_kinds i) (joined_kinds m x u)).0 p) ∙ prime_joined m squad x k)
+        sym (ap (λ (f : Field). f k) ((same_prime whole (times m squad ⊕ x) (of_kinds i) (joined_kinds m x u)).0 p) ∙ prime_joined m squad x k)
 
-    form-of-rest {ℓ} : (x : Field) → OfKinds c x → Joined {ℓ} c whole squad count x → prime x ≡ left
-    form-of-rest x u p = fun_ext (λ k. omega (arith, divides count x u p k, exact_prime k))
+    form_of_rest {ℓ} : (x : Field) → OfKinds c x → Joined {ℓ} c whole squad count x → prime x ≡ left
+    form_of_rest x u p = fun_ext (λ k. omega (arith, divides count x u p k, exact_prime k))
 
     no_other_joined {ℓ} : (x : Field) → ((k : ℕ) → 0 < x k → Prime {ℓ} c k) → Joined {ℓ} c whole squad count x → x ≡ left
-    no_other_joined x f p = sym (prime_self x (λ k h. ((f k h).0, prime-own k (f k h)))) ∙ form-of-rest x (λ k h. (f k h).0) p
+    no_other_joined x f p = sym (prime_self x (λ k h. ((f k h).0, prime_own k (f k h)))) ∙ form_of_rest x (λ k h. (f k h).0) p
 
     clear_squads : (m : ℕ) → Clears (On c) (norm c (times m squad)) (times m squad)
     unfolding IsNorm
@@ -228,8 +228,8 @@ module _ (s : List ℕ) (ok : Accepted s) where
     squads = record {
       largest = largest;
       joined = joined;
-      primes = λ k h. form-prime plain s ok i k (rw (ap (λ (f : Field). f k) (at_form plain s ok i)) at (some_left k h));
-      form = form-of-rest;
+      primes = λ k h. form_prime plain s ok i k (rw (ap (λ (f : Field). f k) (at_form plain s ok i)) at (some_left k h));
+      form = form_of_rest;
       exact = exact;
       no_other = λ x f. fun_ext (λ k. omega (arith, f k, exact k));
       no_other_joined = no_other_joined;

@@ -7,7 +7,7 @@ use Rattle.model.specs.Field.{Field, ◌⊕◌}
 use Rattle.model.specs.Card.{fire}
 use Rattle.theory.specs.Expansion.{Expands}
 use Rattle.theory.proofs.Field.{weigh_plus}
-use Rattle.theory.proofs.Moves.{expands_map, expands_mono, expands_sym, expands-refl, expands-trans, expands-plus}
+use Rattle.theory.proofs.Moves.{expands_map, expands_mono, expands_sym, expands_refl, expands_trans, expands_plus}
 use Rattle.theory.proofs.Normed.{Normed, norm, extra, Low, fire_low}
 
 module _ (N : Normed) where
@@ -61,12 +61,12 @@ module _ (N : Normed) where
   -- Expansion in a congruence is a congruence within it.
   pub next_cong : (R : Field → Field → Type 0) → Cong R → Cong (Next R)
   next_cong R C = record {
-    rfl = λ a. (C.rfl a, expands-refl N.on R C.rfl a);
+    rfl = λ a. (C.rfl a, expands_refl N.on R C.rfl a);
     sm = λ a b p. (C.sm a b p.0, expands_sym N.on R R C.sm a b p.1);
-    tr = λ a b c p q. (C.tr a b c p.0 q.0, expands-trans N.on R R R C.tr a b c p.1 q.1);
+    tr = λ a b c p q. (C.tr a b c p.0 q.0, expands_trans N.on R R R C.tr a b c p.1 q.1);
     plus = λ a b c d p q. (
       C.plus a b c d p.0 q.0,
-      expands-plus N.on R R R a b c d (λ x y u. C.plus x y c d u q.0) (λ x y. C.plus a b x y p.0) p.1 q.1,
+      expands_plus N.on R R R a b c d (λ x y u. C.plus x y c d u q.0) (λ x y. C.plus a b x y p.0) p.1 q.1,
     );
     norms = λ a b p. C.norms a b p.0;
     extras = λ a b p. C.extras a b p.0;
@@ -90,7 +90,7 @@ module _ (N : Normed) where
     down_refl : (f : ℕ) (a : Field) → down P f a a
     unfolding down
     down_refl zero a = C.rfl a
-    down_refl (suc f) a = (C.rfl a, expands-refl (Low N) (down P f) (down_refl f) a)
+    down_refl (suc f) a = (C.rfl a, expands_refl (Low N) (down P f) (down_refl f) a)
 
     down_sym : (f : ℕ) (a b : Field) → down P f a b → down P f b a
     unfolding down
@@ -101,7 +101,7 @@ module _ (N : Normed) where
     unfolding down
     down_trans zero a b c p q = C.tr a b c p q
     down_trans (suc f) a b c p q =
-        (C.tr a b c p.0 q.0, expands-trans (Low N) (down P f) (down P f) (down P f) (down_trans f) a b c p.1 q.1)
+        (C.tr a b c p.0 q.0, expands_trans (Low N) (down P f) (down P f) (down P f) (down_trans f) a b c p.1 q.1)
 
     down_less : (f : ℕ) (a b : Field) → down P (suc f) a b → down P f a b
     unfolding down
@@ -113,7 +113,7 @@ module _ (N : Normed) where
     down_plus zero a b c d p q = C.plus a b c d p q
     down_plus (suc f) a b c d p q = (
       C.plus a b c d p.0 q.0,
-      expands-plus (Low N) (down P f) (down P f) (down P f) a b c d
+      expands_plus (Low N) (down P f) (down P f) (down P f) a b c d
           (λ x y u. down_plus f x y c d u (down_less f c d q)) (λ x y. down_plus f a b x y (down_less f a b p)) p.1 q.1,
     )
 

@@ -36,7 +36,7 @@ use Rattle.theory.proofs.Reach.{all_expands}
 use Rattle.theory.proofs.Certified.{Found, under, live}
 use Rattle.theory.proofs.Fewest.{norms}
 use Rattle.theory.proofs.Rows.{Least, finite, order_iff, form_is}
-use Rattle.theory.proofs.Senses.{weight_of, normed_in, tidy, of_tidy, tells_start, tells_in, settled, settled-bisimilar, settled_always, same_iff, different_iff, different_parts, parts_verdict}
+use Rattle.theory.proofs.Senses.{weight_of, normed_in, tidy, of_tidy, tells_start, tells_in, settled, settled_bisimilar, settled_always, same_iff, different_iff, different_parts, parts_verdict}
 use Rattle.theory.proofs.FinerPlays.{parts_in, parted_parting_in, parting_not_in, strategy_holds_in, plays_all_in}
 use Rattle.theory.proofs.Gain.{is_gain}
 use Rattle.model.proofs.Plain as model
@@ -147,15 +147,15 @@ module _ (m : Sense) (s : List ℕ) (ok : Accepted s) where
   form_tidy i k h = let u = (form_parts i).0 k h in (u.0, u.1)
 
   pub bisimilar {ℓ} : (a b : Field) → Tidy N a → Tidy N b → Stage N t a b ↔ BisimilarIn {ℓ} m c a b
-  bisimilar a b u v = settled-bisimilar m c w (certified s ok) t L.most L.settled a b u v
+  bisimilar a b u v = settled_bisimilar m c w (certified s ok) t L.most L.settled a b u v
 
   pub field_form : (i : ℕ) → R (field i) (form_of i)
   unfolding form_of
   field_form i = form_rel N R B D (level_cong N q) (level_low N fin q) (field i) (field_within i)
 
   -- Prime at the settled stage is prime.
-  pub prime-iff {ℓ} : (k : ℕ) → Reached c k → BasePrime N R k ↔ PrimeIn {ℓ} m c k
-  prime-iff k h = (
+  pub prime_iff {ℓ} : (k : ℕ) → Reached c k → BasePrime N R k ↔ PrimeIn {ℓ} m c k
+  prime_iff k h = (
     (λ p. (h, λ a f x. p a (within a f) (from_stage (unit k) a ((bisimilar (unit k) a unit_tidy (within_tidy a (within a f))).1 x)))),
     (λ p a f x. p.1 a (before a f) ((bisimilar (unit k) a unit_tidy (within_tidy a f)).0 (to_stage (unit k) a x))),
   )
@@ -178,10 +178,10 @@ module _ (m : Sense) (s : List ℕ) (ok : Accepted s) where
       within_tidy : (a : Field) → Within N (rank N k) a → Tidy N a
       within_tidy a f j x = let v = f j x in (v.0, v.1)
 
-  pub form-prime {ℓ} : (i k : ℕ) → 0 < form_of i k → PrimeIn {ℓ} m c k
-  form-prime i k h =
+  pub form_prime {ℓ} : (i k : ℕ) → 0 < form_of i k → PrimeIn {ℓ} m c k
+  form_prime i k h =
       let u = (form_parts i).0 k h in
-      (prime-iff k ((certified s ok).out k u.1)).0 (atom_prime N R B (level_cong N q) (level_low N fin q) D k u.0 u.1 u.2 ((form_parts i).1 k h))
+      (prime_iff k ((certified s ok).out k u.1)).0 (atom_prime N R B (level_cong N q) (level_low N fin q) D k u.0 u.1 u.2 ((form_parts i).1 k h))
 
   module _ (i j : ℕ) (hi : i < field_count s) (hj : j < field_count s) where
     abbrev a : Field
@@ -225,7 +225,7 @@ module _ (m : Sense) (s : List ℕ) (ok : Accepted s) where
         record {
           same_means = ((λ p. x.0 (same_stage.0 p)), (λ p. same_stage.1 (x.1 p)));
           different_means = ((λ p y. different_stage.0 p (x.1 y)), (λ n. different_stage.1 (λ p. n (x.0 p))));
-          form_primes = λ k h. form-prime i k (rw (ap (λ (f : Field). f k) (at_form i)) at h);
+          form_primes = λ k h. form_prime i k (rw (ap (λ (f : Field). f k) (at_form i)) at h);
           form_bisimilar = rw (at_form i) ((bisimilar a (form_of i) (field_tidy i) (form_tidy i)).0 (to_stage a (form_of i) (field_form i)));
           form_equal = (
             (λ p. same_stage.1 (to_stage a b (forms_iff.1 (sym (at_form i) ∙ ap at p ∙ at_form j)))),

@@ -9,12 +9,12 @@ use Rattle.replies.specs.Texts.{worded}
 use Rattle.verbs.specs.Texts.{table_room, stages_line, row_lines, settle_text, row_in, row_after, row_text}
 
 -- Settle and Row, by what Settle gives for a table with room.
-module _ (s room table : List ℕ) (is-room : room ≡ table_room) (lent : table ≡ (settle_of s room).lent) where
+module _ (s room table : List ℕ) (is_room : room ≡ table_room) (lent : table ≡ (settle_of s room).lent) where
   written_there : table ≡ (settle_of s table_room).lent
-  written_there = lent ∙ ap (λ (r : List ℕ). (settle_of s r).lent) is-room
+  written_there = lent ∙ ap (λ (r : List ℕ). (settle_of s r).lent) is_room
 
   answered_there : {a : Answer ℕ} → a ≡ (settle_of s room).answer → a ≡ (settle_of s table_room).answer
-  answered_there e = e ∙ ap (λ (r : List ℕ). (settle_of s r).answer) is-room
+  answered_there e = e ∙ ap (λ (r : List ℕ). (settle_of s r).answer) is_room
 
   pub settle_answered : (stage : ℕ) → given stage ≡ (settle_of s room).answer → given (stages_line stage ++ row_lines (kind_count s) table) ≡ settle_text s
   unfolding settle_text worded

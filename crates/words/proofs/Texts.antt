@@ -177,9 +177,9 @@ module _ (most : ℕ) (text values : List ℕ) (at count : ℕ) (so_far : Counti
   unfolding words_of
   counting_ends h = no_more (ap words_of (drop_of_length-le text {i = at} h))
 
-  module _ (end : ℕ) (is-end : end ≡ length (first_word (part text at))) where
+  module _ (end : ℕ) (is_end : end ≡ length (first_word (part text at))) where
     pub counting_stops : length text ≤ at + end → numbers (take count values) ≡ numbers_of most (words_of text)
-    counting_stops h = no_more (ap words_of (sym (part_is text at)) ∙ words_none (part text at) (omega (arith, is-end, part_length text at)))
+    counting_stops h = no_more (ap words_of (sym (part_is text at)) ∙ words_none (part text at) (omega (arith, is_end, part_length text at)))
 
     module _ (h : at + end < length text) where
       word : List ℕ
@@ -191,9 +191,9 @@ module _ (most : ℕ) (text values : List ℕ) (at count : ℕ) (so_far : Counti
       next : words_of (drop at text) ≡ word ∷ words
       unfolding word words
       next =
-          let e : at + end - at ≡ length (first_word (part text at)) = omega (arith, is-end) in
-          let f : at + suc (length (first_word (part text at))) ≡ at + end + 1 = omega (arith, is-end) in
-          ap words_of (sym (part_is text at)) ∙ words_next (part text at) (omega (arith, is-end, part_length text at))
+          let e : at + end - at ≡ length (first_word (part text at)) = omega (arith, is_end) in
+          let f : at + suc (length (first_word (part text at))) ≡ at + end + 1 = omega (arith, is_end) in
+          ap words_of (sym (part_is text at)) ∙ words_next (part text at) (omega (arith, is_end, part_length text at))
           ∙ ap (λ (l : List ℕ). take (length (first_word (part text at))) l ∷ words_of (drop (suc (length (first_word (part text at)))) l)) (part_is text at)
           ∙ ap (λ (n : ℕ). take n (drop at text) ∷ words_of (drop (suc (length (first_word (part text at)))) (drop at text))) (sym e)
           ∙ ap (λ (l : List ℕ). take (at + end - at) (drop at text) ∷ words_of l) (drop-drop (suc (length (first_word (part text at)))) at text ∙ ap (λ (n : ℕ). drop n text) f)
