@@ -7,11 +7,10 @@ mod stored;
 // The second player's counts.
 mod played;
 
-use std::io;
-
-fn main(rt: HostRuntime) -> io::Result<()> {
+fn main(rt: HostRuntime) {
     let mut output = rt.stdout();
-    stored::check_all(&rt, &mut output)?;
-    played::play_stored(&rt, &mut output)?;
-    played::play_random(&mut output)
+    let mut errors = rt.stderr();
+    stored::check_all(&rt, &mut output, &mut errors);
+    played::play_stored(&rt, &mut output, &mut errors);
+    played::play_random(&mut output);
 }

@@ -9,7 +9,7 @@ use filer::Verdict;
 use filer::compare::compare_settled;
 use filer::form::form_settled;
 use filer::settlement::{Settlement, settle_once};
-use std::io::{self, Write};
+use std::io::Write;
 use std::rt::{Env, Files};
 use tables::sense::Sense;
 use tally::{Called, Played, Tally};
@@ -185,24 +185,29 @@ fn with_stored(sheet: &[u8], count: Count) -> Count {
 }
 
 // The sheet that argument i names.
-fn with_argument<R: Env + Files>(rt: &R, argument: usize, count: Count) -> io::Result<Count> {
+fn with_argument<R: Env + Files, E: Write>(
+    rt: &R,
+    errors: &mut E,
+    argument: usize,
+    count: Count,
+) -> Count {
     let mut name = [0u8; 32];
     let length = name_of(rt, argument, &mut name);
     let mut sheet = [0u8; 12821];
-    let bytes = read_stored(rt, &name[..length], b".sheet", &mut sheet)?;
-    Ok(with_stored(&sheet[..bytes], count))
+    let bytes = read_stored(rt, errors, &name[..length], b".sheet", &mut sheet);
+    with_stored(&sheet[..bytes], count)
 }
 
 // The stored sheets.
-pub fn play_stored<R: Env + Files, O: Write>(rt: &R, output: &mut O) -> io::Result<()> {
+pub fn play_stored<R: Env + Files, O: Write, E: Write>(rt: &R, output: &mut O, errors: &mut E) {
     let end = argument_count(rt);
     let mut count = Count::new();
     let mut i = 1;
     while i < end {
-        count = with_argument(rt, i, count)?;
+        count = with_argument(rt, errors, i, count);
         i += 1;
     }
-    print_count(output, b"stored sheets", count)
+    print_count(output, b"stored sheets", count);
 }
 
 // The sheet that a seed gives.
@@ -234,61 +239,61 @@ fn with_part(sheet: &[u8], part: [u8; 128], bytes: usize, count: Count) -> Count
 }
 
 // Random small sheets, of the seeds from 0 up.
-pub fn play_random<O: Write>(output: &mut O) -> io::Result<()> {
+pub fn play_random<O: Write>(output: &mut O) {
     let mut count = Count::new();
     let mut seed = 0;
     while seed < 8000 {
         count = with_seed(seed, count);
         seed += 1;
     }
-    print_count(output, b"random sheets", count)
+    print_count(output, b"random sheets", count);
 }
 
 // One number after its name.
-fn print<O: Write>(output: &mut O, name: &[u8], number: u64) -> io::Result<()> {
-    output.write_all(name)?;
-    write!(output, "{number}")
+fn print<O: Write>(output: &mut O, name: &[u8], number: u64) {
+    let _ = output.write_all(name);
+    let _ = write!(output, "{number}");
 }
 
 // What was counted.
-fn print_count<O: Write>(output: &mut O, title: &[u8], count: Count) -> io::Result<()> {
-    output.write_all(title)?;
-    print(output, b": settled ", count.settled)?;
-    print(output, b", of which part-used ", count.part)?;
-    print(output, b", refused ", count.refused)?;
-    output.write_all(b"\n")?;
-    print_tally(output, count.plain)?;
-    output.write_all(b"  in the finer sense:\n")?;
-    print_tally(output, count.finer)
+fn print_count<O: Write>(output: &mut O, title: &[u8], count: Count) {
+    let _ = output.write_all(title);
+    print(output, b": settled ", count.settled);
+    print(output, b", of which part-used ", count.part);
+    print(output, b", refused ", count.refused);
+    let _ = output.write_all(b"\n");
+    print_tally(output, count.plain);
+    let _ = output.write_all(b"  in the finer sense:\n");
+    print_tally(output, count.finer);
 }
 
-fn print_tally<O: Write>(output: &mut O, tally: Tally) -> io::Result<()> {
+fn print_tally<O: Write>(output: &mut O, tally: Tally) {
     let sames = tally.sames;
     let differents = tally.differents;
-    print(output, b"  called same ", tally.same)?;
-    print(output, b", of which look unlike ", tally.unlike)?;
-    print_played(output, sames)?;
-    print(output, b"\n  called different ", tally.different)?;
-    print_played(output, differents)?;
-    print(output, b"\n  different at stage 0 ", tally.zero)?;
-    print(output, b", 1 ", tally.one)?;
-    print(output, b", 2 ", tally.two)?;
-    print(output, b", 3 ", tally.three)?;
-    print(output, b", later ", tally.later)?;
+    print(output, b"  called same ", tally.same);
+    print(output, b", of which look unlike ", tally.unlike);
+    print_played(output, sames);
+    print(output, b"\n  called different ", tally.different);
+    print_played(output, differents);
+    print(output, b"\n  different at stage 0 ", tally.zero);
+    print(output, b", 1 ", tally.one);
+    print(output, b", 2 ", tally.two);
+    print(output, b", 3 ", tally.three);
+    print(output, b", later ", tally.later);
     print(
         output,
         b"; from 1 up and below the settled stage ",
         tally.early,
-    )?;
-    print(output, b"\n  left open by the game ", tally.undecided)?;
-    print(output, b", contradicted ", tally.wrong)?;
-    print(output, b"; prime forms that disagree ", tally.misfiled)?;
-    output.write_all(b"\n")
+    );
+    print(output, b"\n  left open by the game ", tally.undecided);
+    print(output, b", contradicted ", tally.wrong);
+    print(output, b"; prime forms that disagree ", tally.misfiled);
+    let _ = output.write_all(b"\n");
 }
 
 // How far the pairs were played.
-fn print_played<O: Write>(output: &mut O, played: Played) -> io::Result<()> {
-    print(output, b"; played in full ", played.full)?;
-    print(output, b", in part ", played.part)?;
-    print(output, b", not at all ", played.none)
+fn print_played<O: Write>(output: &mut O, played: Played) {
+    print(output, b"; played in full ", played.full);
+    print(output, b", in part ", played.part);
+    print(output, b", not at all ", played.none);
 }

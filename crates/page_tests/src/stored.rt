@@ -1,11 +1,11 @@
 // The stored sheets, by the names in the arguments, and their stored pages.
 ghost use Rattle.std.specs.Prelude.{◌≤◌, length};
-ghost use Rattle.std.specs.Io.{ReadsAtMost};
+ghost use Rattle.page_tests.specs.Counts.{IsPrefixLen};
 
 use page::Writing;
 use std::env::FillError;
 use std::fs::File;
-use std::io::{self, ErrorKind, Read, Write};
+use std::io::{self, Cursor, ErrorKind, Read, Write};
 use std::rt::{Env, Files};
 use std::str;
 
@@ -24,36 +24,65 @@ fn path_of(name: &[u8], ending: &[u8], path: &mut [u8]) -> usize
     text::put_bytes(path, end, ending)
 }
 
-// The bytes of a stored file, as many as the buffer has room for.
-pub fn read_stored<R: Files>(
+// The bytes of a stored file, as many as the buffer has room for. One that can not be opened is told to the errors, and has none.
+pub fn read_stored<R: Files, E: Write>(
     files: &R,
+    errors: &mut E,
     name: &[u8],
     ending: &[u8],
     buffer: &mut [u8],
-) -> io::Result<usize>
-    ensures { ReadsAtMost result buffer.new }
+) -> usize
+    ensures { IsPrefixLen result buffer.new }
 {
     let mut path = [0u8; 64];
     let length = path_of(name, ending, &mut path);
-    let Ok(path) = str::from_utf8(&path[..length]) else {
-        return Err(io::Error::from(ErrorKind::InvalidInput));
-    };
-    read_full(&mut File::open(files, path)?, buffer)
+    match open(files, &path[..length]) {
+        Ok(mut file) => read_full(&mut file, buffer),
+        Err(error) => {
+            tell(errors, name, &error);
+            0
+        }
+    }
 }
 
-// Reads a file until it ends or the buffer is full.
-fn read_full<F: Read>(file: &mut F, buffer: &mut [u8]) -> io::Result<usize>
-    ensures { ReadsAtMost result buffer.new }
+// Opens a file to read it. A path is UTF-8 text; any other is no file's.
+fn open<R: Files>(files: &R, path: &[u8]) -> io::Result<R::File> {
+    let Ok(path) = str::from_utf8(path) else {
+        return Err(io::Error::from(ErrorKind::InvalidInput));
+    };
+    File::open(files, path)
+}
+
+// A line to the errors: what failed, a colon and why, as the system says it. Of an error of the system std writes its number too, which is left out.
+fn tell<E: Write>(errors: &mut E, what: &[u8], error: &io::Error) {
+    let mut text = [0u8; 128];
+    let mut cursor = Cursor::new(&mut text[..]);
+    let _ = write!(cursor, "{error}");
+    let length = cursor.position() as usize;
+    let said = str::from_utf8(text.get(..length).unwrap_or(b"")).unwrap_or("");
+    let cause = match said.split_once(" (os error ") {
+        Some((before, _)) => before,
+        None => said,
+    };
+    let _ = errors.write_all(what);
+    let _ = errors.write_all(b": ");
+    let _ = errors.write_all(cause.as_bytes());
+    let _ = errors.write_all(b"\n");
+}
+
+// Reads until the buffer is full, the file ends or a read fails, and answers how many bytes lie at the front of the buffer.
+fn read_full<F: Read>(file: &mut F, buffer: &mut [u8]) -> usize
+    ensures { IsPrefixLen result buffer.new }
 {
     let mut done = 0;
     while done < buffer.len() {
-        let more = file.read(&mut buffer[done..])?;
+        let more = file.read(&mut buffer[done..]).unwrap_or(0);
         if more == 0 {
-            return Ok(done);
+            break;
         }
         done += more;
     }
-    Ok(done)
+    done
 }
 
 // Where two texts first differ; the length of the shorter if that is nowhere before its end.
@@ -72,21 +101,24 @@ fn first_difference(page: &[u8], stored: &[u8]) -> usize {
 }
 
 // Prints ok, or where the page differs from the stored one.
-fn print_difference<O: Write>(output: &mut O, page: &[u8], stored: &[u8]) -> io::Result<()> {
+fn print_difference<O: Write>(output: &mut O, page: &[u8], stored: &[u8]) {
     if page == stored {
-        return output.write_all(b" ok\n");
+        let _ = output.write_all(b" ok\n");
+        return;
     }
     let first = first_difference(page, stored);
-    writeln!(output, " differs from byte {first} on")
+    let _ = output.write_all(b" differs from byte ");
+    let _ = write!(output, "{first}");
+    let _ = output.write_all(b" on\n");
 }
 
 // One stored sheet.
-fn check_one<R: Files, O: Write>(files: &R, output: &mut O, name: &[u8]) -> io::Result<()> {
-    output.write_all(name)?;
+fn check_one<R: Files, O: Write, E: Write>(files: &R, output: &mut O, errors: &mut E, name: &[u8]) {
+    let _ = output.write_all(name);
     let mut sheet = [0u8; page::INPUT];
-    let bytes = read_stored(files, name, b".sheet", &mut sheet)?;
+    let bytes = read_stored(files, errors, name, b".sheet", &mut sheet);
     let mut stored = [0u8; page::PAGE + 1];
-    let length = read_stored(files, name, b".page", &mut stored)?;
+    let length = read_stored(files, errors, name, b".page", &mut stored);
     let mut text = [0u8; page::PAGE];
     match page::write_page(&sheet[..bytes], &mut text) {
         Writing::Written { length: end } => {
@@ -111,28 +143,28 @@ pub fn argument_count<E: Env>(env: &E) -> usize {
 
 // The name that an argument gives, at the front of the buffer, and how long it is. One that is too long is none of ours, and is read as no name.
 pub fn name_of<E: Env>(env: &E, argument: usize, name: &mut [u8; 32]) -> usize
-    ensures { result ≤ length name.new }
+    ensures { IsPrefixLen result name.new }
 {
     env.arg(argument, name).unwrap_or(0)
 }
 
 // Each stored sheet that the arguments name.
-pub fn check_all<R: Env + Files, O: Write>(rt: &R, output: &mut O) -> io::Result<()> {
+pub fn check_all<R: Env + Files, O: Write, E: Write>(rt: &R, output: &mut O, errors: &mut E) {
     let count = argument_count(rt);
     let mut i = 1;
     while i < count {
-        check_argument(rt, output, i)?;
+        check_argument(rt, output, errors, i);
         i += 1;
     }
-    Ok(())
 }
 
-fn check_argument<R: Env + Files, O: Write>(
+fn check_argument<R: Env + Files, O: Write, E: Write>(
     rt: &R,
     output: &mut O,
+    errors: &mut E,
     argument: usize,
-) -> io::Result<()> {
+) {
     let mut name = [0u8; 32];
     let length = name_of(rt, argument, &mut name);
-    check_one(rt, output, &name[..length])
+    check_one(rt, output, errors, &name[..length]);
 }

@@ -1,0 +1,3 @@
+-- What the contracts of `page_tests` cite.
+-- A count of bytes at the front of a buffer.
+pub mod Counts
