@@ -118,8 +118,8 @@ enum { LIMBATUE_TOGETHER = 0, LIMBATUE_APART = 1, LIMBATUE_SPENT = 2 };
 #define LIMBATUE_SQUADS_ANSWER 1
 #define LIMBATUE_FINER_COMPARE_ANSWER 3
 
-/* Bytes of stack that must be left where a call is made. Taken are, as measured: settle 131,480, settle with the marks 131,752, compare and finer compare 140,344,
- * prime form 127,560, finer prime form 127,544, walk 81,220 at most, page 214,392, shelf number 6,824, shelf field 9,728, squads 127,896, frequencies 150,360, the
+/* Bytes of stack that must be left where a call is made. Taken are, as measured: settle 123,128, settle with the marks 123,416, compare and finer compare 141,160,
+ * prime form 123,480, finer prime form 123,464, walk 74,352 at most, page 203,384, shelf number 6,600, shelf field 9,944, squads 128,920, frequencies 138,152, the
  * others under 256. Stated is each with 4,096 more, for memcpy, memset and the loader, which may be asked for them at a first call, and rounded up to pages of 4,096.
  * In the repository ./stack measures the archive again, and fails where under 4,096 are left. */
 #define LIMBATUE_VERSION_STACK 8192

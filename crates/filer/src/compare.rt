@@ -41,6 +41,8 @@ pub fn compare_in(sense: Sense, sheet: &[u8], first: usize, second: usize) -> Ve
 }
 
 // The verdict of a sense, of a sheet that was checked and settled in it, and any two field numbers.
+// Inlined: a call would copy what is settled once more, onto the stack.
+#[inline(always)]
 pub fn compare_settled(
     sense: Sense,
     sheet: &[u8],

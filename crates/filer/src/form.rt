@@ -45,6 +45,8 @@ pub fn form_in(sense: Sense, sheet: &[u8], field: usize, buffer: &mut [u64]) -> 
 }
 
 // The prime form of the sense in which a sheet was settled, of any field number and a buffer of any length.
+// Inlined: a call would copy what is settled once more, onto the stack.
+#[inline(always)]
 pub fn form_settled(
     sheet: &[u8],
     settlement: Settlement,
@@ -82,6 +84,8 @@ pub fn form_settled(
 }
 
 // The prime form of a field, by the final base of a sense: the first n counts of the array.
+// Inlined: a call would copy what is settled once more, onto the stack.
+#[inline(always)]
 pub fn prime_counts(sheet: &[u8], card: Card, base: Base, field: usize) -> [u64; 32]
     requires reads { Reads sheet.now card × Accepted sheet.now }
     requires base_at { (sense : model.Sense) × BaseAt sense sheet.now (settled_stage_in sense (card_of sheet.now)) base.rows }

@@ -18,6 +18,8 @@ pub struct Settlement {
 }
 
 // Any bytes: checked, and settled in a sense if they are accepted. A page of a sheet needs this once.
+// Inlined: a call would copy what is settled once more, onto the stack.
+#[inline(always)]
 pub fn settle_once(sense: Sense, sheet: &[u8]) -> Settlement
     ensures { IsSettlement (sense_of sense) sheet.now result }
 {

@@ -45,6 +45,8 @@ fn row_expands(marks: &[bool], rows: &[u32], norms: &[u32], kind: usize) -> bool
 }
 
 // Whether each of this many kinds that has a norm, and its row, may use lines of the same classes: "every row must".
+// Not inlined: its tables would stay on the stack of its caller.
+#[inline(never)]
 pub fn rows_expand(lines: &[u8], classes: &[u8], rows: &[u32], norms: &[u32], kinds: usize) -> bool
     requires line_table { LineTable lines.now × (lines_in lines.now ≤ length classes.now) }
     requires rows_len { (length rows.now ≡ 1024) × (kinds ≤ most_kinds) × (kinds ≤ length norms.now) }

@@ -83,6 +83,8 @@ fn start_relates(
 }
 
 // The least stage from 1 up at which the forms of two fields differ, where those of the settled stage do: from stage to stage down, up to the first at which they are the same.
+// Inlined: a call would copy what is settled once more, onto the stack.
+#[inline(always)]
 fn parting_form(settled: Settled, first: [u64; 32], second: [u64; 32]) -> usize
     requires le_stage { (1 ≤ settled.stage) × (settled.stage ≤ most_kinds) }
     requires by_index { (sense : model.Sense) × (s : List ℕ) × (i : ℕ) × (j : ℕ) × FormsPart sense s settled.stage i j settled.base.since settled.before first second }
@@ -106,6 +108,8 @@ fn parting_form(settled: Settled, first: [u64; 32], second: [u64; 32]) -> usize
 }
 
 // The least stage, up to the settled one, that does not relate two fields; one more than that where all of them relate the two.
+// Inlined: a call would copy what is settled once more, onto the stack.
+#[inline(always)]
 pub fn parted(
     sense: Sense,
     sheet: &[u8],

@@ -9,6 +9,8 @@ use sheet::Card;
 use tables::sense::Sense;
 
 // Of a sense: "the settled stage", "the final base" and what is kept of the stages, by the sheet of the reached part. The buffer has room for the longest sheet.
+// Inlined: a call would copy what is settled once more, onto the stack.
+#[inline(always)]
 pub fn settle_reached(sense: Sense, sheet: &[u8], card: Card, norms: [u32; 32]) -> Settled
     requires { Accepts sheet.now card norms }
     ensures { IsSettled (sense_of sense) sheet.now result }

@@ -50,6 +50,8 @@ fn line_classes(
 }
 
 // The first stage of a sense that is settled, from stage 1 on. Before it all rows are 0, and so are all classes.
+// Inlined: a call would copy what is settled once more, onto the stack.
+#[inline(always)]
 fn settle_lines(
     sense: Sense,
     sheet: &[u8],
@@ -86,6 +88,8 @@ fn settle_lines(
 }
 
 // Of a sense: "The settled stage is the least s from 1 up in which every related pair satisfies expansion", with its base and what is kept of the stages.
+// Inlined: a call would copy what is settled once more, onto the stack.
+#[inline(always)]
 pub fn settle(sense: Sense, sheet: &[u8], card: Card, norms: [u32; 32]) -> Settled
     requires { Accepts sheet.now card norms }
     ensures { IsSettled (sense_of sense) sheet.now result }
