@@ -22,19 +22,19 @@ put_settled-requires c =
 pub returns-in-Settled : goal.returns-in-Settled
 unfolding settle_told
 returns-in-Settled c =
-    let if1 = c.if-numbers-ne0 in
+    let none = c.if-numbers-ne0.false in
     let table-room = c.table_room-table in
     let settle-sheet = c.settle_sheet in
     told_as _ c.put_settled.ensures
     (ap told (settle_answered c.args.sheet.now table-room.result settle-sheet.new.table table-room.ensures settle-sheet.ensures.table_after c.in-Settled.stage c.in-Settled.ensures.result_value)
-    ∙ none_taken _ c.args.numbers.now if1.false)
+    ∙ none_taken _ c.args.numbers.now none)
 
 pub returns-in-Refused : goal.returns-in-Refused
 unfolding settle_told
 returns-in-Refused c =
-    let if1 = c.if-numbers-ne0 in
+    let no_number = c.if-numbers-ne0.false in
     let table-room = c.table_room-table in
     let settle-sheet = c.settle_sheet in
     told_as _ c.refuse.ensures
     (ap told (settle_refused c.args.sheet.now table-room.result settle-sheet.new.table table-room.ensures settle-sheet.ensures.table_after _ _ c.in-Refused.ensures.result_value)
-    ∙ none_taken _ c.args.numbers.now if1.false)
+    ∙ none_taken _ c.args.numbers.now no_number)
