@@ -1,7 +1,7 @@
 # What ./page, ./walk, ./query and ./install share; each sources it. $here is the folder of the command's own file, symbolic links followed: the repository, or PREFIX/bin of an
 # installed command, which never builds.
 #
-# A Rattle program has no exit status: what it says on standard error tells how it ended. Nothing: done. Lines that begin with its own name and a colon: input or output failed. A line that
+# The programs always end with status 0: what one says on standard error tells how it ended. Nothing: done. Lines that begin with its own name and a colon: input or output failed. A line that
 # begins `usage: `: its words are no call. Any other line, alone: the sentence of a refusal.
 # shellcheck shell=sh
 set -uf
