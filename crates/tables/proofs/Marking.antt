@@ -1,6 +1,6 @@
 -- The loops that mark the classes of the lines of each kind, that add such marks, and that compare them.
 -- Assumes nothing.
-use mathlib.Core.Bool.{Bool, true, false, not, beq}
+use mathlib.Core.Bool.{Bool, true, false}
 use mathlib.Core.List.{List}
 use mathlib.Core.Logic.{◌↔◌, ◌⊎◌, inl, inr, ⊎_elim}
 use mathlib.Core.Path.{◌≡◌, refl, sym, subst, ap, ◌∙◌}
@@ -17,7 +17,7 @@ use Rattle.theory.proofs.Done.{none_done}
 use Rattle.tables.specs.Table.{Under}
 use Rattle.tables.specs.Lines.{lines_in, kind_in}
 use Rattle.tables.specs.Class.{MayUse, AlikeIn, MarksTell, marks_part, KindMarks}
-use Rattle.tables.proofs.Tables.{tells_same, tells_other, past, unit_here}
+use Rattle.tables.proofs.Tables.{tells_same, past, unit_here}
 use Rattle.tables.proofs.Answers.{not_both}
 
 -- No mark stands past the end of a list, and none in a list that has none.
@@ -218,37 +218,6 @@ module _ {marks : List Bool} {field : List ℕ} {k : ℕ} {sum : List Bool} (h :
               (kind_in lines u.0, p, u.2, (K.tells (kind_in lines u.0) (omega (arith, h.within, h.few)) x).1 (u.0, u.1, omega (arith, unit_here (kind_in lines u.0) (kind_in lines u.0) refl), u.3))
           go (no p) = absurd (omega (arith, u.2, past field (kind_in lines u.0) (omega arith)))
 
--- Two lists of marks are compared below i.
-pub record Compared (a b : List Bool) (same : Bool) (i : ℕ) : Type 0 where
-  pub within : i ≤ length a
-  pub lengths : length a ≡ length b
-  pub tells : (same ≡ true) ↔ ((x : ℕ) → x < i → get_or a x false ≡ get_or b x false)
-
-pub compared_none : {a b : List Bool} → length a ≡ length b → Compared a b true 0
-compared_none e = record { within = omega arith; lengths = e; tells = tells_same (λ x l. absurd (omega arith)) }
-
-module _ {a b : List Bool} {same : Bool} {i : ℕ} (h : Compared a b same i) where
-  pub compared_other : i < length a → (get_or a i false ≡ get_or b i false → ⊥) → Compared a b false (i + 1)
-  compared_other l d = record { within = omega arith; lengths = h.lengths; tells = tells_other (λ f. d (f i (omega arith))) }
-
-  pub compared_same : i < length a → get_or a i false ≡ get_or b i false → Compared a b same (i + 1)
-  compared_same l e =
-      record { within = omega arith; lengths = h.lengths; tells = (λ t x p. go t x p (ℕ_discrete x i), λ f. h.tells.1 (λ x p. f x (omega arith))) }
-    where
-      go : same ≡ true → (x : ℕ) → x < i + 1 → Dec (x ≡ i) → get_or a x false ≡ get_or b x false
-      go t x p (yes q) = rw q e
-      go t x p (no q) = h.tells.0 t x (omega arith)
-
-  pub compared_all : length a ≤ i → (same ≡ true) ↔ (a ≡ b)
-  compared_all l = (
-    λ t. ext_get_or false a b h.lengths (λ x p. h.tells.0 t x (omega arith)),
-    λ e. h.tells.1 (λ x _. ap (λ (xs : List Bool). get_or xs x false) e),
-  )
-
--- A difference of lengths.
-pub lengths_differ : {a b : List Bool} → (length a ≡ length b → ⊥) → (false ≡ true) ↔ (a ≡ b)
-lengths_differ d = tells_other (λ e. d (ap length e))
-
 -- Marks of two fields are the same just when the fields may use lines of the same classes.
 marks_tell : {a b : List Bool} {P Q : ℕ → Type 0} → length a ≡ length b → ((x : ℕ) → (get_or a x false ≡ true) ↔ P x) → ((x : ℕ) → (get_or b x false ≡ true) ↔ Q x)
     → (a ≡ b) ↔ ((x : ℕ) → P x ↔ Q x)
@@ -277,16 +246,3 @@ uses_tell {own = own} {other = other} {marks = marks} {lines = lines} {classes =
 
     m : (own ≡ other) ↔ AlikeIn lines classes (unit k) f
     m = marks_tell (marks_long marks k (omega (arith, K.long)) e ∙ sym long) own_tell p
-
--- What a comparison of two marks says.
-pub marks_other : (s t : Bool) → not (beq s t) ≡ true → s ≡ t → ⊥
-marks_other true true e _ = let z : ◌≡◌ {A = ℕ} 0 1 = cc in omega arith
-marks_other true false _ e = let z : ◌≡◌ {A = ℕ} 0 1 = cc in omega arith
-marks_other false true _ e = let z : ◌≡◌ {A = ℕ} 0 1 = cc in omega arith
-marks_other false false e _ = let z : ◌≡◌ {A = ℕ} 0 1 = cc in omega arith
-
-pub marks_same : (s t : Bool) → not (beq s t) ≡ false → s ≡ t
-marks_same true true e = refl
-marks_same true false e = let z : ◌≡◌ {A = ℕ} 0 1 = cc in absurd (omega arith)
-marks_same false true e = let z : ◌≡◌ {A = ℕ} 0 1 = cc in absurd (omega arith)
-marks_same false false e = refl

@@ -1,6 +1,6 @@
 -- The loop that finds a candidate for a row: what one line leaves, with a token of another's kind, less what that other leaves.
 -- Assumes nothing.
-use mathlib.Core.Bool.{Bool, true, false}
+use mathlib.Core.Bool.{true, false}
 use mathlib.Core.List.{List}
 use mathlib.Core.Path.{◌≡◌, refl, ◌∙◌, fun_ext}
 use Prim.Native.Nat.{ℕ, ◌+◌, ◌^◌, ◌≤◌, ◌<◌}
@@ -8,10 +8,11 @@ use native.Mathlib.Decide.{ℕ_discrete}
 use native.Mathlib.Omega.{arith}
 use lib.ListN.{length, set, replicate, length-set}
 use lib.Seq.{get_or-set_same, get_or-set_other}
+use Rattle.std.specs.Prelude.{Option}
 use Rattle.model.specs.Field.{Field, ◌⊕◌, unit, at}
 use Rattle.model.specs.Limits.{most_kinds}
 use Rattle.theory.proofs.Field.{unit_other}
-use Rattle.tables.specs.Table.{row_part, row_in, IsCandidate}
+use Rattle.tables.specs.Table.{row_part, row_in, IsCandidate, CandidateIs}
 use Rattle.tables.proofs.Tables.{at_kind, Agree, agree_none, agree_all, past, zero_counts, lent_row}
 
 -- The counts below i are those of the second side less m's, and no others are set.
@@ -60,6 +61,6 @@ subtracted_not i h =
     }
 
 -- The candidate of the rows that hold two lines' forms.
-pub told_candidate : {own other : List ℕ} {kind : ℕ} {found : Bool} {counts : List ℕ} (forms : List ℕ) (l m : ℕ) → own ≡ row_part forms l → other ≡ row_part forms m
-    → IsCandidate (at own) (at other) kind found counts → IsCandidate (row_in forms l) (row_in forms m) kind found counts
-told_candidate forms l m p q C = rw (lent_row forms l p, lent_row forms m q) at C
+pub told_candidate : {own other : List ℕ} (forms : List ℕ) (l m kind : ℕ) (told : Option (List ℕ)) → own ≡ row_part forms l → other ≡ row_part forms m
+    → CandidateIs (at own) (at other) kind told → CandidateIs (row_in forms l) (row_in forms m) kind told
+told_candidate forms l m kind told p q C = rw (lent_row forms l p, lent_row forms m q) at C

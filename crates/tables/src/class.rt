@@ -5,7 +5,7 @@ ghost use Rattle.tables.specs.Match.{NoneBefore, Bounds, LeastMatch, TellsMatch,
 
 use crate::effect::same_effect;
 use crate::lines::{code_of, kind_of};
-use crate::table::{form_of, row_of};
+use crate::table::row_of;
 
 // Whether two lines match: the same code and the same effect.
 pub fn lines_match(lines: &[u8], rows: &[u32], forms: &[u64], line: usize, other: usize) -> bool
@@ -19,9 +19,9 @@ pub fn lines_match(lines: &[u8], rows: &[u32], forms: &[u64], line: usize, other
     let kind = kind_of(lines, line);
     let its = kind_of(lines, other);
     same_effect(
-        form_of(forms, line),
+        row_of(forms, line),
         row_of(rows, its),
-        form_of(forms, other),
+        row_of(forms, other),
         row_of(rows, kind),
     )
 }
@@ -33,12 +33,10 @@ pub fn class_of(lines: &[u8], rows: &[u32], forms: &[u64], start: usize, line: u
     requires none_before { NoneBefore (MatchIn lines.now rows.now forms.now) line start }
     ensures { LeastMatch (MatchIn lines.now rows.now forms.now) line result }
 {
-    let mut earlier = start;
-    while earlier < line {
+    for earlier in start..line {
         if lines_match(lines, rows, forms, earlier, line) {
             return earlier;
         }
-        earlier += 1;
     }
     line
 }
@@ -49,15 +47,13 @@ pub fn classes(lines: &[u8], rows: &[u32], forms: &[u64], bounds: &[u8]) -> [u8;
     requires lines_in_bounds { lines_in lines.now ≤ length bounds.now }
     requires bounds { Bounds (MatchIn lines.now rows.now forms.now) (lines_in lines.now) bounds.now }
     ensures tells_match { TellsMatch (MatchIn lines.now rows.now forms.now) (lines_in lines.now) result }
-    ensures bounds_2 { Bounds (MatchIn lines.now rows.now forms.now) (lines_in lines.now) result }
+    ensures class_bounds { Bounds (MatchIn lines.now rows.now forms.now) (lines_in lines.now) result }
 {
     let count = lines.len() / 3;
     let mut numbers = [0u8; 256];
-    let mut line = 0;
-    while line < count {
-        let start = bounds[line] as usize;
+    for line in 0..count {
+        let start = usize::from(bounds[line]);
         numbers[line] = class_of(lines, rows, forms, start, line) as u8;
-        line += 1;
     }
     numbers
 }

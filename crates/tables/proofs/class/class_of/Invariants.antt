@@ -1,10 +1,6 @@
 -- No line before the one at hand matches.
-use Prim.Native.Nat.{◌-◌}
 use Rattle.tables.specs.Match.{NoneBefore, MatchIn}
 use Rattle.tables.proofs.class.class_of.Given as goal
 
 abbrev pub invariant-loop-earlier : goal.invariant-loop-earlier
 invariant-loop-earlier l = NoneBefore (MatchIn l.lines l.rows l.forms) l.line l.earlier
-
-abbrev pub decreases-loop-earlier : goal.decreases-loop-earlier
-decreases-loop-earlier l = l.line - l.earlier

@@ -1,4 +1,3 @@
-use mathlib.Core.Path.{sym}
 use native.Mathlib.Omega.{arith}
 use Rattle.tables.proofs.Marking.{field_marked_none, field_marked_some, field_marked_skip, field_marked_all, marks_long}
 use Rattle.tables.proofs.marks.marks_of_field.Goals as goal
@@ -6,14 +5,6 @@ use Rattle.tables.proofs.marks.marks_of_field.Goals.{then-count-gt0, else-count-
 
 pub loop-kind-init : goal.loop-kind-init
 loop-kind-init c = field_marked_none c.requires.1
-
-pub slice_bounds-add_marks-end : goal.slice_bounds-add_marks-end
-slice_bounds-add_marks-end c =
-    sym c.loop-kind.invariant.size
-
-pub marks_of_kind-requires : goal.marks_of_kind-requires
-marks_of_kind-requires c =
-    omega (arith, c.requires.0, c.requires.1, c.loop-kind-test.true)
 
 pub add_marks-requires : goal.add_marks-requires
 add_marks-requires c =
