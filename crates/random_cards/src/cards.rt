@@ -4,9 +4,8 @@
 // kinds no field has a token of the last kinds, and no line is there to clear these: most of them are out, and may have no norm; some are reached by
 // a line.
 ghost use Rattle.std.specs.Prelude.{◌≤◌, ◌<◌};
-ghost use Rattle.random_cards.specs.Shapes.{Small};
 
-use crate::random::{pick, pick_high, reduce};
+use crate::random::{pick, pick_high};
 use crate::writing::{put, put_header, put_number};
 
 // The numbers of a card. Kind k has the number (k + shift) % kinds on the sheet. The lines that clear a kind leave nothing on a `flat` card. On
@@ -24,6 +23,12 @@ struct Shape {
     flat: bool,
     chain: bool,
     loose: bool,
+    ghost few_kinds: { (1 ≤ kinds) × (kinds ≤ 4) },
+    ghost few_codes: { (1 ≤ codes) × (codes ≤ 3) },
+    ghost few_lines: { lines ≤ 8 },
+    ghost few_fields: { fields ≤ 4 },
+    ghost shift_in_kinds: { shift < kinds },
+    ghost held_in_kinds: { (1 ≤ held) × (held ≤ kinds) },
 }
 
 // How many of the kinds the fields may have: mostly all.
@@ -38,9 +43,7 @@ fn held_of(seed: u64, kinds: usize) -> usize
 }
 
 // The numbers that a seed gives.
-fn shape_of(seed: u64) -> Shape
-    ensures { Small result }
-{
+fn shape_of(seed: u64) -> Shape {
     let kinds = 1 + pick_high(seed, 0, 4);
     let manner = pick(seed, 1, 16);
     Shape {
@@ -59,7 +62,7 @@ fn shape_of(seed: u64) -> Shape
 
 // The kind of a line.
 fn kind_of(shape: Shape, line: usize) -> usize
-    requires { Small shape × (line < 8) }
+    requires { line < 8 }
     ensures { result < shape.kinds }
 {
     if shape.loose {
@@ -69,14 +72,14 @@ fn kind_of(shape: Shape, line: usize) -> usize
         return line;
     }
     if shape.chain {
-        return reduce(line + 1 - shape.held, shape.kinds);
+        return (line + 1 - shape.held) % shape.kinds;
     }
     pick(shape.seed, 10 + line, shape.kinds)
 }
 
 // The code of a line: mostly the first for a line that clears a kind, and the second for one of a chain.
 fn code_of(shape: Shape, line: usize) -> usize
-    requires { Small shape × (line < 8) }
+    requires { line < 8 }
     ensures { result < shape.codes }
 {
     if pick(shape.seed, 20 + line, 4) == 0 {
@@ -86,7 +89,7 @@ fn code_of(shape: Shape, line: usize) -> usize
         return 0;
     }
     if shape.chain {
-        return reduce(1, shape.codes);
+        return 1 % shape.codes;
     }
     pick(shape.seed, 30 + line, shape.codes)
 }
@@ -95,7 +98,7 @@ fn code_of(shape: Shape, line: usize) -> usize
 fn one_of(own: usize, kind: usize) -> usize
     ensures { result ≤ 1 }
 {
-    if own == kind { 1 } else { 0 }
+    usize::from(own == kind)
 }
 
 // One token where the seed has 0 below a limit, else none.
@@ -108,7 +111,7 @@ fn token(shape: Shape, place: usize, limit: usize) -> usize
 
 // Of how many lines one leaves a token of a kind. A kind that fields do not have is mostly left by lines of such kinds, and so is rarely reached.
 fn one_in(shape: Shape, line: usize, kind: usize) -> usize
-    requires { Small shape × (line < 8) }
+    requires { line < 8 }
     ensures { 0 < result }
 {
     if kind < shape.held {
@@ -122,7 +125,7 @@ fn one_in(shape: Shape, line: usize, kind: usize) -> usize
 
 // How many tokens of a kind a line leaves.
 fn left_by(shape: Shape, line: usize, kind: usize) -> usize
-    requires { Small shape × (line < 8) × (kind < 4) }
+    requires { (line < 8) × (kind < 4) }
     ensures { result ≤ 1 }
 {
     let place = 40 + line * 4 + kind;
@@ -131,7 +134,7 @@ fn left_by(shape: Shape, line: usize, kind: usize) -> usize
     }
     if shape.held <= line {
         if shape.chain {
-            return one_of(reduce(line - shape.held, shape.kinds), kind);
+            return one_of((line - shape.held) % shape.kinds, kind);
         }
         return token(shape, place, one_in(shape, line, kind));
     }
@@ -143,7 +146,7 @@ fn left_by(shape: Shape, line: usize, kind: usize) -> usize
 
 // How many tokens of a kind a field has.
 fn tokens_of(shape: Shape, field: usize, kind: usize) -> usize
-    requires { Small shape × (field < 4) × (kind < 4) }
+    requires { (field < 4) × (kind < 4) }
     ensures { result ≤ 3 }
 {
     if shape.held <= kind {
@@ -166,7 +169,7 @@ fn tokens_of(shape: Shape, field: usize, kind: usize) -> usize
 
 // Where a line starts; for the number of lines, where the fields start.
 fn line_start(shape: Shape, line: usize) -> usize
-    requires { Small shape × (line ≤ 8) }
+    requires { line ≤ 8 }
     ensures { result ≤ 68 }
 {
     20 + line * (2 + shape.kinds)
@@ -174,7 +177,7 @@ fn line_start(shape: Shape, line: usize) -> usize
 
 // Where a field starts; for the number of fields, where the sheet ends.
 fn field_start(shape: Shape, field: usize) -> usize
-    requires { Small shape × (field ≤ 4) }
+    requires { field ≤ 4 }
     ensures { result ≤ 100 }
 {
     line_start(shape, shape.lines) + 2 * (shape.kinds * field)
@@ -182,65 +185,49 @@ fn field_start(shape: Shape, field: usize) -> usize
 
 // A line is written.
 fn put_line(shape: Shape, line: usize, out: &mut [u8; 128])
-    requires { Small shape × (line < 8) }
+    requires { line < 8 }
 {
     let start = line_start(shape, line);
     put(
         out,
         start,
-        reduce(kind_of(shape, line) + shape.shift, shape.kinds),
+        (kind_of(shape, line) + shape.shift) % shape.kinds,
     );
     put(out, start + 1, code_of(shape, line));
-    let kinds = shape.kinds;
-    let mut k = 0;
-    while k < kinds {
+    for k in 0..shape.kinds {
         put(
             out,
-            start + 2 + reduce(k + shape.shift, kinds),
+            start + 2 + (k + shape.shift) % shape.kinds,
             left_by(shape, line, k),
         );
-        k += 1;
     }
 }
 
 // A field is written.
 fn put_field(shape: Shape, field: usize, out: &mut [u8; 128])
-    requires { Small shape × (field < 4) }
+    requires { field < 4 }
 {
     let start = field_start(shape, field);
-    let kinds = shape.kinds;
-    let mut k = 0;
-    while k < kinds {
+    for k in 0..shape.kinds {
         put_number(
             out,
-            start + 2 * reduce(k + shape.shift, kinds),
+            start + 2 * ((k + shape.shift) % shape.kinds),
             tokens_of(shape, field, k),
         );
-        k += 1;
     }
 }
 
 // The lines are written.
-fn put_lines(shape: Shape, out: &mut [u8; 128])
-    requires { Small shape }
-{
-    let lines = shape.lines;
-    let mut j = 0;
-    while j < lines {
-        put_line(shape, j, out);
-        j += 1;
+fn put_lines(shape: Shape, out: &mut [u8; 128]) {
+    for line in 0..shape.lines {
+        put_line(shape, line, out);
     }
 }
 
 // The fields are written.
-fn put_fields(shape: Shape, out: &mut [u8; 128])
-    requires { Small shape }
-{
-    let fields = shape.fields;
-    let mut i = 0;
-    while i < fields {
-        put_field(shape, i, out);
-        i += 1;
+fn put_fields(shape: Shape, out: &mut [u8; 128]) {
+    for field in 0..shape.fields {
+        put_field(shape, field, out);
     }
 }
 
