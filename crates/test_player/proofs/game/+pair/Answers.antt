@@ -7,7 +7,7 @@ use Rattle.second_reader.proofs.Counts.{after_fits}
 use Rattle.test_player.specs.Played.{counted_of}
 use Rattle.test_player.proofs.Pairs.{pair_spent, pair_uneven, pair_zero}
 use Rattle.test_player.proofs.Lines.{runs_start, runs_next, runs_end, challenge_played, challenge_passed, reply_played, reply_passed, left_first, left_second, pair_sides}
-use Rattle.test_player.proofs.game.+challenge_holds_every_challenge_pair_holds_reply_holds_some_reply.Goals as goal
+use Rattle.test_player.proofs.game.+pair.Goals as goal
 
 -- A line in a loop is one of the sheet's.
 line_under : {line count all : ℕ} → line < count → count ≡ all → line < all
@@ -31,22 +31,22 @@ challenge_holds-returns-else-may_use t c = challenge_passed _ _ _ _ _ _ c.may_us
 
 -- The challenges in line order.
 pub every_challenge-loop-line-init : goal.every_challenge-loop-line-init
-every_challenge-loop-line-init t c = (omega arith, runs_start (challenges _ _ _ _) _ _)
+every_challenge-loop-line-init t c = runs_start (challenges _ _ _ _) _ _
 
 pub every_challenge-returns-in-Fails : goal.every_challenge-returns-in-Fails
 every_challenge-returns-in-Fails t c =
-    runs_next (challenges _ _ _ _) _ _ _ c.loop-line.invariant.1 (line_under c.loop-line-test.true c.lines-count.ensures.0) c.challenge_holds.ensures (ap counted_of c.in-Fails.is)
+    runs_next (challenges _ _ _ _) _ _ _ c.loop-line.invariant (line_under c.loop-line-test.true c.lines-line-end.ensures.0) c.challenge_holds.ensures (ap counted_of c.in-Fails.is)
 
 pub every_challenge-returns-in-Spent : goal.every_challenge-returns-in-Spent
 every_challenge-returns-in-Spent t c =
-    runs_next (challenges _ _ _ _) _ _ _ c.loop-line.invariant.1 (line_under c.loop-line-test.true c.lines-count.ensures.0) c.challenge_holds.ensures (ap counted_of c.in-Spent.is)
+    runs_next (challenges _ _ _ _) _ _ _ c.loop-line.invariant (line_under c.loop-line-test.true c.lines-line-end.ensures.0) c.challenge_holds.ensures (ap counted_of c.in-Spent.is)
 
 pub every_challenge-loop-line-preserved : goal.every_challenge-loop-line-preserved
 every_challenge-loop-line-preserved t c =
-    (omega arith, runs_next (challenges _ _ _ _) _ _ _ c.loop-line.invariant.1 (line_under c.loop-line-test.true c.lines-count.ensures.0) c.challenge_holds.ensures (ap counted_of c.in-Holds.is))
+    runs_next (challenges _ _ _ _) _ _ _ c.loop-line.invariant (line_under c.loop-line-test.true c.lines-line-end.ensures.0) c.challenge_holds.ensures (ap counted_of c.in-Holds.is)
 
 pub every_challenge-returns : goal.every_challenge-returns
-every_challenge-returns t c = runs_end (challenges _ _ _ _) _ _ _ c.loop-line.invariant.1 (omega (arith, c.lines-count.ensures))
+every_challenge-returns t c = runs_end (challenges _ _ _ _) _ _ _ c.loop-line.invariant (omega (arith, c.lines-line-end.ensures))
 
 -- A pair: what is looked at first, the first side's challenges at a round less, and then the second's.
 pub pair_holds-returns-then-budget-eq0 : goal.pair_holds-returns-then-budget-eq0
@@ -105,19 +105,19 @@ reply_holds-returns-else-may_reply t c = reply_passed _ _ _ _ _ _ c.may_reply.en
 
 -- The replies in line order.
 pub some_reply-loop-line-init : goal.some_reply-loop-line-init
-some_reply-loop-line-init t c = (omega arith, runs_start (replies _ _ _ _) _ _)
+some_reply-loop-line-init t c = runs_start (replies _ _ _ _) _ _
 
 pub some_reply-returns-in-Holds : goal.some_reply-returns-in-Holds
 some_reply-returns-in-Holds t c =
-    runs_next (replies _ _ _ _) _ _ _ c.loop-line.invariant.1 (line_under c.loop-line-test.true c.lines-count.ensures.0) c.reply_holds.ensures (ap counted_of c.in-Holds.is)
+    runs_next (replies _ _ _ _) _ _ _ c.loop-line.invariant (line_under c.loop-line-test.true c.lines-line-end.ensures.0) c.reply_holds.ensures (ap counted_of c.in-Holds.is)
 
 pub some_reply-returns-in-Spent : goal.some_reply-returns-in-Spent
 some_reply-returns-in-Spent t c =
-    runs_next (replies _ _ _ _) _ _ _ c.loop-line.invariant.1 (line_under c.loop-line-test.true c.lines-count.ensures.0) c.reply_holds.ensures (ap counted_of c.in-Spent.is)
+    runs_next (replies _ _ _ _) _ _ _ c.loop-line.invariant (line_under c.loop-line-test.true c.lines-line-end.ensures.0) c.reply_holds.ensures (ap counted_of c.in-Spent.is)
 
 pub some_reply-loop-line-preserved : goal.some_reply-loop-line-preserved
 some_reply-loop-line-preserved t c =
-    (omega arith, runs_next (replies _ _ _ _) _ _ _ c.loop-line.invariant.1 (line_under c.loop-line-test.true c.lines-count.ensures.0) c.reply_holds.ensures (ap counted_of c.in-Fails.is))
+    runs_next (replies _ _ _ _) _ _ _ c.loop-line.invariant (line_under c.loop-line-test.true c.lines-line-end.ensures.0) c.reply_holds.ensures (ap counted_of c.in-Fails.is)
 
 pub some_reply-returns : goal.some_reply-returns
-some_reply-returns t c = runs_end (replies _ _ _ _) _ _ _ c.loop-line.invariant.1 (omega (arith, c.lines-count.ensures))
+some_reply-returns t c = runs_end (replies _ _ _ _) _ _ _ c.loop-line.invariant (omega (arith, c.lines-line-end.ensures))
