@@ -31,6 +31,7 @@ fn field_in(table: &[u64; 561], kinds: &[usize], size: usize, number: u64) -> [u
     let mut i = kinds.len();
     let mut left = size;
     let mut rest = number;
+    // A while over two counters: a turn passes over a kind or takes a token.
     while 0 < left {
         let without = entry_in(table, i - 1, left);
         if rest < without {

@@ -18,13 +18,6 @@ fn with_fewer(table: &[u64; 561], kinds: usize, tokens: usize, count: usize) -> 
     entry_in(table, kinds, tokens) - entry_in(table, kinds, tokens - count)
 }
 
-// A count as a number of tokens.
-fn wide(count: u32) -> usize
-    ensures { result ≡ count }
-{
-    count as usize
-}
-
 // The number of a field among those of its size, which it is one of, over kinds in number order.
 pub fn number_of(kinds: &[usize], field: &[u32; 32], size: usize) -> u64
     requires in_order { InOrder kinds.now }
@@ -46,13 +39,11 @@ fn number_in(table: &[u64; 561], kinds: &[usize], field: &[u32; 32], size: usize
 {
     let mut number: u64 = 0;
     let mut left = size;
-    let mut i = kinds.len();
-    while 0 < i {
-        let kind = kinds[i - 1];
-        let count = wide(field[kind]);
-        number += with_fewer(table, i, left, count);
+    for i in (0..kinds.len()).rev() {
+        let kind = kinds[i];
+        let count = field[kind] as usize;
+        number += with_fewer(table, i + 1, left, count);
         left -= count;
-        i -= 1;
     }
     number
 }
