@@ -23,7 +23,7 @@ pub fn passes(
     own: &[u8],
     kind: usize,
 ) -> bool
-    requires cases { MatchTables lines.now rows.now forms.now }
+    requires tables { MatchTables lines.now rows.now forms.now }
     requires kind_lt_most_kinds { (kind < most_kinds) × (length marks.now ≡ 8192) }
     requires lists { Lists (UsableIn lines.now (unit kind)) own.now }
     ensures { (classes : List ℕ) → KindMarks lines.now classes marks.now → (result ≡ true) ↔ Passes (sense_of sense) lines.now rows.now forms.now classes kind }

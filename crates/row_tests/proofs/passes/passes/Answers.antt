@@ -19,7 +19,7 @@ use Rattle.row_tests.proofs.passes.passes.Goals.{After-row_of-row, After-shares_
 -- The row is as long as there are kinds.
 row_long : (c : After-row_of-row) → length c.row_of-row.result.now ≡ most_kinds
 row_long c =
-    lent_length c.args.rows.now c.args.kind (omega (arith, c.requires.cases.rows_long, c.requires.kind_lt_most_kinds.0)) c.row_of-row.ensures
+    lent_length c.args.rows.now c.args.kind (omega (arith, c.requires.tables.rows_long, c.requires.kind_lt_most_kinds.0)) c.row_of-row.ensures
 
 pub shares_total-requires : goal.shares_total-requires
 shares_total-requires c = row_long (goal.at.shares_total-requires c).After-row_of-row
