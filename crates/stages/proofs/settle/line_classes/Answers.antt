@@ -28,4 +28,4 @@ returns c =
     let ok = c.requires.reads.1 in
     let L = c.requires.lines_are in
     let forms = c.all_forms in
-    let told = c.classes in record { classes = (λ sense q base. (classes_at sense L reads ok q base forms.ensures told.result told.ensures.tells_match, bounds_at sense L reads ok q base forms.ensures told.result told.ensures.bounds_2)); form_table = record { long = forms.auto.forms ∙ c.requires.by_index.2.table.long; small = forms.ensures.small } }
+    let told = c.classes in record { classes = (λ sense q base. (classes_at sense L reads ok q base forms.ensures told.result told.ensures.tells_match, bounds_at sense L reads ok q base forms.ensures told.result told.ensures.class_bounds)); form_table = record { long = forms.auto.forms ∙ c.requires.by_index.2.table.long; small = forms.ensures.small } }
