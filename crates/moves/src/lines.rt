@@ -35,6 +35,7 @@ pub fn next_reply(
 {
     let code = row_entry(sheet, card, challenge);
     let mut line = following(table, from, code);
+    // A while: the table leads from line to line, and passes over those of other codes.
     while line < to {
         if may_use(sheet, card, line, field) {
             return line;
