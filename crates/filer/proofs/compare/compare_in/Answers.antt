@@ -1,5 +1,13 @@
--- The settlement is the sheet's.
+-- The settlement is the sheet's, or the sheet is refused.
+use Rattle.std.proofs.Common.{◌∙◌}
+use Rattle.filer.proofs.Settlements.{compare_refuses_sheet}
 use Rattle.filer.proofs.compare.compare_in.Goals as goal
 
-pub returns : goal.returns
-returns c = c.compare_settled.ensures
+pub compare_settled-requires : goal.compare_settled-requires
+compare_settled-requires c = c.in-Ok.ensures
+
+pub returns-in-Ok : goal.returns-in-Ok
+returns-in-Ok c = c.compare_settled.ensures
+
+pub returns-in-Err : goal.returns-in-Err
+returns-in-Err c = c.from.ensures ∙ compare_refuses_sheet _ _ _ c.in-Err.ensures _ _ _
