@@ -28,7 +28,7 @@ fn class_at(
     if place == 0 {
         return line;
     }
-    let other = list[place - 1] as usize;
+    let other = usize::from(list[place - 1]);
     if lines_match(lines, rows, forms, other, line) {
         return other;
     }
@@ -56,7 +56,7 @@ fn join(
     requires firsts { Firsts (MatchIn lines.now rows.now forms.now) (PrecedesIn lines.now rows.now forms.now) (take count list.old) line }
     ensures least_match { LeastMatch (MatchIn lines.now rows.now forms.now) line result.class }
     ensures count_bound { result.count ≤ line + 1 }
-    ensures firsts_2 { Firsts (MatchIn lines.now rows.now forms.now) (PrecedesIn lines.now rows.now forms.now) (take result.count list.new) (line + 1) }
+    ensures firsts_with_it { Firsts (MatchIn lines.now rows.now forms.now) (PrecedesIn lines.now rows.now forms.now) (take result.count list.new) (line + 1) }
 {
     let place = place_of(lines, rows, forms, &list[..count], line);
     let class = class_at(lines, rows, forms, &list[..count], place, line);
@@ -64,10 +64,9 @@ fn join(
         return Joined { class, count };
     }
     insert(list, count, place, line as u8);
-    let more = count + 1;
     Joined {
         class: line,
-        count: more,
+        count: count + 1,
     }
 }
 
@@ -81,12 +80,10 @@ pub fn ordered_classes(lines: &[u8], rows: &[u32], forms: &[u64]) -> [u8; 256]
     let mut numbers = [0u8; 256];
     let mut list = [0u8; 256];
     let mut found = 0;
-    let mut line = 0;
-    while line < count {
+    for line in 0..count {
         let joined = join(lines, rows, forms, &mut list, found, line);
         numbers[line] = joined.class as u8;
         found = joined.count;
-        line += 1;
     }
     numbers
 }
@@ -96,15 +93,10 @@ const MANY: usize = 48;
 
 // Whether many lines have the bound of the first, as all have at stage 1.
 fn many_alike(bounds: &[u8]) -> bool {
-    let mut number = 0;
-    let mut line = 0;
-    while line < bounds.len() {
-        if bounds[line] == bounds[0] {
-            number += 1;
-        }
-        line += 1;
-    }
-    MANY < number
+    let Some(first) = bounds.first() else {
+        return false;
+    };
+    MANY < bounds.iter().filter(|bound| *bound == first).count()
 }
 
 // The classes of all lines: two lines match just when their classes are the same number. No class is before the bound of its line.
@@ -113,7 +105,7 @@ pub fn classes_within(lines: &[u8], rows: &[u32], forms: &[u64], bounds: &[u8]) 
     requires lines_in_bounds { lines_in lines.now ≤ length bounds.now }
     requires bounds { Bounds (MatchIn lines.now rows.now forms.now) (lines_in lines.now) bounds.now }
     ensures tells_match { TellsMatch (MatchIn lines.now rows.now forms.now) (lines_in lines.now) result }
-    ensures bounds_2 { Bounds (MatchIn lines.now rows.now forms.now) (lines_in lines.now) result }
+    ensures class_bounds { Bounds (MatchIn lines.now rows.now forms.now) (lines_in lines.now) result }
 {
     let count = lines.len() / 3;
     if many_alike(&bounds[..count]) {

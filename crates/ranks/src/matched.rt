@@ -11,23 +11,20 @@ use crate::precedes::precedes;
 use crate::sort::sorted;
 use tables::class::lines_match;
 
-// The first place of a list, from `from` on, whose entry does not come before the line; the list's length where there is none.
+// How far the entries of a list, from `from` on, come before the line: the first place whose entry does not, and the end of the list where all do.
 fn skip(lines: &[u8], rows: &[u32], forms: &[u64], others: &[u8], from: usize, line: usize) -> usize
     requires cases { MatchTables lines.now rows.now forms.now }
     requires lines_of { LinesOf lines.now others.now × (line < lines_in lines.now) }
     requires from_in_bounds { from ≤ length others.now }
     ensures { FirstNotBefore (PrecedesIn lines.now rows.now forms.now) others.now from line result }
 {
-    let mut place = from;
-    while place < others.len() {
-        let other = others[place] as usize;
-        if precedes(lines, rows, forms, other, line) {
-            place += 1;
-        } else {
+    for place in from..others.len() {
+        let other = usize::from(others[place]);
+        if !precedes(lines, rows, forms, other, line) {
             return place;
         }
     }
-    place
+    others.len()
 }
 
 // Whether the list has an entry at the place, and the line matches it.
@@ -44,7 +41,7 @@ fn is_match_at(
     ensures { (result ≡ true) ↔ ((place < length others.now) × MatchIn lines.now rows.now forms.now line (at others.now place)) }
 {
     if place < others.len() {
-        let other = others[place] as usize;
+        let other = usize::from(others[place]);
         return lines_match(lines, rows, forms, line, other);
     }
     false
@@ -65,13 +62,10 @@ pub fn each_matched_in_order(
     ensures { (result ≡ true) ↔ EachMatched (MatchIn lines.now rows.now forms.now) (Among list.now) (Among others.now) }
 {
     let mut reached = 0;
-    let mut place = 0;
-    while place < list.len() {
-        let line = list[place] as usize;
+    for place in 0..list.len() {
+        let line = usize::from(list[place]);
         reached = skip(lines, rows, forms, others, reached, line);
-        if is_match_at(lines, rows, forms, others, reached, line) {
-            place += 1;
-        } else {
+        if !is_match_at(lines, rows, forms, others, reached, line) {
             return false;
         }
     }
@@ -91,10 +85,8 @@ pub fn all_matched_in_order(
     requires in_order { InOrder (PrecedesIn lines.now rows.now forms.now) list.now × InOrder (PrecedesIn lines.now rows.now forms.now) others.now }
     ensures { (result ≡ true) ↔ AllMatched (MatchIn lines.now rows.now forms.now) (Among list.now) (Among others.now) }
 {
-    if each_matched_in_order(lines, rows, forms, list, others) {
-        return each_matched_in_order(lines, rows, forms, others, list);
-    }
-    false
+    each_matched_in_order(lines, rows, forms, list, others)
+        && each_matched_in_order(lines, rows, forms, others, list)
 }
 
 // Whether each line of either list has a match in the other: both are put in order first.

@@ -5,6 +5,7 @@ ghost use Rattle.tables.specs.Lines.{lines_in, kind_in, LineTable};
 ghost use Rattle.tables.specs.Class.{MarksTell, marks_part, KindMarks};
 
 use crate::lines::kind_of;
+use crate::table::part_of;
 
 // Marks for each kind the classes of its lines, in a table that has no marks.
 pub fn kind_marks(lines: &[u8], classes: &[u8], marks: &mut [bool])
@@ -24,8 +25,7 @@ pub fn marks_of_kind(marks: &[bool], kind: usize) -> &[bool]
     requires { kind * 256 + 256 ≤ length marks.now }
     ensures { result.now ≡ marks_part marks.now kind }
 {
-    let start = kind * 256;
-    &marks[start..start + 256]
+    part_of::<bool, 256>(marks, kind)
 }
 
 // Adds marks to others.

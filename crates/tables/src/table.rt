@@ -1,5 +1,5 @@
 // Tables of rows, and the decomposition of counts by them.
-ghost use Rattle.std.specs.Prelude.{◌≡◌, true, ◌↔◌, ℕ, ◌+◌, ◌*◌, ◌^◌, ◌≤◌, ◌<◌, length, replicate};
+ghost use Rattle.std.specs.Prelude.{◌≡◌, true, ◌↔◌, ℕ, ◌+◌, ◌*◌, ◌^◌, ◌≤◌, ◌<◌, length, take, drop, replicate};
 ghost use Rattle.model.specs.Field.{none, ◌⊕◌, times, unit, at};
 ghost use Rattle.model.specs.Limits.{most_kinds};
 ghost use Rattle.tables.specs.Table.{row_part, row_in, Atoms, form_in, with_row};
@@ -18,13 +18,21 @@ pub fn add_times(sum: &mut [u64], row: &[u32], count: u64)
     }
 }
 
-// A row of a flat table whose rows are 32 long, as a part of it: the row of a kind, or the form of what a line leaves.
+// A row of a flat table whose rows are WIDTH long, as a part of it.
+pub(crate) fn part_of<T, const WIDTH: usize>(table: &[T], row: usize) -> &[T]
+    requires { row * WIDTH + WIDTH ≤ length table.now }
+    ensures { result.now ≡ take WIDTH (drop (row * WIDTH) table.now) }
+{
+    let start = row * WIDTH;
+    &table[start..start + WIDTH]
+}
+
+// A row of a table whose rows are 32 long: the row of a kind, or the form of what a line leaves.
 pub fn row_of<T>(table: &[T], row: usize) -> &[T]
     requires { row * 32 + 32 ≤ length table.now }
     ensures { result.now ≡ row_part table.now row }
 {
-    let start = row * 32;
-    &table[start..start + 32]
+    part_of::<T, 32>(table, row)
 }
 
 // Whether a kind's own count in its row is 1: whether the kind is an atom.
@@ -64,7 +72,7 @@ pub fn set_row(rows: &mut [u32], kind: usize, row: &[u32])
     rows[start..start + 32].copy_from_slice(row);
 }
 
-// The decomposition of the counts of a line, by the rows of a table.
+// The decomposition of the counts of a line, by the rows of a table. Not one generic function with `form_of_field`: this one takes the short cut of the atoms, which asks more of the rows.
 pub fn form_of_counts(counts: &[u8], rows: &[u32], out: &mut [u64])
     requires counts_len_bound { (length counts.now ≤ most_kinds) × (length rows.now ≡ 1024) × (32 ≤ length out.old) }
     requires atoms { Atoms rows.now (length counts.now) }
