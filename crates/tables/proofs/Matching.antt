@@ -149,6 +149,3 @@ module _ {M : ℕ → ℕ → Type 0} {n j : ℕ} {numbers : List ℕ} (h : Numb
 
   pub numbered_tells : Equivalence M → n ≤ j → TellsMatch M n numbers
   numbered_tells E l i k a b = least_tells E (h.classes i (omega arith)) (h.classes k (omega arith))
-
-  pub numbered_bounds : n ≤ j → Bounds M n numbers
-  numbered_bounds l i a = let m = h.classes i (omega arith) in record { within = m.within; none = m.least }

@@ -2,12 +2,10 @@
 -- Assumes nothing.
 use mathlib.Core.Bool.{true, false}
 use mathlib.Core.List.{List}
-use mathlib.Core.Path.{◌≡◌, refl, ◌∙◌, fun_ext}
+use mathlib.Core.Path.{◌≡◌, refl, fun_ext}
 use Prim.Native.Nat.{ℕ, ◌+◌, ◌^◌, ◌≤◌, ◌<◌}
-use native.Mathlib.Decide.{ℕ_discrete}
 use native.Mathlib.Omega.{arith}
-use lib.ListN.{length, set, replicate, length-set}
-use lib.Seq.{get_or-set_same, get_or-set_other}
+use lib.ListN.{length, replicate}
 use Rattle.std.specs.Prelude.{Option}
 use Rattle.model.specs.Field.{Field, ◌⊕◌, unit, at}
 use Rattle.model.specs.Limits.{most_kinds}
@@ -27,19 +25,6 @@ subtracted_none {l} {m} {kind} h =
     record { within = omega arith; wide = h; agree = agree_none; rest = λ j _. zero_counts most_kinds j }
 
 module _ {l m : List ℕ} {kind : ℕ} {counts : List ℕ} {i : ℕ} (h : Subtracted l m kind counts i) where
-  pub subtracted_more : (v : ℕ) → v + at m i ≡ unit kind i + at l i → i < length l → Subtracted l m kind (set counts i v) (i + 1)
-  subtracted_more v e q =
-      record {
-        within = omega arith;
-        wide = simp length-set h.wide;
-        agree = record { same = λ j b. go j b (ℕ_discrete j i) };
-        rest = λ j b. get_or-set_other counts i j v 0 (λ p. omega arith) ∙ h.rest j (omega arith);
-      }
-    where
-      go : (j : ℕ) → j < i + 1 → Dec (j ≡ i) → at (set counts i v) j + at m j ≡ unit kind j + at l j
-      go j b (yes p) = rw (p, get_or-set_same counts i v 0 (omega (arith, h.wide))) e
-      go j b (no p) = rw (get_or-set_other counts i j v 0 p) (h.agree.same j (omega arith))
-
   pub subtracted_all : length l ≤ i → length m ≤ i → kind < i → IsCandidate (at l) (at m) kind true counts
   subtracted_all p q r =
       record {

@@ -6,7 +6,7 @@ use mathlib.Core.Logic.{◌↔◌}
 use mathlib.Core.Path.{◌≡◌, refl, sym, ap, ◌∙◌, fun_ext}
 use Prim.Native.Nat.{ℕ, zero, suc, ◌+◌, ◌*◌, ◌-◌, ◌≤◌, ◌<◌}
 use native.Mathlib.Decide.{ℕ_discrete, dec_lt}
-use native.Mathlib.Nat.{mul-zero, zero-mul, add-sub_cancel_left}
+use native.Mathlib.Nat.{mul-zero, add-sub_cancel_left}
 use native.Mathlib.Numerals.{add-one}
 use native.Mathlib.Omega.{arith}
 use lib.Dec.{eqb}
@@ -85,9 +85,6 @@ module _ {count : ℕ} {old sum row : List ℕ} {i : ℕ} (h : Added count old s
   pub added_bound : {bound : ℕ} → ((j : ℕ) → at old j + count * at row j < bound) → (x : ℕ) → x ≡ at row i → at sum i + count * x < bound
   added_bound f x e = rw (added_here, e) (f i)
 
-pub added_zero : {count : ℕ} (sum row : List ℕ) → count ≡ 0 → at sum ≡ at sum ⊕ times count (at row)
-added_zero sum row e = fun_ext (λ j. rw e (omega (arith, zero-mul (at row j))))
-
 -- Count tokens of a kind are added.
 pub added_tokens : (count : ℕ) (sum : List ℕ) (k : ℕ) → k < length sum → at (set sum k (at sum k + count)) ≡ at sum ⊕ times count (unit k)
 added_tokens count sum k l = fun_ext (λ j. go j (ℕ_discrete j k))
@@ -135,17 +132,10 @@ lent_under {xs} {bound} t k e f j = go (dec_lt j most_kinds)
     go (yes l) = rw (at_kind (lent_row t k e) j, row_at t k j l) (f (k * most_kinds + j))
     go (no l) = rw (at_kind (lent_row t k e) j, row_past t k j (omega arith)) (omega (arith, f 0))
 
--- Count times row k are added, where there is no count, where the row is the kind itself, and by the row as a list.
-pub row_added_none : {count : ℕ} (sum rows : List ℕ) (k : ℕ) → count ≡ 0 → at sum ≡ at sum ⊕ times count (row_in rows k)
-unfolding row_in
-row_added_none sum rows k e = added_zero sum (row_part rows k) e
-
+-- Count times row k are added, where the row is the kind itself, and by the row as a list.
 module _ (count : ℕ) (sum rows : List ℕ) (k : ℕ) (one : row_in rows k k ≡ 1) where
   pub row_added_atom : (row_in rows k k ≡ 1 → row_in rows k ≡ unit k) → k < length sum → at (set sum k (at sum k + count)) ≡ at sum ⊕ times count (row_in rows k)
   row_added_atom atom room = rw (atom one) (added_tokens count sum k room)
-
-  pub atom_bound : {bound : ℕ} → ((j : ℕ) → at sum j + count * row_in rows k j < bound) → at sum k + count < bound
-  atom_bound f = omega (arith, rw one at (f k))
 
 pub row_bound : {row : List ℕ} {bound : ℕ} (count : ℕ) (sum rows : List ℕ) (k : ℕ) → row ≡ row_part rows k → ((j : ℕ) → at sum j + count * row_in rows k j < bound) → (j : ℕ) → at sum j + count * at row j < bound
 row_bound count sum rows k r f j = rw (at_kind (lent_row rows k r) j) (f j)

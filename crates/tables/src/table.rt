@@ -40,9 +40,7 @@ pub fn is_atom(rows: &[u32], kind: usize) -> bool
     requires { (kind < most_kinds) × (length rows.now ≡ 1024) }
     ensures { (result ≡ true) ↔ (row_in rows.now kind kind ≡ 1) }
 {
-    let own = kind * 32 + kind;
-    let count = rows[own];
-    count == 1
+    rows[kind * 32 + kind] == 1
 }
 
 // Adds count times the row of a kind in a table to the sum. The row of an atom is the kind itself.
@@ -56,8 +54,7 @@ fn add_row(sum: &mut [u64], rows: &[u32], kind: usize, count: u64)
         return;
     }
     if is_atom(rows, kind) {
-        let old = sum[kind];
-        sum[kind] = old + count;
+        sum[kind] += count;
         return;
     }
     add_times(sum, row_of(rows, kind), count);

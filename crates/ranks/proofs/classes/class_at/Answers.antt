@@ -20,7 +20,7 @@ pub returns-then-lines_match : goal.returns-then-lines_match
 returns-then-lines_match c =
     let a = c.args in
     let within = c.requires.place.within in
-    rw c.from-other.ensures (class_entry (line_order a.lines.now a.rows.now a.forms.now) c.requires.firsts c.requires.place (a.place - 1) (omega (arith, within, c.if-place-eq0.false)) (rw c.from-other.ensures at c.lines_match.ensures) c.if-lines_match.true)
+    rw (← c.from-other.ensures) at (class_entry (line_order a.lines.now a.rows.now a.forms.now) c.requires.firsts c.requires.place (a.place - 1) (omega (arith, within, c.if-place-eq0.false)) (rw c.from-other.ensures at c.lines_match.ensures) c.if-lines_match.true)
 
 pub returns : goal.returns
 returns c =
