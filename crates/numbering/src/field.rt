@@ -16,7 +16,12 @@ use shelf::entry::entry_of;
 use shelf::field::field_of;
 
 // Shelf field, of any bytes, any size, any number and a buffer of any length; a refusal leaves the buffer as it was.
-pub fn shelf_field(sheet: &[u8], size: usize, number: u64, buffer: &mut [u16]) -> Result<(), Refusal>
+pub fn shelf_field(
+    sheet: &[u8],
+    size: usize,
+    number: u64,
+    buffer: &mut [u16],
+) -> Result<(), Refusal>
     ensures result_value { answer_of (λ x. tt) result ≡ (shelf_field_of sheet.now size number buffer.old).answer }
     ensures buffer_after { buffer.new ≡ (shelf_field_of sheet.now size number buffer.old).lent }
 {

@@ -25,7 +25,12 @@ pub fn shelf_number(sheet: &[u8], field: usize) -> Result<ShelfNumber, Refusal>
 }
 
 // Shelf number, of a sheet that was accepted, by its norms.
-fn number_accepted(sheet: &[u8], card: Card, norms: &[u32; 32], field: usize) -> Result<ShelfNumber, Refusal>
+fn number_accepted(
+    sheet: &[u8],
+    card: Card,
+    norms: &[u32; 32],
+    field: usize,
+) -> Result<ShelfNumber, Refusal>
     requires { Accepts sheet.now card norms.now }
     ensures { answer_of shelved result ≡ shelf_number_of sheet.now field }
 {

@@ -1,8 +1,6 @@
 -- What each return answers, by the tests on the way.
-use borrow.Author.Rules.{rules}
 use mathlib.Core.Path.{◌≡◌, sym, ◌∙◌, ap}
 use native.Mathlib.Omega.{arith}
-use lib.ListN.{length}
 use Rattle.model.specs.Field.{Field, at, tokens}
 use Rattle.model.specs.Sheet.{kind_count, field_of}
 use Rattle.sheet.proofs.Laws.{kinds_are, fields_are, kinds_most, field_counts_at, field_under}
