@@ -6,9 +6,6 @@ use Rattle.rows.proofs.LineTable.{filled_none, filled_two, filled_three, lowers_
 use Rattle.rows.proofs.line_table.line_table.Goals as goal
 use Rattle.rows.proofs.line_table.line_table.Goals.{then-lowers, else-lowers}
 
-pub overflow_mul-marks : goal.overflow_mul-marks
-overflow_mul-marks c = search (rules, lines_most c.requires.reads)
-
 pub loop-line-init : goal.loop-line-init
 loop-line-init c = filled_none (lines_most c.requires.reads)
 
