@@ -1,4 +1,4 @@
-use Rattle.std.proofs.Common.{arith, refl, ◌∙◌}
+use Rattle.std.proofs.Common.{arith}
 use Rattle.sheet.proofs.Laws.{lines_are}
 use Rattle.rows.proofs.LineForms.{formed_skip, formed_more, all_formed}
 use Rattle.rows.proofs.line_forms.all_forms.Goals as goal

@@ -1,5 +1,5 @@
-use Rattle.std.proofs.Common.{refl, ◌∙◌}
-use Rattle.rows.proofs.LineForms.{list_formed_none, list_formed_more, list_formed}
+use Rattle.std.proofs.Common.{refl}
+use Rattle.rows.proofs.LineForms.{list_formed_more, list_formed}
 use Rattle.rows.proofs.line_forms.list_forms.Goals as goal
 
 pub line_form-requires-clause-line_lt_lines : goal.line_form-requires-clause-line_lt_lines

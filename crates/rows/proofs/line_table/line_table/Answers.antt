@@ -1,4 +1,3 @@
-use borrow.Author.Rules.{rules}
 use native.Mathlib.Omega.{arith}
 use Rattle.sheet.proofs.Laws.{lines_are, lines_most, kinds_most, codes_most, kind_under, code_under}
 use Rattle.tables.proofs.Tables.{told_not}

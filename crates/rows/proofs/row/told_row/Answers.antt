@@ -1,7 +1,7 @@
-use Rattle.std.proofs.Common.{rules, arith, refl, ◌≡◌, ◌∙◌, ◌+◌, ◌*◌, ◌≤◌, length}
+use Rattle.std.proofs.Common.{rules, arith, refl, ◌≡◌, ◌+◌, ◌*◌, ◌≤◌, length}
 use Rattle.rows.specs.Row.{LowersKind}
 use Rattle.tables.proofs.Tables.{told_not}
-use Rattle.rows.proofs.RowSearch.{own_first, searched_none, searched_skip, searched_unfound, searched_failed, searched_passed, searched_row, searched_all, searched_atom}
+use Rattle.rows.proofs.RowSearch.{own_first, searched_skip, searched_unfound, searched_failed, searched_passed, searched_row, searched_all, searched_atom}
 use Rattle.rows.proofs.row.told_row.Goals as goal
 use Rattle.rows.proofs.row.told_row.Goals.{After-from-line, then-suits+in-Some+else-passes, then-suits+in_default, else-suits}
 

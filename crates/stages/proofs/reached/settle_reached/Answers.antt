@@ -1,7 +1,4 @@
 -- The part is an accepted sheet with the same norms, and it settles to what the sheet does.
-use mathlib.Core.Path.{sym}
-use native.Mathlib.Omega.{arith}
-use lib.Seq.{length-take-le}
 use Rattle.sheet.proofs.Laws.{kinds_most, lines_most, fields_most}
 use Rattle.tables.specs.Senses.{sense_of}
 use Rattle.part_sheet.proofs.Sheets.{sheet_longest}

@@ -1,6 +1,5 @@
 -- The forms and the rows tell which lines match.
-use mathlib.Core.Path.{sym, ◌∙◌}
-use Rattle.sheet.proofs.Laws.{lines_are}
+use mathlib.Core.Path.{◌∙◌}
 use Rattle.rows.proofs.StageRows.{base_atoms, lowering_forms, tables_whole, classes_at, bounds_at, bounds_in}
 use Rattle.stages.proofs.settle.line_classes.Goals as goal
 
