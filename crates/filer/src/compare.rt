@@ -61,15 +61,7 @@ pub fn compare_settled(
     }
     let norms = settlement.norms;
     let last = settlement.settled.stage;
-    let stage = parted(
-        sense,
-        sheet,
-        card,
-        norms,
-        settlement.settled,
-        first,
-        second,
-    );
+    let stage = parted(sense, sheet, card, norms, settlement.settled, first, second);
     if last < stage {
         return Verdict::Same;
     }

@@ -25,12 +25,24 @@ use shelf::entry::entry_of;
 const LISTED: u64 = 65_536;
 
 // Frequencies, of any bytes, any field number, any size and a buffer of any length; a refusal leaves the buffer as it was. The sheet is settled once, and not at all where the call is refused.
-pub fn frequencies(sheet: &[u8], field: usize, size: usize, buffer: &mut [u32]) -> Result<(), Refusal>
+pub fn frequencies(
+    sheet: &[u8],
+    field: usize,
+    size: usize,
+    buffer: &mut [u32],
+) -> Result<(), Refusal>
     ensures result_value { answer_of (λ x. tt) result ≡ (frequencies_of sheet.now field size buffer.old).answer }
     ensures buffer_after { buffer.new ≡ (frequencies_of sheet.now field size buffer.old).lent }
 {
     let acceptance = accept(sheet)?;
-    frequencies_accepted(sheet, acceptance.card, acceptance.norms, field, size, buffer)
+    frequencies_accepted(
+        sheet,
+        acceptance.card,
+        acceptance.norms,
+        field,
+        size,
+        buffer,
+    )
 }
 
 // Frequencies, of a sheet that was accepted, by its norms.

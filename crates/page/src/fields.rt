@@ -32,12 +32,7 @@ fn put_settled_field(
 }
 
 // The lines of all fields of a settled sheet.
-pub fn put_fields(
-    out: &mut [u8],
-    at: usize,
-    sheet: &[u8],
-    settlement: Settlement,
-) -> usize
+pub fn put_fields(out: &mut [u8], at: usize, sheet: &[u8], settlement: Settlement) -> usize
     requires settlement { IsSettlement plain sheet.now settlement }
     requires fields_in_bounds { at + most_field * settlement.card.fields ≤ length out.old }
     ensures { Appended (most_field * settlement.card.fields) out.old at (fields_text sheet.now settlement.card.fields) out.new result }
