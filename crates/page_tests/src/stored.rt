@@ -2,7 +2,6 @@
 ghost use Rattle.std.specs.Prelude.{◌≤◌, length};
 ghost use Rattle.page_tests.specs.Counts.{IsPrefixLen};
 
-use page::Writing;
 use std::env::FillError;
 use std::fs::File;
 use std::io::{self, Cursor, ErrorKind, Read, Write};
@@ -115,13 +114,8 @@ fn check_one<R: Files, O: Write, E: Write>(files: &R, output: &mut O, errors: &m
     let length = read_stored(files, errors, name, b".page", &mut stored);
     let mut text = [0u8; page::PAGE];
     match page::write_page(&sheet[..bytes], &mut text) {
-        Writing::Written { length: end } => {
-            print_difference(output, &text[..end], &stored[..length])
-        }
-        Writing::Refused {
-            number: _,
-            place: _,
-        } => print_difference(output, b"", &stored[..length]),
+        Ok(end) => print_difference(output, &text[..end], &stored[..length]),
+        Err(_) => print_difference(output, b"", &stored[..length]),
     }
 }
 
