@@ -55,6 +55,7 @@ fn may_challenge(
 }
 
 // The first challenge from `from` up to `to` whose side may use its line; `to` where there is none.
+// No Option: what is left of a part is halved from this number up to `to`, and nothing is left where they are one.
 pub fn next_challenge(
     sheet: &[u8],
     card: Card,

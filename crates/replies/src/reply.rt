@@ -7,7 +7,7 @@ ghost use Rattle.replies.specs.Told.{told, answered, no_reply, Tells};
 use refusals::Refusal;
 use verdicts::put_refused;
 
-// How a call in words ended: answered, refused with its number and place, or words that are no call.
+// How a call in words ended: answered, refused with its number and place, or words that are no call. No Result: each of the three has a text, and the numbers are what the programs say.
 #[derive(Clone, Copy, Debug, PartialEq, Eq)]
 pub enum Outcome {
     Answered,

@@ -42,7 +42,7 @@ pub fn read_value(values: &[u32; 32], counts: &[u8]) -> u32
     Card::NORM + 1
 }
 
-// The lesser of two values, where 0 is none.
+// The lesser of two values, where 0 is none: no Option, since an array of values holds 32 of them and is read in every turn.
 pub fn lesser(first: u32, second: u32) -> u32
     ensures { result ≡ lesser_of first second }
 {
