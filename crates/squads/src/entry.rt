@@ -33,8 +33,14 @@ pub fn squads(
     let settlement = settle_once(Sense::Plain, sheet)?;
     let card = settlement.card;
     check_fields(card, whole, squad)?;
-    let settled = settlement.settled;
-    squads_accepted(sheet, card, settled.base, whole, squad, remainder)
+    squads_accepted(
+        sheet,
+        card,
+        settlement.settled.base,
+        whole,
+        squad,
+        remainder,
+    )
 }
 
 // Squads, of two fields of a sheet that was accepted, by its final base.
