@@ -1,6 +1,7 @@
 // What the lines do: which of them match, and the classes of the lines.
-ghost use Rattle.std.specs.Prelude.{◌≡◌, true, ◌↔◌, ◌≤◌, ◌<◌, length};
-ghost use Rattle.tables.specs.Lines.{lines_in};
+ghost use Rattle.std.specs.Prelude.{◌≡◌, true, ◌↔◌, ◌^◌, ◌≤◌, ◌<◌, length};
+ghost use Rattle.tables.specs.Lines.{lines_in, LineTable};
+ghost use Rattle.tables.specs.Table.{Under};
 ghost use Rattle.tables.specs.Match.{NoneBefore, Bounds, LeastMatch, TellsMatch, MatchTables, LineEffects, MatchBy};
 
 use crate::effect::same_effect;
@@ -35,21 +36,25 @@ impl<'a> Effects<'a> {
 
     // The lines.
     pub fn lines(&self) -> &'a [u8]
-        ensures { result.now ≡ self.now.lines }
+        ensures lent { result.now ≡ self.now.lines }
+        ensures whole { LineTable result.now }
     {
         self.lines
     }
 
     // A row for each kind.
     pub fn rows(&self) -> &'a [u32]
-        ensures { result.now ≡ self.now.rows }
+        ensures lent { result.now ≡ self.now.rows }
+        ensures long { length result.now ≡ 1024 }
     {
         self.rows
     }
 
     // For each line the form of what it leaves.
     pub fn forms(&self) -> &'a [u64]
-        ensures { result.now ≡ self.now.forms }
+        ensures lent { result.now ≡ self.now.forms }
+        ensures long { length result.now ≡ 8192 }
+        ensures small { Under (2 ^ 63) result.now }
     {
         self.forms
     }
