@@ -60,9 +60,8 @@ pub fn compare_settled(
         return Verdict::from(refusal);
     }
     let norms = settlement.norms;
-    let settled = settlement.settled;
-    let last = settled.stage;
-    let stage = parted(sense, sheet, card, norms, settled, first, second);
+    let last = settlement.settled.stage;
+    let stage = parted(sense, sheet, card, norms, settlement.settled, first, second);
     if last < stage {
         return Verdict::Same;
     }

@@ -20,11 +20,8 @@ pub fn settle_sheet(sheet: &[u8], table: &mut [u32]) -> Result<usize, Refusal>
     if table.len() < n * n {
         return Err(Refusal::ShortBuffer);
     }
-    let settled = settlement.settled;
-    let stage = settled.stage;
-    let base = settled.base;
-    let rows = base.rows;
-    write_table(&rows, n, table);
+    let stage = settlement.settled.stage;
+    write_table(&settlement.settled.base.rows, n, table);
     Ok(stage)
 }
 
@@ -43,12 +40,10 @@ pub fn settle_since(sheet: &[u8], table: &mut [u32], since: &mut [u32]) -> Resul
     if since.len() < n {
         return Err(Refusal::ShortBuffer);
     }
-    let settled = settlement.settled;
-    let last = settled.stage;
-    let base = settled.base;
-    let rows = base.rows;
+    let last = settlement.settled.stage;
+    let base = &settlement.settled.base;
     let marks = base.since;
-    write_table(&rows, n, table);
+    write_table(&base.rows, n, table);
     narrow(&marks[..n], since);
     Ok(last)
 }

@@ -13,7 +13,6 @@ use std::io::Write;
 use std::rt::{Env, Files};
 use tables::sense::Sense;
 use tally::{Called, Played, Tally};
-use validation::checks::Checked;
 
 // The sheets so far: how many were settled, and how many of those are part-used, with a kind that is not reached; how many were refused; and what was
 // played on those settled, in the plain sense and in the finer one.
@@ -45,12 +44,12 @@ fn with_pair(
     let settled = settlement.settled;
     let last = settled.stage;
     let mut first = [0u64; 32];
-    form_settled(sheet, settlement, 0, &mut first);
+    let _ = form_settled(sheet, settlement, 0, &mut first);
     let mut second = [0u64; 32];
-    form_settled(sheet, settlement, later, &mut second);
+    let _ = form_settled(sheet, settlement, later, &mut second);
     let equal = first == second;
     let unlike = tally::look_unlike(sheet, 0, later);
-    let totals = matches!(sense, Sense::Finer);
+    let totals = sense == Sense::Finer;
     match compare_settled(sense, sheet, settlement, 0, later) {
         Verdict::Same => {
             let tried = test_player::parting(played, totals, ROUNDS, 0, later, BUDGET);
@@ -66,10 +65,7 @@ fn with_pair(
                 tried,
             )
         }
-        Verdict::Refused {
-            number: _,
-            place: _,
-        } => tally,
+        Verdict::Refused { .. } => tally,
     }
 }
 
@@ -79,13 +75,12 @@ fn with_pairs(
     sheet: &[u8],
     played: &[u8],
     settlement: Settlement,
-    fields: usize,
     tally: Tally,
 ) -> Tally
     requires { IsSettlement (sense_of sense) sheet.now settlement }
 {
     let mut next = tally;
-    for later in 1..fields {
+    for later in 1..settlement.card.fields {
         next = with_pair(sense, sheet, played, settlement, later, next);
     }
     next
@@ -93,35 +88,23 @@ fn with_pairs(
 
 // One sheet more, and the sheet that is played for it.
 fn with_sheet(sheet: &[u8], played: &[u8], count: Count) -> Count {
-    let settlement = settle_once(Sense::Plain, sheet);
-    match settlement.checked {
-        Checked::Refused { .. } => Count {
+    let (Ok(plain), Ok(finer)) = (
+        settle_once(Sense::Plain, sheet),
+        settle_once(Sense::Finer, sheet),
+    ) else {
+        return Count {
             refused: count.refused.saturating_add(1),
             ..count
-        },
-        Checked::Passed(card) => Count {
-            settled: count.settled.saturating_add(1),
-            part: count
-                .part
-                .saturating_add(u64::from(reached_part::part_used(sheet))),
-            plain: with_pairs(
-                Sense::Plain,
-                sheet,
-                played,
-                settlement,
-                card.fields,
-                count.plain,
-            ),
-            finer: with_pairs(
-                Sense::Finer,
-                sheet,
-                played,
-                settle_once(Sense::Finer, sheet),
-                card.fields,
-                count.finer,
-            ),
-            ..count
-        },
+        };
+    };
+    Count {
+        settled: count.settled.saturating_add(1),
+        part: count
+            .part
+            .saturating_add(u64::from(reached_part::part_used(sheet))),
+        plain: with_pairs(Sense::Plain, sheet, played, plain, count.plain),
+        finer: with_pairs(Sense::Finer, sheet, played, finer, count.finer),
+        ..count
     }
 }
 

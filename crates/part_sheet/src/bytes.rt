@@ -7,11 +7,7 @@ pub fn copy_bytes(source: &[u8], from: usize, target: &mut [u8], to: usize, coun
     requires { (from + count ≤ length source.now) × (to + count ≤ length target.old) }
     ensures { Copied source.now from target.old to count target.new }
 {
-    let mut i = 0;
-    while i < count {
-        target[to + i] = source[from + i];
-        i += 1;
-    }
+    target[to..to + count].copy_from_slice(&source[from..from + count]);
 }
 
 // Writes a number at an offset: two bytes, low byte first.
@@ -19,6 +15,5 @@ pub fn write_number(target: &mut [u8], offset: usize, number: usize)
     requires { (number < 65536) × (offset + 1 < length target.old) }
     ensures { NumberSet number target.old offset target.new }
 {
-    target[offset] = (number % 256) as u8;
-    target[offset + 1] = (number / 256) as u8;
+    target[offset..offset + 2].copy_from_slice(&(number as u16).to_le_bytes());
 }

@@ -24,7 +24,7 @@ fn field_in(table: &[u64; 561], kinds: &[usize], size: usize, number: u64) -> [u
     requires in_order { InOrder kinds.now }
     requires size_le_most_tokens { size ≤ most_tokens }
     requires number_bound { number < entry (length kinds.now) size }
-    requires t { T (obeys_rule table.now) }
+    requires obeys { T (obeys_rule table.now) }
     ensures { at result ≡ field_in (reverse kinds.now) size number }
 {
     let mut counts = [0u16; 32];

@@ -11,8 +11,8 @@ use crate::entry::{entries, entry_in};
 
 // How many of the fields of so many tokens of so many kinds have fewer than this count of the last kind: the entry, less that for the tokens left beside the count.
 fn with_fewer(table: &[u64; 561], kinds: usize, tokens: usize, count: usize) -> u64
-    requires le_kinds { (1 ≤ kinds) × (kinds ≤ most_kinds) × (tokens ≤ most_tokens) × (count ≤ tokens) }
-    requires t { T (obeys_rule table.now) }
+    requires in_table { (1 ≤ kinds) × (kinds ≤ most_kinds) × (tokens ≤ most_tokens) × (count ≤ tokens) }
+    requires obeys { T (obeys_rule table.now) }
     ensures { result + entry kinds (tokens - count) ≡ entry kinds tokens }
 {
     entry_in(table, kinds, tokens) - entry_in(table, kinds, tokens - count)
@@ -33,8 +33,8 @@ pub fn number_of(kinds: &[usize], field: &[u32; 32], size: usize) -> u64
 fn number_in(table: &[u64; 561], kinds: &[usize], field: &[u32; 32], size: usize) -> u64
     requires in_order { InOrder kinds.now }
     requires size_le_most_tokens { size ≤ most_tokens }
-    requires fact { Memᴰ (at field.now) (listed (reverse kinds.now) size) }
-    requires t { T (obeys_rule table.now) }
+    requires listed { Memᴰ (at field.now) (listed (reverse kinds.now) size) }
+    requires obeys { T (obeys_rule table.now) }
     ensures { result ≡ number_in (reverse kinds.now) size (at field.now) }
 {
     let mut number: u64 = 0;

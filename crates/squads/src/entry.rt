@@ -21,7 +21,12 @@ use validation::check_fields;
 use weights::fields::field_tokens;
 
 // Squads, of any bytes, any two field numbers and a buffer of any length; a refusal leaves the buffer as it was. The sheet is settled once.
-pub fn squads(sheet: &[u8], whole: usize, squad: usize, remainder: &mut [u64]) -> Result<u64, Refusal>
+pub fn squads(
+    sheet: &[u8],
+    whole: usize,
+    squad: usize,
+    remainder: &mut [u64],
+) -> Result<u64, Refusal>
     ensures result_value { answer_of (λ q. q) result ≡ (squads_of sheet.now whole squad remainder.old).answer }
     ensures remainder_after { remainder.new ≡ (squads_of sheet.now whole squad remainder.old).lent }
 {

@@ -70,6 +70,7 @@ fn settle_lines(
     let mut since = [0usize; 32];
     let mut before = [0u32; 1024];
     let mut stage = 0;
+    // A loop: it ends at the stage that is settled, which no number says beforehand.
     loop {
         let next = stage_rows(sense, sheet, card, norms, lines, &rows, &classes, forms);
         classes = line_classes(sheet, card, lines, &next, &classes, forms);

@@ -172,7 +172,7 @@ fn try_rounds(
 }
 
 // "Checks run from top to bottom": the desk, 1 to 8 of the sheet, the two field numbers and the round limit.
-fn check_walk(
+pub fn check_walk(
     sheet: &[u8],
     first: usize,
     second: usize,

@@ -115,6 +115,14 @@ part text at = take (length text - at) (drop at text)
 part_is : (text : List ℕ) (at : ℕ) → part text at ≡ drop at text
 part_is text at = take_all (length text - at) (drop at text) (omega (arith, length-drop at text))
 
+-- The words of a text, by the first of them and what stands from its end on.
+pub words_split : (text : List ℕ) {end : ℕ} {word others : List ℕ} → (end ≡ length (first_word text)) × (end < length text) → word ≡ take end text → others ≡ drop end text
+    → words_of text ≡ word ∷ words_of (part others 1)
+words_split text {end} {word} {others} ends is_word is_others =
+    let after : part others 1 ≡ drop (suc end) text = part_is others 1 ∙ ap (drop 1) is_others ∙ drop-drop 1 end text ∙ ap (λ (n : ℕ). drop n text) (add-one end) in
+    words_next text (omega (arith, ends.0, ends.1)) ∙ ap (λ (n : ℕ). take n text ∷ words_of (drop (suc n) text)) (sym ends.0)
+    ∙ ap (λ (w : List ℕ). w ∷ words_of (drop (suc end) text)) (sym is_word) ∙ ap (λ (l : List ℕ). word ∷ words_of l) (sym after)
+
 pub counting_starts : (text values : List ℕ) → Counting (length values) text values text 0
 unfolding said_first
 counting_starts text values =
@@ -137,10 +145,7 @@ module _ (most : ℕ) (text values rest : List ℕ) (count : ℕ) (so_far : Coun
 
     next : words_of rest ≡ word ∷ words
     unfolding words
-    next =
-        let after : part others 1 ≡ drop (suc end) rest = part_is others 1 ∙ ap (drop 1) is_others ∙ drop-drop 1 end rest ∙ ap (λ (n : ℕ). drop n rest) (add-one end) in
-        words_next rest (omega (arith, ends.0, ends.1)) ∙ ap (λ (n : ℕ). take n rest ∷ words_of (drop (suc n) rest)) (sym ends.0)
-        ∙ ap (λ (w : List ℕ). w ∷ words_of (drop (suc end) rest)) (sym is_word) ∙ ap (λ (l : List ℕ). word ∷ words_of l) (sym after)
+    next = words_split rest ends is_word is_others
 
     pub counting_full : most ≤ count → None ≡ numbers_of most (words_of text)
     unfolding numbers_of

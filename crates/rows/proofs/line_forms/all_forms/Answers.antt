@@ -1,14 +1,8 @@
-use Rattle.std.proofs.Common.{arith, refl, ◌∙◌}
+use Rattle.std.proofs.Common.{arith}
 use Rattle.sheet.proofs.Laws.{lines_are}
 use Rattle.rows.proofs.LineForms.{formed_skip, formed_more, all_formed}
 use Rattle.rows.proofs.line_forms.all_forms.Goals as goal
 use Rattle.rows.proofs.line_forms.all_forms.Goals.{then-not-lowers, else-not-lowers}
-
-pub loop-line-init : goal.loop-line-init
-loop-line-init c = record { kept = refl; small = c.requires.under; lowering = c.requires.lowering_forms; done = λ i l. absurd (omega arith) }
-
-pub line_form-requires : goal.line_form-requires
-line_form-requires c = record { reads = c.requires.reads; rows_len = (c.requires.rows_len.0, c.loop-line.invariant.kept ∙ c.requires.rows_len.1); atoms = c.requires.atoms; line_lt_lines = c.loop-line-test.true; under = c.loop-line.invariant.small }
 
 pub loop-line-preserved : goal.loop-line-preserved
 loop-line-preserved c =

@@ -4,8 +4,8 @@ use Rattle.sheet.proofs.Laws.{lines_are}
 use Rattle.rows.proofs.LineForms.{list_kind}
 use Rattle.rows.proofs.line_forms.kind_forms.Goals as goal
 
-pub list_forms-requires : goal.list_forms-requires
-list_forms-requires c = record { reads = c.requires.reads; rows_len = (c.requires.rows_len.0, c.requires.rows_len.1); atoms = c.requires.atoms; list_within = λ j a. omega (arith, ((c.usable_lines-own.ensures.1.entries j).0 a).0.0, c.requires.line_table.1); under = c.requires.under }
+pub list_forms-requires-clause-list_within : goal.list_forms-requires-clause-list_within
+list_forms-requires-clause-list_within c = λ j a. omega (arith, ((c.usable_lines-own.ensures.1.entries j).0 a).0.0, c.requires.line_table.1)
 
 pub returns : goal.returns
 returns c =

@@ -10,16 +10,6 @@ use Rattle.rows.proofs.TableRows.{row_set, row_set_under}
 use Rattle.rows.proofs.LineForms.{left_form_small, part_form}
 use Rattle.rows.proofs.line_forms.line_form.Goals as goal
 
-pub overflow_mul-start : goal.overflow_mul-start
-overflow_mul-start c = omega (arith, lines_most c.requires.reads)
-
-pub overflow_add-end : goal.overflow_add-end
-overflow_add-end c = omega (arith, lines_most c.requires.reads)
-
-pub offset_bounds-forms-start : goal.offset_bounds-forms-start
-offset_bounds-forms-start c =
-    omega (arith, lines_most c.requires.reads)
-
 pub slice_bounds-form_of_counts-end : goal.slice_bounds-form_of_counts-end
 slice_bounds-form_of_counts-end c =
     omega (arith, lines_most c.requires.reads)

@@ -1,7 +1,7 @@
-use Rattle.std.proofs.Common.{rules, arith, refl, ◌≡◌, ◌∙◌, ◌+◌, ◌*◌, ◌≤◌, length}
+use Rattle.std.proofs.Common.{rules, arith, refl, ◌≡◌, ◌+◌, ◌*◌, ◌≤◌, length}
 use Rattle.rows.specs.Row.{LowersKind}
 use Rattle.tables.proofs.Tables.{told_not}
-use Rattle.rows.proofs.RowSearch.{own_first, searched_none, searched_skip, searched_unfound, searched_failed, searched_passed, searched_row, searched_all, searched_atom}
+use Rattle.rows.proofs.RowSearch.{own_first, searched_skip, searched_unfound, searched_failed, searched_passed, searched_row, searched_all, searched_atom}
 use Rattle.rows.proofs.row.told_row.Goals as goal
 use Rattle.rows.proofs.row.told_row.Goals.{After-from-line, then-suits+in-Some+else-passes, then-suits+in_default, else-suits}
 
@@ -9,11 +9,8 @@ use Rattle.rows.proofs.row.told_row.Goals.{After-from-line, then-suits+in-Some+e
 own_line : (c : After-from-line) → LowersKind c.args.lines.now c.args.kind c.from-line.result
 own_line c = rw c.from-line.ensures (own_first c.args.lines.now c.requires.lists.0 c.requires.lists.1)
 
-pub loop-other-init : goal.loop-other-init
-loop-other-init c = searched_none
-
-pub suits-requires : goal.suits-requires
-suits-requires c = record { line_table = (c.requires.tables.whole, c.requires.kind_lt_most_kinds.1, c.loop-other.invariant.long ∙ c.requires.tables.rows_long); own_bound = ((own_line (goal.at.suits-requires c).After-from-line).0.0, c.loop-other-test.true) }
+pub suits-requires-clause-own_bound : goal.suits-requires-clause-own_bound
+suits-requires-clause-own_bound c = ((own_line (goal.at.suits-requires-clause-own_bound c).After-from-line).0.0, c.loop-other-test.true)
 
 pub told-requires-clause-own_bound : goal.told-requires-clause-own_bound
 told-requires-clause-own_bound c = ((own_line (goal.at.told-requires-clause-own_bound c).After-from-line).0.0, c.loop-other-test.true)

@@ -10,7 +10,7 @@ use Rattle.shelf.proofs.number.number_in.Goals.{In-loop-i}
 
 pub loop-i-init : goal.loop-i-init
 loop-i-init c =
-    numbered_start c.args.kinds.now (at c.args.field.now) c.args.size c.requires.in_order c.requires.size_le_most_tokens c.requires.fact
+    numbered_start c.args.kinds.now (at c.args.field.now) c.args.size c.requires.in_order c.requires.size_le_most_tokens c.requires.listed
 
 -- What a turn does.
 turn : (c : In-loop-i) (fewer : ℕ)
@@ -22,17 +22,17 @@ turn c fewer =
     let loop = c.loop-i in
     numbered_next c.args.kinds.now (at c.args.field.now) c.args.size c.requires.in_order loop.number loop.left loop.i fewer loop.invariant (omega arith)
 
-pub with_fewer-number-requires-clause-le_kinds : goal.with_fewer-number-requires-clause-le_kinds
-with_fewer-number-requires-clause-le_kinds c =
+pub with_fewer-number-requires-clause-in_table : goal.with_fewer-number-requires-clause-in_table
+with_fewer-number-requires-clause-in_table c =
     let loop = c.loop-i in
-    (omega arith, omega (arith, loop.invariant.kinds_left, c.requires.in_order.many), loop.invariant.few, (turn (goal.at.with_fewer-number-requires-clause-le_kinds c).In-loop-i 0).0)
+    (omega arith, omega (arith, loop.invariant.kinds_left, c.requires.in_order.many), loop.invariant.few, (turn (goal.at.with_fewer-number-requires-clause-in_table c).In-loop-i 0).0)
 
 pub overflow_add-number : goal.overflow_add-number
 overflow_add-number c =
     omega (
       arith,
       ((turn (goal.at.overflow_add-number c).In-loop-i c.with_fewer-number.result).1 c.with_fewer-number.ensures).sum,
-      numbered_fits c.args.kinds.now (at c.args.field.now) c.args.size c.requires.in_order c.requires.size_le_most_tokens c.requires.fact,
+      numbered_fits c.args.kinds.now (at c.args.field.now) c.args.size c.requires.in_order c.requires.size_le_most_tokens c.requires.listed,
     )
 
 pub overflow_sub-left : goal.overflow_sub-left

@@ -5,10 +5,8 @@ use Rattle.stages.proofs.kept.form_before.Goals as goal
 pub loop-kind-init : goal.loop-kind-init
 loop-kind-init c = lowered_none
 
-pub add_before-requires : goal.add_before-requires
-add_before-requires c =
-    let h = c.loop-kind.invariant in
-    record { sum_len = (h.kept, c.requires.form_len.1, c.requires.form_len.2, omega (arith, c.requires.form_len.0)); by_index = lowered_fits h (omega (arith, c.requires.form_len.0)) c.requires.by_index }
+pub add_before-requires-clause-by_index : goal.add_before-requires-clause-by_index
+add_before-requires-clause-by_index c = lowered_fits c.loop-kind.invariant (omega (arith, c.requires.form_len.0)) c.requires.by_index
 
 pub loop-kind-preserved : goal.loop-kind-preserved
 loop-kind-preserved c = lowered_more c.loop-kind.invariant (omega (arith, c.requires.form_len.0)) c.add_before.auto.sum c.add_before.ensures

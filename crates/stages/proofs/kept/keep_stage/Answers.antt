@@ -1,9 +1,6 @@
 use Rattle.std.proofs.Common.{arith, ◌≡◌}
-use Rattle.stages.proofs.Keeping.{kept_none, kept_more}
+use Rattle.stages.proofs.Keeping.{kept_more}
 use Rattle.stages.proofs.kept.keep_stage.Goals as goal
-
-pub loop-kind-init : goal.loop-kind-init
-loop-kind-init c = kept_none
 
 pub loop-kind-preserved : goal.loop-kind-preserved
 loop-kind-preserved c = kept_more c.loop-kind.invariant c.keep_kind.ensures

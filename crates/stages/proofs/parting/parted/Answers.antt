@@ -20,15 +20,13 @@ bytes c = λ k. omega (arith, c.shared_slice_known-1.given k)
 rows_all : (start : Start) → length start.args.settled.base.rows ≡ 1024
 rows_all start = search rules
 
-pub field_form-one-requires : goal.field_form-one-requires
-field_form-one-requires c =
-    let S = c.requires.settled in
-    record { reads = c.requires.accepts.reads; field_lt_fields = c.requires.first_lt_fields.0; rows_len = (rows_all (goal.at.field_form-one-requires c).Start, settled_fit (sense_of c.args.sense) c.args.sheet.now c.requires.accepts.accepted c.args.settled.base.rows S.base_is (bytes (goal.at.field_form-one-requires c).After-shared_slice_known-1)) }
+pub field_form-one-requires-clause-rows_len : goal.field_form-one-requires-clause-rows_len
+field_form-one-requires-clause-rows_len c =
+    (rows_all (goal.at.field_form-one-requires-clause-rows_len c).Start, settled_fit (sense_of c.args.sense) c.args.sheet.now c.requires.accepts.accepted c.args.settled.base.rows c.requires.settled.base_is (bytes (goal.at.field_form-one-requires-clause-rows_len c).After-shared_slice_known-1))
 
-pub field_form-other-requires : goal.field_form-other-requires
-field_form-other-requires c =
-    let S = c.requires.settled in
-    record { reads = c.requires.accepts.reads; field_lt_fields = c.requires.first_lt_fields.1; rows_len = (rows_all (goal.at.field_form-other-requires c).Start, settled_fit (sense_of c.args.sense) c.args.sheet.now c.requires.accepts.accepted c.args.settled.base.rows S.base_is (bytes (goal.at.field_form-other-requires c).After-shared_slice_known-1)) }
+pub field_form-other-requires-clause-rows_len : goal.field_form-other-requires-clause-rows_len
+field_form-other-requires-clause-rows_len c =
+    (rows_all (goal.at.field_form-other-requires-clause-rows_len c).Start, settled_fit (sense_of c.args.sense) c.args.sheet.now c.requires.accepts.accepted c.args.settled.base.rows c.requires.settled.base_is (bytes (goal.at.field_form-other-requires-clause-rows_len c).After-shared_slice_known-1))
 
 pub overflow_add-result : goal.overflow_add-result
 overflow_add-result c =

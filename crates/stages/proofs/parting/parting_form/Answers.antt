@@ -5,29 +5,17 @@ use Rattle.tables.proofs.Tables.{told_not, counts_equal}
 use Rattle.stages.proofs.Parted.{forms_fit, part_before, part_here, part_first}
 use Rattle.stages.proofs.parting.parting_form.Goals as goal
 
-pub loop-t-init : goal.loop-t-init
-loop-t-init c = (c.requires.le_stage.0, omega arith, search rules, search rules, λ sense s i j p. p)
-
-pub slice_bounds-form_before-end : goal.slice_bounds-form_before-end
-slice_bounds-form_before-end c = omega (arith, c.loop-t.invariant.2)
-
-pub form_before-one-requires : goal.form_before-one-requires
-form_before-one-requires c =
+pub form_before-one-requires-clause-by_index : goal.form_before-one-requires-clause-by_index
+form_before-one-requires-clause-by_index c =
     let loop = c.loop-t in
     let part = c.requires.by_index in
-    record { form_len = (loop.invariant.2, search rules, search rules); by_index = (forms_fit loop.t c.loop-t-test.true (loop.invariant.4 part.0 part.1 part.2 part.3 part.4)).0 }
+    (forms_fit loop.t c.loop-t-test.true (loop.invariant.4 part.0 part.1 part.2 part.3 part.4)).0
 
-pub slice_bounds-form_before-end-in-loop-t-3 : goal.slice_bounds-form_before-end-in-loop-t-3
-slice_bounds-form_before-end-in-loop-t-3 c =
+pub form_before-other-requires-clause-by_index : goal.form_before-other-requires-clause-by_index
+form_before-other-requires-clause-by_index c =
     let loop = c.loop-t in
-    omega (arith, loop.invariant.3)
-
-pub form_before-other-requires : goal.form_before-other-requires
-form_before-other-requires c =
-    let loop = c.loop-t in
-    let loop-test = c.loop-t-test in
     let part = c.requires.by_index in
-    record { form_len = (loop.invariant.3, search rules, search rules); by_index = (forms_fit loop.t loop-test.true (loop.invariant.4 part.0 part.1 part.2 part.3 part.4)).1 }
+    (forms_fit loop.t c.loop-t-test.true (loop.invariant.4 part.0 part.1 part.2 part.3 part.4)).1
 
 pub returns-then-eq : goal.returns-then-eq
 returns-then-eq c =

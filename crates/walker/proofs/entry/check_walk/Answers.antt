@@ -1,9 +1,8 @@
 -- The desk first, then the checks of the sheet and of the field numbers, then 13: a refusal is the call's, and a card is one that was read.
 use mathlib.Core.Path.{sym}
 use native.Mathlib.Omega.{arith}
-use Prim.Native.Nat.{◌≤◌, ◌<◌}
+use Prim.Native.Nat.{◌<◌}
 use Rattle.std.proofs.lemmas.Result.{err_from_is_err_and}
-use Rattle.model.specs.Limits.{last_desk}
 use Rattle.model.specs.Sheet.{field_count}
 use Rattle.theory.proofs.Answers.{demand1}
 use Rattle.sheet.specs.Reader.{Reads}
@@ -12,11 +11,7 @@ use Rattle.validation.proofs.Checking.{checked_reads}
 use Rattle.validation.proofs.FieldNumbers.{fields_passed}
 use Rattle.walker.proofs.Refusals.{sheet_found, fields_found, limit_found}
 use Rattle.walker.proofs.entry.check_walk.Goals as goal
-use Rattle.walker.proofs.entry.check_walk.Goals.{After-check_sheet, In_ok-card, In_ok-check_fields}
-
--- The desk is one of the eight.
-there : (c : After-check_sheet) → c.args.desk ≤ last_desk
-there c = omega (arith, c.if-desk-ge-DESKS.false)
+use Rattle.walker.proofs.entry.check_walk.Goals.{In_ok-card, In_ok-check_fields}
 
 -- The card was read.
 card_read : (c : In_ok-card) → Reads c.args.sheet.now c.in_ok-card.card
@@ -35,28 +30,27 @@ returns-then-desk-ge-DESKS-clause-found c = sym ((demand1 _).walk_desk _ _ _ _ (
 pub returns-in_err-card-clause-found : goal.returns-in_err-card-clause-found
 returns-in_err-card-clause-found c =
     let p = err_from_is_err_and c.from_residual.result c.from_residual.ensures.1 in
-    rw (p.1, p.2) (sheet_found _ _ _ _ _ (there (goal.at.returns-in_err-card-clause-found c).After-check_sheet) _ _ (sym c.in_err-card.ensures))
+    rw (p.1, p.2) (sheet_found _ _ _ _ _ (omega (arith, c.if-desk-ge-DESKS.false)) _ _ (sym c.in_err-card.ensures))
 
 pub returns-in_err-check_fields-clause-found : goal.returns-in_err-check_fields-clause-found
 returns-in_err-check_fields-clause-found c =
     let p = err_from_is_err_and c.from_residual-in_err-check_fields.result c.from_residual-in_err-check_fields.ensures.1 in
     let read = card_read (goal.at.returns-in_err-check_fields-clause-found c).In_ok-card in
     rw (p.1, p.2)
-    (fields_found _ _ _ _ _ (there (goal.at.returns-in_err-check_fields-clause-found c).After-check_sheet) read.passed _ _
+    (fields_found _ _ _ _ _ (omega (arith, c.if-desk-ge-DESKS.false)) read.passed _ _
     (rw (fields_are read) at (sym c.in_err-check_fields.ensures)))
 
 pub returns-then-limit-gt-ROUNDS-clause-found : goal.returns-then-limit-gt-ROUNDS-clause-found
 returns-then-limit-gt-ROUNDS-clause-found c =
     let read = card_read (goal.at.returns-then-limit-gt-ROUNDS-clause-found c).In_ok-card in
     let fields = fields_there (goal.at.returns-then-limit-gt-ROUNDS-clause-found c).In_ok-check_fields in
-    limit_found _ _ _ _ _ (there (goal.at.returns-then-limit-gt-ROUNDS-clause-found c).After-check_sheet) read.passed fields.0 fields.1 (omega (arith, c.if-limit-gt-ROUNDS.true))
+    limit_found _ _ _ _ _ (omega (arith, c.if-desk-ge-DESKS.false)) read.passed fields.0 fields.1 (omega (arith, c.if-limit-gt-ROUNDS.true))
 
 pub returns-clause-found : goal.returns-clause-found
 returns-clause-found c =
     let read = card_read (goal.at.returns-clause-found c).In_ok-card in
     let fields = fields_there (goal.at.returns-clause-found c).In_ok-check_fields in
-    let desk = there (goal.at.returns-clause-found c).After-check_sheet in
-    sym (((demand1 _).walk_taken _ _ _ _).1 (desk, read.passed, fields.0, fields.1, omega (arith, c.if-limit-gt-ROUNDS.false)))
+    sym (((demand1 _).walk_taken _ _ _ _).1 (omega (arith, c.if-desk-ge-DESKS.false), read.passed, fields.0, fields.1, omega (arith, c.if-limit-gt-ROUNDS.false)))
 
 pub returns-clause-read : goal.returns-clause-read
 returns-clause-read c = card_read (goal.at.returns-clause-read c).In_ok-card

@@ -1,6 +1,6 @@
--- `refuse`: the line of the refusal.
+-- The line of the refusal.
 use Rattle.replies.proofs.Replies.{tells_refusal}
-use Rattle.replies.proofs.reply.refuse.Goals as goal
+use Rattle.replies.proofs.reply.refuse_as.Goals as goal
 
 pub returns : goal.returns
 returns c =
