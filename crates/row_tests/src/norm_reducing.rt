@@ -3,9 +3,9 @@ ghost use Rattle.std.specs.Prelude.{◌≡◌, true, ◌↔◌, ℕ, ◌≤◌, 
 ghost use Rattle.model.specs.Field.{unit, at};
 ghost use Rattle.model.specs.Limits.{most_kinds};
 ghost use Rattle.tables.specs.Lines.{lines_in, kind_in, LowersIn, LineTable};
-ghost use Rattle.tables.specs.Match.{EachMatched, AllMatched, Among, Lists, MatchTables, MatchIn, UsableIn, Answered};
+ghost use Rattle.tables.specs.Match.{EachMatched, AllMatched, Among, Lists, MatchBy, UsableIn, Answered};
 
-use tables::class::lines_match;
+use tables::effects::Effects;
 use tables::lines::{kind_of, lowers};
 use tables::table::row_of;
 
@@ -33,48 +33,45 @@ pub fn usable_lines<'a>(lines: &[u8], field: &[u32], list: &'a mut [u8]) -> &'a 
 }
 
 // Whether some line of a list matches a line.
-fn some_match(lines: &[u8], rows: &[u32], forms: &[u64], list: &[u8], line: usize) -> bool
-    requires tables { MatchTables lines.now rows.now forms.now }
-    requires list_within { (j : ℕ) → Among list.now j → j < lines_in lines.now }
-    requires line_bound { line < lines_in lines.now }
-    ensures { (result ≡ true) ↔ ((j : ℕ) × Among list.now j × MatchIn lines.now rows.now forms.now line j) }
+fn some_match(effects: &Effects, list: &[u8], line: usize) -> bool
+    requires list_within { (j : ℕ) → Among list.now j → j < lines_in effects.now.lines }
+    requires line_bound { line < lines_in effects.now.lines }
+    ensures { (result ≡ true) ↔ ((j : ℕ) × Among list.now j × MatchBy effects.now line j) }
 {
-    list.iter().any(|other| lines_match(lines, rows, forms, line, usize::from(*other)))
+    list.iter()
+        .any(|other| effects.matches(line, usize::from(*other)))
 }
 
 // Whether each line of a list has a match in another list.
-fn each_matched(lines: &[u8], rows: &[u32], forms: &[u64], list: &[u8], others: &[u8]) -> bool
-    requires tables { MatchTables lines.now rows.now forms.now }
-    requires list_within { (i : ℕ) → Among list.now i → i < lines_in lines.now }
-    requires others_within { (j : ℕ) → Among others.now j → j < lines_in lines.now }
-    ensures { (result ≡ true) ↔ EachMatched (MatchIn lines.now rows.now forms.now) (Among list.now) (Among others.now) }
+fn each_matched(effects: &Effects, list: &[u8], others: &[u8]) -> bool
+    requires list_within { (i : ℕ) → Among list.now i → i < lines_in effects.now.lines }
+    requires others_within { (j : ℕ) → Among others.now j → j < lines_in effects.now.lines }
+    ensures { (result ≡ true) ↔ EachMatched (MatchBy effects.now) (Among list.now) (Among others.now) }
 {
-    list.iter().all(|line| some_match(lines, rows, forms, others, usize::from(*line)))
+    list.iter()
+        .all(|line| some_match(effects, others, usize::from(*line)))
 }
 
 // Whether each line of either list has a match in the other. The lines of the longer list are the first to challenge: unless some have the same effect, the shorter has too few replies.
-fn all_matched(lines: &[u8], rows: &[u32], forms: &[u64], list: &[u8], others: &[u8]) -> bool
-    requires tables { MatchTables lines.now rows.now forms.now }
-    requires list_within { (i : ℕ) → Among list.now i → i < lines_in lines.now }
-    requires others_within { (j : ℕ) → Among others.now j → j < lines_in lines.now }
-    ensures { (result ≡ true) ↔ AllMatched (MatchIn lines.now rows.now forms.now) (Among list.now) (Among others.now) }
+fn all_matched(effects: &Effects, list: &[u8], others: &[u8]) -> bool
+    requires list_within { (i : ℕ) → Among list.now i → i < lines_in effects.now.lines }
+    requires others_within { (j : ℕ) → Among others.now j → j < lines_in effects.now.lines }
+    ensures { (result ≡ true) ↔ AllMatched (MatchBy effects.now) (Among list.now) (Among others.now) }
 {
     if list.len() < others.len() {
-        each_matched(lines, rows, forms, others, list)
-            && each_matched(lines, rows, forms, list, others)
+        each_matched(effects, others, list) && each_matched(effects, list, others)
     } else {
-        each_matched(lines, rows, forms, list, others)
-            && each_matched(lines, rows, forms, others, list)
+        each_matched(effects, list, others) && each_matched(effects, others, list)
     }
 }
 
 // Whether every challenge of the kind or of its row that lowers the norm has a reply by the other that does. The kind's own lines that do are given.
-pub fn all_answered(lines: &[u8], rows: &[u32], forms: &[u64], own: &[u8], kind: usize) -> bool
-    requires tables { MatchTables lines.now rows.now forms.now × (kind < most_kinds) }
-    requires lists { Lists (UsableIn lines.now (unit kind)) own.now }
-    ensures { (result ≡ true) ↔ Answered lines.now rows.now forms.now kind }
+pub fn all_answered(effects: &Effects, own: &[u8], kind: usize) -> bool
+    requires kind_lt_most_kinds { kind < most_kinds }
+    requires lists { Lists (UsableIn effects.now.lines (unit kind)) own.now }
+    ensures { (result ≡ true) ↔ Answered effects.now.lines effects.now.rows effects.now.forms kind }
 {
     let mut its = [0u8; 256];
-    let others = usable_lines(lines, row_of(rows, kind), &mut its);
-    all_matched(lines, rows, forms, own, others)
+    let others = usable_lines(effects.lines(), row_of(effects.rows(), kind), &mut its);
+    all_matched(effects, own, others)
 }

@@ -16,6 +16,7 @@ ghost use Rattle.rows.specs.StageRows.{StageGiven, RowSought};
 use row_tests::expansion::one_token;
 use row_tests::passes::passes;
 use tables::effect::candidate;
+use tables::effects::Effects;
 use tables::lines::{code_of, kind_of, lowers};
 use tables::sense::Sense;
 use tables::table::{is_atom, row_of, set_row};
@@ -74,7 +75,8 @@ pub fn told_row(
         if suits(lines, classes, rows, line, other) {
             if let Some(counts) = told(lines, forms, line, other) {
                 set_row(rows, kind, &counts);
-                if passes(sense, lines, marks, rows, forms, own, kind) {
+                let effects = Effects::new(lines, rows, forms);
+                if passes(sense, &effects, marks, own, kind) {
                     return;
                 }
             }

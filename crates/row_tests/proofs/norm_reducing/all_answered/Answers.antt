@@ -6,13 +6,16 @@ use Rattle.row_tests.proofs.norm_reducing.all_answered.Goals as goal
 
 pub usable_lines-others-requires : goal.usable_lines-others-requires
 usable_lines-others-requires c =
-    let long = lent_length c.args.rows.now c.args.kind (omega (arith, c.requires.tables.0.rows_long, c.requires.tables.1)) c.row_of.ensures in
-    (c.requires.tables.0.whole, long, c.requires.tables.0.whole.few)
+    let long = lent_length c.rows.result.now c.args.kind (omega (arith, c.rows.ensures.long, c.requires.kind_lt_most_kinds)) c.row_of.ensures in
+    (c.lines.ensures.whole, long, c.lines.ensures.whole.few)
 
 pub all_matched-requires : goal.all_matched-requires
-all_matched-requires c = record { tables = c.requires.tables.0; list_within = λ i a. ((c.requires.lists.entries i).0 a).0.0; others_within = λ j a. ((c.usable_lines-others.ensures.1.entries j).0 a).0.0 }
+all_matched-requires c =
+    let others = rw c.lines.ensures.lent at c.usable_lines-others.ensures.1 in
+    record { list_within = λ i a. ((c.requires.lists.entries i).0 a).0.0; others_within = λ j a. ((others.entries j).0 a).0.0 }
 
 pub returns : goal.returns
 returns c =
-    let rows = c.args.rows.now in
-    lists_matched c.args.lines.now rows c.args.forms.now c.args.kind (lent_row rows c.args.kind c.row_of.ensures) c.requires.lists c.usable_lines-others.ensures.1 c.all_matched.ensures
+    let e = c.args.effects.now in
+    let others = rw c.lines.ensures.lent at c.usable_lines-others.ensures.1 in
+    lists_matched e.lines e.rows e.forms c.args.kind (lent_row e.rows c.args.kind (rw c.rows.ensures.lent at c.row_of.ensures)) c.requires.lists others c.all_matched.ensures

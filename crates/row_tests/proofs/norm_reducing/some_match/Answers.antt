@@ -9,4 +9,4 @@ use Rattle.row_tests.proofs.norm_reducing.some_match.Goals as goal
 pub any-requires-clause-callable : goal.any-requires-clause-callable
 any-requires-clause-callable c =
     let list = c.args.list.now in
-    serves_from_places (YieldsList-from_slice list cc) (λ x q k. search rules) (λ x k l e. let within : x.now < lines_in c.args.lines.now = c.requires.list_within x.now (k, l, sym (e ∙ get_or_default_zero list k x.now l)) in search rules)
+    serves_from_places (YieldsList-from_slice list cc) (λ x q k. search rules) (λ x k l e. let within : x.now < lines_in c.args.effects.now.lines = c.requires.list_within x.now (k, l, sym (e ∙ get_or_default_zero list k x.now l)) in search rules)

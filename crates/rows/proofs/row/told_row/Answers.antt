@@ -20,7 +20,7 @@ returns-then-passes c =
     let long : length c.in-Some.counts ≡ 32 = search rules in
     let room : c.args.kind * 32 + 32 ≤ length c.loop-other.rows = omega (arith, c.loop-other.invariant.long, c.requires.tables.rows_long, c.requires.kind_lt_most_kinds.0) in
     let suited = c.suits.ensures.0 c.if-suits.true in
-    let passed = (c.passes.ensures _ c.requires.kind_marks).0 c.if-passes.true in
+    let passed = ((rw c.new-effects.ensures at c.passes.ensures) _ c.requires.kind_marks).0 c.if-passes.true in
     let H = c.loop-other.invariant in
     let lw = own_line (goal.at.returns-then-passes c).After-from-line in
     let hm = c.loop-other-test.true in
@@ -36,7 +36,7 @@ loop-other-preserved c =
       | then-suits+in-Some+else-passes w ↦
           let long : length w.in-Some.counts ≡ 32 = search rules in
           rw w.rows-is
-          (searched_failed H lw hm (c.suits.ensures.0 w.if-suits.true) w.in-Some.ensures refl long room w.set_row.ensures w.set_row.auto.rows (told_not (w.passes.ensures _ c.requires.kind_marks) w.if-passes.false))
+          (searched_failed H lw hm (c.suits.ensures.0 w.if-suits.true) w.in-Some.ensures refl long room w.set_row.ensures w.set_row.auto.rows (told_not ((rw w.new-effects.ensures at w.passes.ensures) _ c.requires.kind_marks) w.if-passes.false))
       | then-suits+in_default w ↦ rw w.rows-is (searched_unfound H lw hm (c.suits.ensures.0 w.if-suits.true) w.in_default.ensures refl)
       | else-suits w ↦ rw w.rows-is (searched_skip H lw hm (told_not c.suits.ensures w.if-suits.false))
     ]
