@@ -3,7 +3,7 @@ use mathlib.Core.List.{List, ◌++◌}
 use mathlib.Core.Path.{◌≡◌, ap, ◌∙◌}
 use Prim.Native.Nat.{ℕ}
 use Rattle.model.specs.Sheet.{kind_count}
-use Rattle.model.specs.Answer.{Answer, refused, given, settle_of, row_check_of}
+use Rattle.model.specs.Answer.{refused, given, settle_of, row_check_of}
 use Rattle.model.specs.Page.{number}
 use Rattle.replies.specs.Texts.{worded}
 use Rattle.verbs.specs.Texts.{table_room, stages_line, row_lines, settle_text, row_in, row_after, row_text}

@@ -1,9 +1,7 @@
 -- Each case by its number.
 use mathlib.Core.Path.{◌∙◌, sym, ap}
-use Rattle.std.specs.Prelude.{Result}
 use Rattle.std.proofs.lemmas.Result.{IfErr-at_err}
 use Rattle.refusals.specs.Refusals.{answer_of}
-use Rattle.refusals.specs.declared.Refusal.{Refusal}
 use Rattle.exports.specs.Calls.{written_code}
 use Rattle.exports.proofs.form.forming_code.Goals as goal
 
