@@ -10,7 +10,8 @@ ghost use Rattle.filer.specs.Answers.{verdict_of};
 ghost use Rattle.filer.specs.Settlement.{IsSettlement};
 
 use crate::answers::Verdict;
-use crate::settlement::{Settlement, settle_once};
+use crate::settlement::{Settlement, settle_accepted};
+use acceptance::accept::accept;
 use norms::lines::gain;
 use sheet::Card;
 use stages::parting::parted;
@@ -36,8 +37,11 @@ pub fn finer_compare(sheet: &[u8], first: usize, second: usize) -> Verdict
 pub fn compare_in(sense: Sense, sheet: &[u8], first: usize, second: usize) -> Verdict
     ensures { verdict_of result ≡ compare_in (sense_of sense) sheet.now first second }
 {
-    match settle_once(sense, sheet) {
-        Ok(settlement) => compare_settled(sense, sheet, settlement, first, second),
+    match accept(sheet) {
+        Ok(acceptance) => {
+            let settlement = settle_accepted(sense, sheet, acceptance);
+            compare_settled(sense, sheet, settlement, first, second)
+        }
         Err(refusal) => Verdict::from(refusal),
     }
 }

@@ -11,7 +11,8 @@ ghost use Rattle.refusals.specs.Refusals.{answer_of};
 ghost use Rattle.rows.specs.Stage.{BaseAt};
 ghost use Rattle.filer.specs.Settlement.{IsSettlement};
 
-use crate::settlement::{Settlement, settle_once};
+use crate::settlement::{Settlement, settle_accepted};
+use acceptance::accept::accept;
 use copies::write;
 use refusals::Refusal;
 use sheet::Card;
@@ -40,7 +41,8 @@ pub fn form_in(sense: Sense, sheet: &[u8], field: usize, buffer: &mut [u64]) -> 
     ensures result_value { answer_of (λ x. tt) result ≡ (forming_in (sense_of sense) sheet.now field buffer.old).answer }
     ensures buffer_after { buffer.new ≡ (forming_in (sense_of sense) sheet.now field buffer.old).lent }
 {
-    let settlement = settle_once(sense, sheet)?;
+    let acceptance = accept(sheet)?;
+    let settlement = settle_accepted(sense, sheet, acceptance);
     form_settled(sheet, settlement, field, buffer)
 }
 

@@ -5,7 +5,8 @@ ghost use Rattle.model.specs.Answer.{written, settle_of, settle_since_of};
 ghost use Rattle.refusals.specs.Refusals.{answer_of};
 ghost use Rattle.filer.specs.Settlement.{table_in};
 
-use crate::settlement::settle_once;
+use crate::settlement::settle_accepted;
+use acceptance::accept::accept;
 use copies::{narrow, write};
 use refusals::Refusal;
 use tables::sense::Sense;
@@ -15,7 +16,8 @@ pub fn settle_sheet(sheet: &[u8], table: &mut [u32]) -> Result<usize, Refusal>
     ensures result_value { answer_of (λ stage. stage) result ≡ (settle_of sheet.now table.old).answer }
     ensures table_after { table.new ≡ (settle_of sheet.now table.old).lent }
 {
-    let settlement = settle_once(Sense::Plain, sheet)?;
+    let acceptance = accept(sheet)?;
+    let settlement = settle_accepted(Sense::Plain, sheet, acceptance);
     let n = settlement.card.kinds;
     if table.len() < n * n {
         return Err(Refusal::ShortBuffer);
@@ -32,7 +34,8 @@ pub fn settle_since(sheet: &[u8], table: &mut [u32], since: &mut [u32]) -> Resul
     ensures table_after { table.new ≡ (settle_since_of sheet.now table.old since.old).table }
     ensures since_after { since.new ≡ (settle_since_of sheet.now table.old since.old).marks }
 {
-    let settlement = settle_once(Sense::Plain, sheet)?;
+    let acceptance = accept(sheet)?;
+    let settlement = settle_accepted(Sense::Plain, sheet, acceptance);
     let n = settlement.card.kinds;
     if table.len() < n * n {
         return Err(Refusal::ShortBuffer);

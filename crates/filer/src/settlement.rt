@@ -1,7 +1,9 @@
 // The core: a sheet is checked and settled once, and every call but Row goes by what that gives.
+ghost use Rattle.norms.specs.Norms.{Accepts};
 ghost use Rattle.tables.specs.Senses.{sense_of};
-ghost use Rattle.filer.specs.Settlement.{SettlementIs};
+ghost use Rattle.filer.specs.Settlement.{IsSettlement, SettlementIs};
 
+use acceptance::Acceptance;
 use acceptance::accept::accept;
 use refusals::Refusal;
 use sheet::Card;
@@ -17,19 +19,29 @@ pub struct Settlement {
     pub settled: Settled,
 }
 
-// Any bytes: checked, and settled in a sense if they are accepted. A page of a sheet needs this once.
+// An accepted sheet, settled in a sense: each call settles once, and a page of a sheet too.
+// Inlined: a call would copy what is settled once more, onto the stack.
+#[inline(always)]
+pub fn settle_accepted(sense: Sense, sheet: &[u8], acceptance: Acceptance) -> Settlement
+    requires { Accepts sheet.now acceptance.card acceptance.norms }
+    ensures { IsSettlement (sense_of sense) sheet.now result }
+{
+    let card = acceptance.card;
+    let norms = acceptance.norms;
+    let settled = settle_reached(sense, sheet, card, norms);
+    Settlement {
+        card,
+        norms,
+        settled,
+    }
+}
+
+// Any bytes: checked, and settled in a sense if they are accepted. The calls of the library check and settle one after the other: a result of what is settled would be copied once more.
 // Inlined: a call would copy what is settled once more, onto the stack.
 #[inline(always)]
 pub fn settle_once(sense: Sense, sheet: &[u8]) -> Result<Settlement, Refusal>
     ensures { SettlementIs (sense_of sense) sheet.now result }
 {
     let acceptance = accept(sheet)?;
-    let card = acceptance.card;
-    let norms = acceptance.norms;
-    let settled = settle_reached(sense, sheet, card, norms);
-    Ok(Settlement {
-        card,
-        norms,
-        settled,
-    })
+    Ok(settle_accepted(sense, sheet, acceptance))
 }

@@ -15,8 +15,9 @@ ghost use Rattle.page.specs.Writing.{write_page_of};
 use crate::fields::put_fields;
 use crate::kinds::put_kinds;
 use crate::pairs::put_pairs;
+use acceptance::accept::accept;
 use filer::settle::write_table;
-use filer::settlement::{Settlement, settle_once};
+use filer::settlement::{Settlement, settle_accepted};
 use listing::put_head;
 use refusals::Refusal;
 use tables::sense::Sense;
@@ -66,8 +67,11 @@ fn put_page(out: &mut [u8], sheet: &[u8]) -> usize
     requires { most_page ≤ length out.old }
     ensures { Appended most_page out.old 0 (page_of sheet.now) out.new result }
 {
-    match settle_once(Sense::Plain, sheet) {
-        Ok(settlement) => put_lines(out, sheet, settlement),
+    match accept(sheet) {
+        Ok(acceptance) => {
+            let settlement = settle_accepted(Sense::Plain, sheet, acceptance);
+            put_lines(out, sheet, settlement)
+        }
         Err(refusal) => put_refused(out, 0, refusal.number(), refusal.place()),
     }
 }

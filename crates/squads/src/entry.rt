@@ -10,8 +10,9 @@ ghost use Rattle.sheet.specs.Reader.{Reads};
 ghost use Rattle.refusals.specs.Refusals.{answer_of};
 ghost use Rattle.rows.specs.Stage.{BaseAt};
 
+use acceptance::accept::accept;
 use filer::form::prime_counts;
-use filer::settlement::settle_once;
+use filer::settlement::settle_accepted;
 use quotients::divide::divide;
 use refusals::Refusal;
 use sheet::Card;
@@ -30,7 +31,8 @@ pub fn squads(
     ensures result_value { answer_of (λ q. q) result ≡ (squads_of sheet.now whole squad remainder.old).answer }
     ensures remainder_after { remainder.new ≡ (squads_of sheet.now whole squad remainder.old).lent }
 {
-    let settlement = settle_once(Sense::Plain, sheet)?;
+    let acceptance = accept(sheet)?;
+    let settlement = settle_accepted(Sense::Plain, sheet, acceptance);
     let card = settlement.card;
     check_fields(card, whole, squad)?;
     squads_accepted(

@@ -3,8 +3,8 @@ use Rattle.std.proofs.lemmas.Result.{err_from_is_err_and}
 use Rattle.acceptance.proofs.Acceptances.{accepts, found_refused}
 use Rattle.filer.proofs.settlement.settle_once.Goals as goal
 
-pub settle_reached-settled-requires : goal.settle_reached-settled-requires
-settle_reached-settled-requires c = accepts _ c.in_ok-acceptance.acceptance c.in_ok-acceptance.ensures
+pub settle_accepted-requires : goal.settle_accepted-requires
+settle_accepted-requires c = accepts _ c.in_ok-acceptance.acceptance c.in_ok-acceptance.ensures
 
 pub returns-in_err-acceptance : goal.returns-in_err-acceptance
 returns-in_err-acceptance c =
@@ -12,4 +12,4 @@ returns-in_err-acceptance c =
     rw (p.1, p.2) (found_refused _ _ _ c.in_err-acceptance.ensures)
 
 pub returns : goal.returns
-returns c = record { accepts = accepts _ c.in_ok-acceptance.acceptance c.in_ok-acceptance.ensures; settled_is = c.settle_reached-settled.ensures }
+returns c = c.settle_accepted.ensures
