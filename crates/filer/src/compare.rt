@@ -64,8 +64,9 @@ pub fn compare_settled(
         return Verdict::from(refusal);
     }
     let norms = settlement.norms;
-    let last = settlement.settled.stage;
-    let stage = parted(sense, sheet, card, norms, settlement.settled, first, second);
+    let settled = settlement.settled;
+    let last = settled.stage;
+    let stage = parted(sense, sheet, card, norms, settled, first, second);
     if last < stage {
         return Verdict::Same;
     }

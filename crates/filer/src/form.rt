@@ -67,7 +67,9 @@ pub fn form_settled(
     if buffer.len() < n {
         return Err(Refusal::ShortBuffer);
     }
-    let form = prime_counts(sheet, card, settlement.settled.base, field);
+    let settled = settlement.settled;
+    let base = settled.base;
+    let form = prime_counts(sheet, card, base, field);
     write(&form[..n], buffer);
     Ok(())
 }
@@ -81,5 +83,6 @@ pub fn prime_counts(sheet: &[u8], card: Card, base: Base, field: usize) -> [u64;
     requires field_lt_fields { field < card.fields }
     ensures { (sense : model.Sense) → BaseAt sense sheet.now (settled_stage_in sense (card_of sheet.now)) base.rows → take (kind_count sheet.now) result ≡ prime_form_in sense sheet.now field }
 {
-    field_form(sheet, card, &base.rows, field)
+    let rows = base.rows;
+    field_form(sheet, card, &rows, field)
 }

@@ -22,8 +22,11 @@ pub fn settle_sheet(sheet: &[u8], table: &mut [u32]) -> Result<usize, Refusal>
     if table.len() < n * n {
         return Err(Refusal::ShortBuffer);
     }
-    let stage = settlement.settled.stage;
-    write_table(&settlement.settled.base.rows, n, table);
+    let settled = settlement.settled;
+    let stage = settled.stage;
+    let base = settled.base;
+    let rows = base.rows;
+    write_table(&rows, n, table);
     Ok(stage)
 }
 
@@ -43,10 +46,12 @@ pub fn settle_since(sheet: &[u8], table: &mut [u32], since: &mut [u32]) -> Resul
     if since.len() < n {
         return Err(Refusal::ShortBuffer);
     }
-    let last = settlement.settled.stage;
-    let base = &settlement.settled.base;
+    let settled = settlement.settled;
+    let last = settled.stage;
+    let base = settled.base;
+    let rows = base.rows;
     let marks = base.since;
-    write_table(&base.rows, n, table);
+    write_table(&rows, n, table);
     narrow(&marks[..n], since);
     Ok(last)
 }

@@ -3,13 +3,14 @@ ghost use Rattle.std.specs.Prelude.{◌+◌, ◌≤◌, ◌<◌, length};
 ghost use Rattle.part_sheet.specs.Bytes.{Copied, NumberSet};
 
 // Copies so many bytes from an offset of one slice to an offset of another.
-// Not inlined: within its caller the back end no longer sees that the two slices lie apart, and copies by memmove, which the library does not call.
-#[inline(never)]
+// Byte by byte: `copy_from_slice` of parts so long calls memmove, and the library calls memcpy and memset alone.
 pub fn copy_bytes(source: &[u8], from: usize, target: &mut [u8], to: usize, count: usize)
     requires { (from + count ≤ length source.now) × (to + count ≤ length target.old) }
     ensures { Copied source.now from target.old to count target.new }
 {
-    target[to..to + count].copy_from_slice(&source[from..from + count]);
+    for i in 0..count {
+        target[to + i] = source[from + i];
+    }
 }
 
 // Writes a number at an offset: two bytes, low byte first.
