@@ -35,14 +35,8 @@ pub fn squads(
     let settlement = settle_accepted(Sense::Plain, sheet, acceptance);
     let card = settlement.card;
     check_fields(card, whole, squad)?;
-    squads_accepted(
-        sheet,
-        card,
-        settlement.settled.base,
-        whole,
-        squad,
-        remainder,
-    )
+    let settled = settlement.settled;
+    squads_accepted(sheet, card, settled.base, whole, squad, remainder)
 }
 
 // Squads, of two fields of a sheet that was accepted, by its final base.
