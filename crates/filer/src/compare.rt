@@ -38,10 +38,13 @@ pub fn compare_in(sense: Sense, sheet: &[u8], first: usize, second: usize) -> Ve
     ensures { verdict_of result ≡ compare_in (sense_of sense) sheet.now first second }
 {
     match accept(sheet) {
-        Ok(acceptance) => {
-            let settlement = settle_accepted(sense, sheet, acceptance);
-            compare_settled(sense, sheet, settlement, first, second)
-        }
+        Ok(acceptance) => compare_settled(
+            sense,
+            sheet,
+            settle_accepted(sense, sheet, acceptance),
+            first,
+            second,
+        ),
         Err(refusal) => Verdict::from(refusal),
     }
 }

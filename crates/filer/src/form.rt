@@ -42,8 +42,12 @@ pub fn form_in(sense: Sense, sheet: &[u8], field: usize, buffer: &mut [u64]) -> 
     ensures buffer_after { buffer.new ≡ (forming_in (sense_of sense) sheet.now field buffer.old).lent }
 {
     let acceptance = accept(sheet)?;
-    let settlement = settle_accepted(sense, sheet, acceptance);
-    form_settled(sheet, settlement, field, buffer)
+    form_settled(
+        sheet,
+        settle_accepted(sense, sheet, acceptance),
+        field,
+        buffer,
+    )
 }
 
 // The prime form of the sense in which an accepted sheet was settled, of any field number and a buffer of any length.

@@ -28,11 +28,10 @@ pub fn settle_accepted(sense: Sense, sheet: &[u8], acceptance: Acceptance) -> Se
 {
     let card = acceptance.card;
     let norms = acceptance.norms;
-    let settled = settle_reached(sense, sheet, card, norms);
     Settlement {
         card,
         norms,
-        settled,
+        settled: settle_reached(sense, sheet, card, norms),
     }
 }
 

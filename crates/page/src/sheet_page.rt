@@ -68,10 +68,7 @@ fn put_page(out: &mut [u8], sheet: &[u8]) -> usize
     ensures { Appended most_page out.old 0 (page_of sheet.now) out.new result }
 {
     match accept(sheet) {
-        Ok(acceptance) => {
-            let settlement = settle_accepted(Sense::Plain, sheet, acceptance);
-            put_lines(out, sheet, settlement)
-        }
+        Ok(acceptance) => put_lines(out, sheet, settle_accepted(Sense::Plain, sheet, acceptance)),
         Err(refusal) => put_refused(out, 0, refusal.number(), refusal.place()),
     }
 }

@@ -4,11 +4,11 @@ use Rattle.acceptance.proofs.Acceptances.{accepts, found_refused}
 use Rattle.filer.proofs.Settlements.{compare_refuses_sheet}
 use Rattle.filer.proofs.compare.compare_in.Goals as goal
 
-pub settle_accepted-settlement-requires : goal.settle_accepted-settlement-requires
-settle_accepted-settlement-requires c = accepts _ c.in-Ok.acceptance c.in-Ok.ensures
+pub settle_accepted-requires : goal.settle_accepted-requires
+settle_accepted-requires c = accepts _ c.in-Ok.acceptance c.in-Ok.ensures
 
 pub compare_settled-requires : goal.compare_settled-requires
-compare_settled-requires c = c.settle_accepted-settlement.ensures
+compare_settled-requires c = c.settle_accepted.ensures
 
 pub returns-in-Ok : goal.returns-in-Ok
 returns-in-Ok c = c.compare_settled.ensures

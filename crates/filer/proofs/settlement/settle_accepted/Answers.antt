@@ -2,4 +2,4 @@
 use Rattle.filer.proofs.settlement.settle_accepted.Goals as goal
 
 pub returns : goal.returns
-returns c = record { accepts = c.requires; settled_is = c.settle_reached-settled.ensures }
+returns c = record { accepts = c.requires; settled_is = c.settle_reached.ensures }

@@ -7,14 +7,14 @@ use Rattle.text.proofs.Append.{reads_as}
 use Rattle.page.proofs.Pages.{page_refusal, page_lines}
 use Rattle.page.proofs.sheet_page.put_page.Goals as goal
 
-pub settle_accepted-settlement-requires : goal.settle_accepted-settlement-requires
-settle_accepted-settlement-requires c = accepts _ c.in-Ok.acceptance c.in-Ok.ensures
+pub settle_accepted-requires : goal.settle_accepted-requires
+settle_accepted-requires c = accepts _ c.in-Ok.acceptance c.in-Ok.ensures
 
 pub put_lines-requires : goal.put_lines-requires
-put_lines-requires c = record { settlement = c.settle_accepted-settlement.ensures; most_page_in_bounds = omega (arith, c.requires) }
+put_lines-requires c = record { settlement = c.settle_accepted.ensures; most_page_in_bounds = omega (arith, c.requires) }
 
 pub returns-in-Ok : goal.returns-in-Ok
-returns-in-Ok c = reads_as most_page (page_of c.args.sheet.now) c.put_lines.ensures (omega arith) (page_lines c.settle_accepted-settlement.ensures.accepts)
+returns-in-Ok c = reads_as most_page (page_of c.args.sheet.now) c.put_lines.ensures (omega arith) (page_lines c.settle_accepted.ensures.accepts)
 
 pub returns-in-Err : goal.returns-in-Err
 returns-in-Err c =
