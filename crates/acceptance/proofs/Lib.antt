@@ -1,3 +1,2 @@
 -- Laws that the proofs of the functions cite, and the crates above.
-pub mod Lowest  -- the lowest that passes a test
 pub mod Acceptances  -- checks 9 and 10, and all ten

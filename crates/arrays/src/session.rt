@@ -3,10 +3,8 @@ ghost use Rattle.std.specs.Prelude.{[], ◌∷◌, ◌≡◌, ◌≤◌, length,
 ghost use Rattle.model.specs.Answer.{written};
 ghost use Rattle.arrays.specs.Session.{desks, short_walk};
 
-use crate::reply::refusal_code;
-use copies::bits32::write_u32;
-use copies::bits64::write_u64;
-use walker::{Answer, DESKS, Session, walk};
+use crate::reply::refused;
+use walker::{DESKS, Session, check_walk};
 
 // What each desk has left, of an array that has them all.
 pub fn lent_session(session: &[u32]) -> Session
@@ -14,11 +12,12 @@ pub fn lent_session(session: &[u32]) -> Session
     ensures { result.left ≡ take desks session.now }
 {
     let mut left = [0u32; DESKS];
-    write_u32(&session[..DESKS], &mut left);
+    left.copy_from_slice(&session[..DESKS]);
     Session::open(left)
 }
 
 // The values of an answer and what each desk has left, to arrays that have room for them.
+#[tactic(auto, unfolding(model::specs::Answer::written))]
 pub fn reply_walk(
     word: u64,
     rounds: u64,
@@ -33,24 +32,17 @@ pub fn reply_walk(
     ensures session_after { session.new ≡ written after.left session.old }
     ensures answer_after { answer.new ≡ written (word ∷ rounds ∷ drawn ∷ []) answer.old }
 {
-    let left = after.left;
-    write_u32(&left, session);
-    let values = [word, rounds, drawn as u64];
-    write_u64(&values, answer);
+    copies::write(&after.left, session);
+    copies::write(&[word, rounds, u64::from(drawn)], answer);
     0
 }
 
-// What is returned where an array has no room: a refusal of the other checks, else 12. Nothing is played, since no desk has an allowance.
+// What is returned where an array has no room: a refusal of the other checks, else 12. Nothing is played.
 pub fn short_walk(sheet: &[u8], first: usize, second: usize, limit: u64, desk: usize) -> u32
     ensures { result ≡ short_walk sheet.now first second limit desk }
 {
-    let session = Session::open([0u32; DESKS]);
-    let walked = walk(sheet, first, second, limit, desk, session);
-    let found = walked.answer;
-    match found {
-        Answer::Together => 12,
-        Answer::Apart { rounds: _ } => 12,
-        Answer::Spent => 12,
-        Answer::Refused { number, place } => refusal_code(number, place),
+    match check_walk(sheet, first, second, limit, desk) {
+        Ok(_) => 12,
+        Err(refusal) => refused(refusal),
     }
 }

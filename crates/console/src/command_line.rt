@@ -1,37 +1,23 @@
 // The words of the command line.
-ghost use Rattle.std.specs.Prelude.{◌≤◌, length};
+ghost use Rattle.std.specs.Prelude.{◌≤◌, IfSome, length};
 ghost use Rattle.console.specs.Counts.{IsPrefixLen};
-ghost use Rattle.console.specs.Counted.{length_of};
 
 use std::env::FillError;
 use std::rt::Env;
 use text::put_byte;
 
-// How much of the buffer is written where all words are there, or that they do not fit.
-#[derive(Drop)]
-pub enum Words {
-    All { length: usize },
-    TooLong,
-}
-
-// The words past the program's own name, each with a 0 after it, from position `at` of the buffer on.
-pub fn arguments<E: Env>(env: &E, words: &mut [u8], at: usize) -> Words
-    ensures { IsPrefixLen (length_of result) words.new }
+// The words past the program's own name, each with a 0 after it, from position `at` of the buffer on: how much of the buffer is written, or none where they do not fit.
+pub fn arguments<E: Env>(env: &E, words: &mut [u8], at: usize) -> Option<usize>
+    ensures { IfSome result (λ n. IsPrefixLen n words.new) }
 {
     if words.len() < at {
-        return Words::TooLong;
+        return None;
     }
-    let count = argument_count(env);
     let mut next = at;
-    let mut i = 1;
-    while i < count {
-        let Words::All { length } = put_argument(env, words, next, i) else {
-            return Words::TooLong;
-        };
-        next = length;
-        i += 1;
+    for i in 1..argument_count(env) {
+        next = put_argument(env, words, next, i)?;
     }
-    Words::All { length: next }
+    Some(next)
 }
 
 // How many arguments there are, the program's own name among them: the list ends at the first that is not there.
@@ -45,17 +31,14 @@ fn argument_count<E: Env>(env: &E) -> usize {
 }
 
 // The argument at an index, with a 0 after it.
-fn put_argument<E: Env>(env: &E, words: &mut [u8], at: usize, index: usize) -> Words
+fn put_argument<E: Env>(env: &E, words: &mut [u8], at: usize, index: usize) -> Option<usize>
     requires { at ≤ length words.old }
-    ensures { IsPrefixLen (length_of result) words.new }
+    ensures { IfSome result (λ n. IsPrefixLen n words.new) }
 {
-    let Ok(bytes) = env.arg(index, &mut words[at..]) else {
-        return Words::TooLong;
-    };
+    let bytes = env.arg(index, &mut words[at..]).ok()?;
     let end = at + bytes;
     if words.len() <= end {
-        return Words::TooLong;
+        return None;
     }
-    let length = put_byte(words, end, 0);
-    Words::All { length }
+    Some(put_byte(words, end, 0))
 }

@@ -6,7 +6,7 @@
 // A sheet from standard input.
 mod input;
 
-pub use input::{INPUT, Reading, read_sheet};
+pub use input::{INPUT, read_sheet};
 
 // Texts to standard output and standard error.
 mod output;
@@ -16,4 +16,4 @@ pub use output::{explain, print, unread};
 // The words of the command line.
 mod command_line;
 
-pub use command_line::{Words, arguments};
+pub use command_line::arguments;

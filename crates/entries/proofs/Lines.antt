@@ -1,12 +1,13 @@
 -- The lines of a row, entry by entry.
-use mathlib.Core.List.{List, [], ◌∷◌, ◌++◌, map}
-use mathlib.Core.Path.{◌≡◌, refl, ◌∙◌, ap}
-use Prim.Native.Nat.{ℕ, zero, suc, ◌*◌}
+use mathlib.Core.List.{List, ◌++◌}
+use mathlib.Core.Path.{◌≡◌, ◌∙◌, ap}
+use Prim.Native.Nat.{ℕ, ◌*◌}
 use native.Mathlib.Omega.{arith}
 use lib.ListN.{length, get_or}
 use Rattle.model.specs.Finite.{concat, list_from}
 use Rattle.text.specs.Appended.{Appended}
 use Rattle.text.proofs.Append.{then, reads_as}
+use Rattle.text.proofs.Sequence.{by_number}
 use Rattle.entries.specs.Table.{entries_of, entry_line, entry_lines, row_text, row_texts}
 use Rattle.entries.proofs.Rows.{seventeen}
 
@@ -14,23 +15,13 @@ use Rattle.entries.proofs.Rows.{seventeen}
 abbrev pub line_at : List ℕ → ℕ → List ℕ
 line_at xs t = entry_line (get_or xs t 0)
 
-shifted : (f : ℕ → List ℕ) (a i : ℕ) → list_from f (suc a) i ≡ list_from (λ t. f (suc t)) a i
-unfolding list_from
-shifted f a zero = refl
-shifted f a (suc i) = ap (λ (l : List (List ℕ)). f (suc a) ∷ l) (shifted f (suc a) i)
-
-by_number : (xs : List ℕ) → list_from (line_at xs) 0 (length xs) ≡ map entry_line xs
-unfolding list_from
-by_number [] = refl
-by_number (x ∷ xs) = ap (λ (l : List (List ℕ)). entry_line x ∷ l) (shifted (line_at (x ∷ xs)) 0 (length xs) ∙ by_number xs)
-
 -- All entries of a row.
 pub lines_all : {i k start : ℕ} {b d : List ℕ} (xs : List ℕ) → i ≡ length xs → Appended (26 * i) b start (concat (list_from (line_at xs) 0 i)) d k
     → Appended (26 * length xs) b start (entry_lines xs) d k
 unfolding entry_lines
 lines_all {i} xs e p =
     reads_as (26 * length xs) (entry_lines xs) p (omega arith)
-    (ap (λ (n : ℕ). concat (list_from (line_at xs) 0 n)) e ∙ ap concat (by_number xs))
+    (ap (λ (n : ℕ). concat (list_from (line_at xs) 0 n)) e ∙ ap concat (by_number entry_line xs))
 
 -- The row of the entries for k kinds.
 pub row_lines_lem : {i j : ℕ} {b d : List ℕ} (k : ℕ) {xs : List ℕ} → xs ≡ entries_of k → Appended (26 * length xs) b i (entry_lines xs) d j → Appended 442 b i (row_text k) d j

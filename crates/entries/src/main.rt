@@ -24,10 +24,8 @@ fn next_row(row: &mut [u64; 17])
     requires { (k : ℕ) × (k < 32) × (row.old ≡ entries_of k) }
     ensures { (k : ℕ) → row.old ≡ entries_of k → row.new ≡ entries_of (k + 1) }
 {
-    let mut t = 1;
-    while t < 17 {
-        row[t] = row[t] + row[t - 1];
-        t += 1;
+    for t in 1..row.len() {
+        row[t] += row[t - 1];
     }
 }
 
@@ -46,10 +44,8 @@ fn put_row(out: &mut [u8], at: usize, row: &[u64]) -> usize
     ensures { Appended (26 * length row.now) out.old at (entry_lines row.now) out.new result }
 {
     let mut next = at;
-    let mut t = 0;
-    while t < row.len() {
-        next = put_entry(out, next, row[t]);
-        t += 1;
+    for entry in row {
+        next = put_entry(out, next, *entry);
     }
     next
 }
@@ -61,11 +57,9 @@ fn put_rows(out: &mut [u8], at: usize) -> usize
 {
     let mut row = first_row();
     let mut next = put_row(out, at, &row);
-    let mut k = 0usize;
-    while k < 32 {
+    for _ in 0..32usize {
         next_row(&mut row);
         next = put_row(out, next, &row);
-        k += 1;
     }
     next
 }

@@ -2,7 +2,7 @@
 use mathlib.Core.Bool.{Bool, true, false}
 use mathlib.Core.List.{List, [], ◌∷◌}
 use mathlib.Core.Path.{◌≡◌, refl, sym, ◌∙◌, ap}
-use Prim.Native.Nat.{ℕ, ◌*◌, ◌≤◌, ◌<◌}
+use Prim.Native.Nat.{ℕ, ◌*◌, ◌^◌, ◌≤◌, ◌<◌}
 use native.Mathlib.Omega.{arith}
 use lib.Dec.{ltb}
 use lib.ListN.{length}
@@ -11,7 +11,10 @@ use Rattle.model.specs.Sheet.{kind_count, card_of}
 use Rattle.model.specs.Base.{settled_stage}
 use Rattle.model.specs.Refusal.{Finding, clear, refusal, check, first_of, sheet_checks, accept_checks, settle_checks, form_checks, shelf_field_checks, frequencies_checks}
 use Rattle.model.specs.Answer.{Answer, refused, given, Lent, written, Verdict, Shelved, table_of, prime_form_in, shelf_counts, frequencies, row_check_of, settle_of, forming_in, shelf_number_of, shelf_field_of, frequencies_of}
+use Rattle.std.specs.Prelude.{Result, Ok, Err, IfErr}
 use Rattle.theory.proofs.Checks.{first_left, first_right}
+use Rattle.refusals.specs.Refusals.{number_of, place_of, answer_of}
+use Rattle.refusals.specs.declared.Refusal.{Refusal}
 use Rattle.sheet.specs.declared.reader.Card.{Card}
 use Rattle.sheet.specs.Reader.{Reads}
 use Rattle.arrays.specs.Reply.{code_of, refusing, reply_of, laid_out, values_reply}
@@ -129,6 +132,11 @@ module _ (buffer : List ℕ) (x : Lent (Unit {0})) where
       → (a : Answer (Unit {0})) → a ≡ x.answer → (written_code a ≡ (writing_call buffer x).code) × (x.lent ≡ (writing_call buffer x).lent)
   writing_called left (given _) e = let w = writing_gives (sym e) in (code_is w, lent_is w)
   writing_called left (refused k p) e = let w = writing_refuses k p (sym e) in (code_is w, left k p (sym e) ∙ lent_is w)
+
+-- A call's refusal fits what is returned where each refusal of its answer does.
+pub refused_fits : {A : Type 0} (r : Result A Refusal) → ((k p : ℕ) → answer_of {B = Unit {0}} (λ x. tt) r ≡ refused k p → code_of k p < 2 ^ 32) → IfErr r (λ e. code_of (number_of e) (place_of e) < 2 ^ 32)
+refused_fits (Ok x) fits = tt
+refused_fits (Err e) fits = fits _ _ refl
 
 -- Prime form and finer Prime form.
 module _ (sense : Sense) (s : List ℕ) (i : ℕ) (buffer : List ℕ) where

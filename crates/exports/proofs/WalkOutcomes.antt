@@ -10,11 +10,10 @@ use lib.ListN.{length}
 use Rattle.model.specs.Walk.{WalkAnswer, apart, together, spent}
 use Rattle.model.specs.Refusal.{Finding, clear, refusal, first_of, walk_checks}
 use Rattle.model.specs.Answer.{Answer, refused, given, written, Walked, walk_of}
-use Rattle.theory.proofs.Answers.{demand1}
+use Rattle.theory.proofs.Answers.{walk_clear, demand1}
 use Rattle.arrays.specs.Reply.{refusing, reply_of, laid_out}
 use Rattle.arrays.specs.Session.{desks, short_code_by, short_walk}
 use Rattle.exports.specs.Calls.{walk_values, lent_session, of_desks, walk_call}
-use Rattle.arrays.proofs.Sessions.{walk_given}
 use Rattle.arrays.proofs.Replies.{reply_refuses, reply_short, reply_gives}
 
 -- A session with room for all desks, and one without.
@@ -69,5 +68,5 @@ module _ (s : List ℕ) (i j limit d : ℕ) (session array : List ℕ) where
       w = walk_of s i j limit d (lent_session session)
 
       go : (f : Finding) → first_of (walk_checks s i j limit d) ≡ f → walk_call s i j limit d session array ≡ record { code = short_code_by f; lent = session; values = array }
-      go clear e = let g = walk_given s i j limit d (lent_session session) e in given_short w refl g.0 g.1 short
+      go clear e = given_short w refl _ (ap (λ (x : Walked). x.answer) (walk_clear s i j limit d (lent_session session) e)) short
       go (refusal k p) e = walk_refuses w refl k p (ap (λ (x : Walked). x.answer) ((demand1 s).walk_refused i j limit d (lent_session session) k p e))

@@ -1,13 +1,12 @@
 // Prime form and finer Prime form.
-ghost use Rattle.std.specs.Prelude.{◌≡◌, ℕ, ◌^◌, ◌<◌};
-ghost use Rattle.filer.specs.Answers.{forming_of};
-ghost use Rattle.filer.specs.declared.answers.Forming.TheVariants.{Refused};
+ghost use Rattle.std.specs.Prelude.{◌≡◌, ◌^◌, ◌<◌, IfErr};
+ghost use Rattle.refusals.specs.Refusals.{number_of, place_of, answer_of};
 ghost use Rattle.arrays.specs.Reply.{code_of};
 ghost use Rattle.exports.specs.Calls.{form_call, finer_form_call, written_code};
 
-use arrays::reply::refusal_code;
-use filer::Forming;
+use arrays::reply::refused;
 use filer::form::{finer_prime_form, prime_form};
+use refusals::Refusal;
 
 // Prime form, of any bytes, any field number and a buffer of any length.
 #[unsafe(no_mangle)]
@@ -28,12 +27,12 @@ pub extern "C" fn limbatue_finer_prime_form(sheet: &[u8], field: usize, counts: 
 }
 
 // What is returned of a prime form, whose refusal, if it is one, fits the number.
-fn forming_code(forming: Forming) -> u32
-    requires { (number place : ℕ) → forming ≡ Refused number place → code_of number place < 2 ^ 32 }
-    ensures { result ≡ written_code (forming_of forming) }
+fn forming_code(formed: Result<(), Refusal>) -> u32
+    requires { IfErr formed (λ refusal. code_of (number_of refusal) (place_of refusal) < 2 ^ 32) }
+    ensures { result ≡ written_code (answer_of (λ x. tt) formed) }
 {
-    match forming {
-        Forming::Written => 0,
-        Forming::Refused { number, place } => refusal_code(number, place),
+    match formed {
+        Ok(()) => 0,
+        Err(refusal) => refused(refusal),
     }
 }

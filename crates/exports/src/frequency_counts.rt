@@ -2,8 +2,8 @@
 ghost use Rattle.std.specs.Prelude.{◌≡◌};
 ghost use Rattle.exports.specs.Calls.{frequencies_call};
 
-use arrays::reply::refusal_code;
-use frequencies::{Frequencies, frequencies};
+use arrays::reply::refused;
+use frequencies::frequencies;
 
 // Frequencies, of any bytes, any field number, any size and a buffer of any length.
 #[unsafe(no_mangle)]
@@ -17,7 +17,7 @@ pub extern "C" fn limbatue_frequencies(
     ensures counts_after { counts.new ≡ (frequencies_call sheet.now field size counts.old).lent }
 {
     match frequencies(sheet, field, size, counts) {
-        Frequencies::Written => 0,
-        Frequencies::Refused { number, place } => refusal_code(number, place),
+        Ok(()) => 0,
+        Err(refusal) => refused(refusal),
     }
 }

@@ -2,9 +2,9 @@
 ghost use Rattle.std.specs.Prelude.{◌≡◌};
 ghost use Rattle.exports.specs.Calls.{numbers_call};
 
-use arrays::reply::refusal_code;
+use arrays::reply::refused;
 use arrays::values::reply_card;
-use validation::checks::{Checked, check_sheet};
+use validation::check_sheet;
 
 // The numbers of any bytes that pass 1 to 8.
 #[unsafe(no_mangle)]
@@ -13,7 +13,7 @@ pub extern "C" fn limbatue_numbers(sheet: &[u8], answer: &mut [u64]) -> u32
     ensures answer_after { answer.new ≡ (numbers_call sheet.now answer.old).values }
 {
     match check_sheet(sheet) {
-        Checked::Passed(card) => reply_card(card, answer),
-        Checked::Refused { number, place } => refusal_code(number, place),
+        Ok(card) => reply_card(card, answer),
+        Err(refusal) => refused(refusal),
     }
 }

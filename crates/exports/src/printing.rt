@@ -2,9 +2,9 @@
 ghost use Rattle.std.specs.Prelude.{◌≡◌};
 ghost use Rattle.exports.specs.Calls.{page_call};
 
-use arrays::reply::refusal_code;
+use arrays::reply::refused;
 use arrays::values::reply_value;
-use page::{Writing, write_page};
+use page::write_page;
 
 // The page, of any bytes and a buffer of any length.
 #[unsafe(no_mangle)]
@@ -17,7 +17,7 @@ pub extern "C" fn limbatue_page(sheet: &[u8], out: &mut [u8], answer: &mut [u64]
         return 12;
     }
     match write_page(sheet, out) {
-        Writing::Written { length } => reply_value(length as u64, answer),
-        Writing::Refused { number, place } => refusal_code(number, place),
+        Ok(length) => reply_value(length as u64, answer),
+        Err(refusal) => refused(refusal),
     }
 }

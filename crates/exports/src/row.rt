@@ -2,9 +2,8 @@
 ghost use Rattle.std.specs.Prelude.{◌≡◌};
 ghost use Rattle.exports.specs.Calls.{row_call};
 
-use arrays::reply::refusal_code;
+use arrays::reply::refused;
 use arrays::values::reply_row;
-use filer::RowCheck;
 use filer::row::row_check;
 
 // Row's check, of a table of any length, any n and any kind.
@@ -19,7 +18,7 @@ pub extern "C" fn limbatue_row_check(
     ensures answer_after { answer.new ≡ (row_call kinds kind table.now answer.old).values }
 {
     match row_check(table, kinds, kind) {
-        RowCheck::Clear => reply_row(kinds, kind, answer),
-        RowCheck::Refused { number, place } => refusal_code(number, place),
+        Ok(()) => reply_row(kinds, kind, answer),
+        Err(refusal) => refused(refusal),
     }
 }

@@ -3,21 +3,17 @@ ghost use Rattle.std.specs.Prelude.{◌≡◌};
 ghost use Rattle.exports.specs.Calls.{settle_call, short_code};
 
 use acceptance::accept::accept;
-use arrays::reply::refusal_code;
+use arrays::reply::refused;
 use arrays::values::reply_value;
-use filer::Settling;
 use filer::settle::settle_sheet;
-use validation::checks::Checked;
 
 // What Settle returns, with the marks or without, where the answer array has no room: a refusal of the sheet, else 12. Nothing is settled.
 pub fn short_code(sheet: &[u8]) -> u32
     ensures { result ≡ short_code sheet.now }
 {
-    let acceptance = accept(sheet);
-    let checked = acceptance.checked;
-    match checked {
-        Checked::Passed(_) => 12,
-        Checked::Refused { number, place } => refusal_code(number, place),
+    match accept(sheet) {
+        Ok(_) => 12,
+        Err(refusal) => refused(refusal),
     }
 }
 
@@ -32,7 +28,7 @@ pub extern "C" fn limbatue_settle(sheet: &[u8], table: &mut [u32], answer: &mut 
         return short_code(sheet);
     }
     match settle_sheet(sheet, table) {
-        Settling::Settled { stage } => reply_value(stage as u64, answer),
-        Settling::Refused { number, place } => refusal_code(number, place),
+        Ok(stage) => reply_value(stage as u64, answer),
+        Err(refusal) => refused(refusal),
     }
 }

@@ -3,9 +3,8 @@ ghost use Rattle.std.specs.Prelude.{◌≡◌};
 ghost use Rattle.exports.specs.Calls.{settle_since_call};
 
 use crate::settle::short_code;
-use arrays::reply::refusal_code;
+use arrays::reply::refused;
 use arrays::values::reply_value;
-use filer::Settling;
 use filer::settle::settle_since;
 
 // Settle with the marks (request 9 of document 02), of any bytes, and a table and a buffer for the marks of any length.
@@ -25,7 +24,7 @@ pub extern "C" fn limbatue_settle_since(
         return short_code(sheet);
     }
     match settle_since(sheet, table, since) {
-        Settling::Settled { stage } => reply_value(stage as u64, answer),
-        Settling::Refused { number, place } => refusal_code(number, place),
+        Ok(stage) => reply_value(stage as u64, answer),
+        Err(refusal) => refused(refusal),
     }
 }

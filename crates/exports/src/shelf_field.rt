@@ -2,8 +2,7 @@
 ghost use Rattle.std.specs.Prelude.{◌≡◌};
 ghost use Rattle.exports.specs.Calls.{shelf_field_call};
 
-use arrays::reply::refusal_code;
-use numbering::ShelfField;
+use arrays::reply::refused;
 use numbering::field::shelf_field;
 
 // Shelf field, of any bytes, any size, any number and a buffer of any length.
@@ -18,7 +17,7 @@ pub extern "C" fn limbatue_shelf_field(
     ensures counts_after { counts.new ≡ (shelf_field_call sheet.now size number counts.old).lent }
 {
     match shelf_field(sheet, size, number, counts) {
-        ShelfField::Written => 0,
-        ShelfField::Refused { number, place } => refusal_code(number, place),
+        Ok(()) => 0,
+        Err(refusal) => refused(refusal),
     }
 }

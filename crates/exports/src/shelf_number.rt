@@ -2,9 +2,8 @@
 ghost use Rattle.std.specs.Prelude.{◌≡◌};
 ghost use Rattle.exports.specs.Calls.{shelf_number_call};
 
-use arrays::reply::refusal_code;
+use arrays::reply::refused;
 use arrays::values::reply_shelved;
-use numbering::ShelfNumber;
 use numbering::number::shelf_number;
 
 // Shelf number, of any bytes and any field number.
@@ -14,7 +13,7 @@ pub extern "C" fn limbatue_shelf_number(sheet: &[u8], field: usize, answer: &mut
     ensures answer_after { answer.new ≡ (shelf_number_call sheet.now field answer.old).values }
 {
     match shelf_number(sheet, field) {
-        ShelfNumber::Given { size, number } => reply_shelved(size, number, answer),
-        ShelfNumber::Refused { number, place } => refusal_code(number, place),
+        Ok(shelved) => reply_shelved(shelved.size, shelved.number, answer),
+        Err(refusal) => refused(refusal),
     }
 }

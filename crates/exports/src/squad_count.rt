@@ -2,9 +2,9 @@
 ghost use Rattle.std.specs.Prelude.{◌≡◌};
 ghost use Rattle.exports.specs.Calls.{squads_call, short_squads};
 
-use arrays::reply::refusal_code;
+use arrays::reply::refused;
 use arrays::values::reply_value;
-use squads::{Squads, squads};
+use squads::squads;
 
 // What Squads returns where the answer array has no room: a refusal of the other checks, else 12. The remainder goes to a buffer of its own.
 fn short_squads(sheet: &[u8], whole: usize, squad: usize) -> u32
@@ -12,8 +12,8 @@ fn short_squads(sheet: &[u8], whole: usize, squad: usize) -> u32
 {
     let mut remainder = [0u64; 1];
     match squads(sheet, whole, squad, &mut remainder) {
-        Squads::Counted { count: _ } => 12,
-        Squads::Refused { number, place } => refusal_code(number, place),
+        Ok(_) => 12,
+        Err(refusal) => refused(refusal),
     }
 }
 
@@ -34,7 +34,7 @@ pub extern "C" fn limbatue_squads(
         return short_squads(sheet, whole, squad);
     }
     match squads(sheet, whole, squad, remainder) {
-        Squads::Counted { count } => reply_value(count, answer),
-        Squads::Refused { number, place } => refusal_code(number, place),
+        Ok(count) => reply_value(count, answer),
+        Err(refusal) => refused(refusal),
     }
 }

@@ -28,10 +28,9 @@ pub extern "C" fn limbatue_walk(
         return short_walk(sheet, first, second, limit, desk);
     }
     let walked = walk(sheet, first, second, limit, desk, lent_session(session));
-    let found = walked.answer;
     let drawn = walked.drawn;
     let after = walked.session;
-    match found {
+    match walked.answer {
         Answer::Together => reply_walk(0, 0, drawn, after, session, answer),
         Answer::Apart { rounds } => reply_walk(1, rounds, drawn, after, session, answer),
         Answer::Spent => reply_walk(2, 0, drawn, after, session, answer),

@@ -21,28 +21,20 @@ use Rattle.theory.proofs.Reach.{dec_tells}
 use Rattle.theory.proofs.Sheets.{tells_reached}
 use Rattle.theory.proofs.Answers.{demand1}
 use Rattle.theory.proofs.Meanings.{meanings}
-use Rattle.validation.specs.Fields.{with_fields}
-use Rattle.validation.specs.declared.checks.Checked.{Checked}
-use Rattle.validation.specs.declared.checks.Checked.TheVariants.{Refused}
+use Rattle.validation.specs.Fields.{field_checks}
 use Rattle.validation.proofs.Checking.{past_stops, past_passes, less_stops, less_passes}
 use Rattle.validation.proofs.FieldNumbers.{fields_refused}
-use Rattle.sheet.proofs.Laws.{fields_are}
-use Rattle.acceptance.specs.Acceptance.{acceptance_of}
-use Rattle.acceptance.proofs.Acceptances.{accepts, refused as sheet_refused}
 use Rattle.rows.specs.Stage.{BaseAt}
 use Rattle.filer.specs.Settlement.{table_in}
 use Rattle.filer.proofs.Writing.{table_long, row_under, count_under, table_at}
 
 module _ (s : List ℕ) where
-  -- The checks of the sheet and of the two field numbers refuse.
-  pub compare_refused : (checked : Checked) → checked ≡ (acceptance_of s).checked → (sense : Sense) (i j k p : ℕ) → with_fields i j checked ≡ Refused k p → compare_in sense s i j ≡ refused k p
-  unfolding Accepted compare_checks
-  compare_refused checked e sense i j k p r =
-      (demand1 s).compare_refused sense i j k p
-      (fields_refused (accept_checks s) [] (field_count s) i j k p checked (λ f. sheet_refused s k p (sym e ∙ f)) (λ c f. let A = accepts s c (sym e ∙ f) in (A.accepted, fields_are A.reads)) r)
-
   -- The sheet's own checks refuse.
   module _ (k p : ℕ) (e : first_of (accept_checks s) ≡ refusal k p) where
+    pub compare_refused : (sense : Sense) (i j : ℕ) → compare_in sense s i j ≡ refused k p
+    unfolding compare_checks
+    compare_refused sense i j = (demand1 s).compare_refused sense i j k p (first_left (accept_checks s) _ k p e)
+
     pub settle_refused : (table : List ℕ) → settle_of s table ≡ record { answer = refused k p; lent = table }
     unfolding settle_checks
     settle_refused table = (demand1 s).settle_refused table k p (first_left (accept_checks s) _ k p e)
@@ -57,6 +49,10 @@ module _ (s : List ℕ) where
 
   module _ (ok : Accepted s) where
     -- The call's own checks refuse: 11 and 12.
+    pub fields_large : (sense : Sense) (i j k p : ℕ) → first_of (field_checks (field_count s) i j) ≡ refusal k p → compare_in sense s i j ≡ refused k p
+    unfolding Accepted compare_checks
+    fields_large sense i j k p e = (demand1 s).compare_refused sense i j k p (first_right (accept_checks s) _ ok ∙ fields_refused (field_count s) i j [] k p e)
+
     pub table_short : (table : List ℕ) → length table < kind_count s * kind_count s → settle_of s table ≡ record { answer = refused 12 0; lent = table }
     unfolding Accepted settle_checks
     table_short table h = (demand1 s).settle_refused table 12 0 (first_right (accept_checks s) _ ok ∙ less_stops 12 0 [] (length table) (kind_count s * kind_count s) h)

@@ -1,4 +1,5 @@
 -- What the answers mean, proved as the specification states it.
+use Rattle.std.specs.Prelude.{Result, Ok, Err}
 use mathlib.Core.List.{List, []}
 use mathlib.Core.Logic.Iff
 use mathlib.Core.Logic.{◌↔◌, ◌⊎◌, inl, inr}
@@ -22,7 +23,7 @@ use Rattle.theory.specs.Terms.{Before, BaseOf, Stage, Prime, Settled as IsSettle
 use Rattle.theory.specs.Since.{Sinces}
 use Rattle.theory.specs.Meanings.{Settles}
 use Rattle.theory.specs.Demands.{Demand2, Demand3}
-use Rattle.model.specs.Answer.{refused, given, Lent, LentMarks, same, different, settle_of, settle_since_of, compare_in, forming_in, row_of, row_check_of, table_of, marks_of, prime_form_in, written}
+use Rattle.model.specs.Answer.{Answer, refused, given, Lent, LentMarks, same, different, settle_of, settle_since_of, compare_in, forming_in, row_of, row_check_of, table_of, marks_of, prime_form_in, written}
 use Rattle.theory.proofs.Lists.{length_from}
 use Rattle.theory.proofs.Field.{unit_same, unit_other}
 use Rattle.theory.proofs.Sheets.{sheet_clear, tells_reached, under_kinds, field_kinds}
@@ -31,31 +32,16 @@ use Rattle.theory.proofs.Answers.{demand1}
 use Rattle.theory.proofs.Demands.{demands}
 use Rattle.theory.proofs.Told.{told, found, answer_of_lem, lent_of}
 use Rattle.theory.proofs.Meanings.{meanings}
-use Rattle.filer.specs.Answers.{settling_of, finding_of, verdict_of, forming_of}
+use Rattle.refusals.specs.declared.Refusal.{Refusal}
+use Rattle.refusals.specs.Refusals.{finding_of, answer_of}
+use Rattle.refusals.proofs.Told.{told_refused, told_given}
+use Rattle.filer.specs.Answers.{verdict_of}
 use Rattle.filer.specs.Promises.{SettleAnswers, SettleMeans, SinceAnswers, SinceMeans, RowAnswers, CompareAnswers, CompareMeans, CompareGames, FormAnswers, FormMeans, Promises}
-use Rattle.filer.specs.declared.answers.Settling.{Settling}
-use Rattle.filer.specs.declared.answers.Settling.TheVariants.{Settled, Refused as NotSettled}
-use Rattle.filer.specs.declared.answers.RowCheck.{RowCheck}
-use Rattle.filer.specs.declared.answers.RowCheck.TheVariants.{Clear, Refused as NoRow}
 use Rattle.filer.specs.declared.answers.Verdict.{Verdict}
 use Rattle.filer.specs.declared.answers.Verdict.TheVariants.{Same, Different, Refused as NotCalled}
-use Rattle.filer.specs.declared.answers.Forming.{Forming}
-use Rattle.filer.specs.declared.answers.Forming.TheVariants.{Written, Refused as NotFormed}
 use Rattle.filer.proofs.Rows.{row_at, row_past}
 
 -- The cases have different values.
-settling_only : (v w : Settling) → settling_of v ≡ settling_of w → v ≡ w
-settling_only (Settled t) (Settled u) e = cc
-settling_only (Settled t) (NotSettled k p) e = let z : ◌≡◌ {A = ℕ} 0 1 = cc in absurd (omega arith)
-settling_only (NotSettled k p) (Settled t) e = let z : ◌≡◌ {A = ℕ} 0 1 = cc in absurd (omega arith)
-settling_only (NotSettled k p) (NotSettled i q) e = cc
-
-finding_only : (v w : RowCheck) → finding_of v ≡ finding_of w → v ≡ w
-finding_only Clear Clear e = refl
-finding_only Clear (NoRow k p) e = let z : ◌≡◌ {A = ℕ} 0 1 = cc in absurd (omega arith)
-finding_only (NoRow k p) Clear e = let z : ◌≡◌ {A = ℕ} 0 1 = cc in absurd (omega arith)
-finding_only (NoRow k p) (NoRow i q) e = cc
-
 verdict_only : (v w : Verdict) → verdict_of v ≡ verdict_of w → v ≡ w
 verdict_only Same Same e = refl
 verdict_only Same (Different t r) e = let z : ◌≡◌ {A = ℕ} 0 1 = cc in absurd (omega arith)
@@ -67,25 +53,23 @@ verdict_only (NotCalled k p) Same e = let z : ◌≡◌ {A = ℕ} 0 1 = cc in ab
 verdict_only (NotCalled k p) (Different t r) e = let z : ◌≡◌ {A = ℕ} 0 1 = cc in absurd (omega arith)
 verdict_only (NotCalled k p) (NotCalled i q) e = cc
 
-forming_only : (v w : Forming) → forming_of v ≡ forming_of w → v ≡ w
-forming_only Written Written e = refl
-forming_only Written (NotFormed k p) e = let z : ◌≡◌ {A = ℕ} 0 1 = cc in absurd (omega arith)
-forming_only (NotFormed k p) Written e = let z : ◌≡◌ {A = ℕ} 0 1 = cc in absurd (omega arith)
-forming_only (NotFormed k p) (NotFormed i q) e = cc
+-- A number stands for itself.
+settled_is : (answer : Result ℕ Refusal) {y : Answer ℕ} → answer_of (λ t. t) answer ≡ y → (t : ℕ) → y ≡ given t → answer ≡ Ok t
+settled_is answer e t h = (told_given (λ t. t) (λ v w q. q) answer e t).1 h
 
 -- Settle.
-module _ (s table : List ℕ) (answer : Settling) (after : List ℕ) (e : settling_of answer ≡ (settle_of s table).answer) (d : after ≡ (settle_of s table).lent) where
-  settle_refused : (k p : ℕ) → (answer ≡ NotSettled k p) ↔ (first_of (settle_checks s (length table)) ≡ refusal k p)
+module _ (s table : List ℕ) (answer : Result ℕ Refusal) (after : List ℕ) (e : answer_of (λ t. t) answer ≡ (settle_of s table).answer) (d : after ≡ (settle_of s table).lent) where
+  settle_refused : (k p : ℕ) → (finding_of answer ≡ refusal k p) ↔ (first_of (settle_checks s (length table)) ≡ refusal k p)
   unfolding settle_of
   settle_refused k p =
-      Iff.trans (told settling_of settling_only answer e (NotSettled k p))
+      Iff.trans (told_refused (λ t. t) answer e k p)
       (found (λ (x : Lent ℕ). x.answer) (record { answer = given (settled_stage (card_of s)); lent = written (table_of s) table }) (λ k p. record { answer = refused k p; lent = table })
       (settled_stage (card_of s)) refl (λ k p. refl) (first_of (settle_checks s (length table))) k p)
 
-  settle_given : Limits s → kind_count s * kind_count s ≤ length table → (answer ≡ Settled (settled_stage (card_of s))) × (after ≡ written (table_of s) table)
+  settle_given : Limits s → kind_count s * kind_count s ≤ length table → (answer ≡ Ok (settled_stage (card_of s))) × (after ≡ written (table_of s) table)
   settle_given L h =
       let r = (demand1 s).settled L table h in
-      (settling_only answer (Settled (settled_stage (card_of s))) (e ∙ answer_of_lem r), d ∙ lent_of r)
+      (settled_is answer e (settled_stage (card_of s)) (answer_of_lem r), d ∙ lent_of r)
 
   settle_answers : SettleAnswers s table answer after
   settle_answers = record {
@@ -111,7 +95,7 @@ module _ (s table : List ℕ) (answer : Settling) (after : List ℕ) (e : settli
     settles : Settles plain (card_of s)
     settles = (meanings {0}).settles plain s ok
 
-    stage_is : (t : ℕ) → answer ≡ Settled t → settled_stage (card_of s) ≡ t
+    stage_is : (t : ℕ) → answer ≡ Ok t → settled_stage (card_of s) ≡ t
     stage_is t h = let a = (settle_given limits room).0 in cc
 
     -- A row of the final base has counts of the card's kinds alone.
@@ -185,19 +169,19 @@ module _ (s table : List ℕ) (answer : Settling) (after : List ℕ) (e : settli
     }
 
 -- Settle with the marks.
-module _ (s table marks : List ℕ) (answer : Settling) (after marked : List ℕ) (e : settling_of answer ≡ (settle_since_of s table marks).answer) (d : after ≡ (settle_since_of s table marks).table) (m : marked ≡ (settle_since_of s table marks).marks) where
-  since_refused : (k p : ℕ) → (answer ≡ NotSettled k p) ↔ (first_of (settle_since_checks s (length table) (length marks)) ≡ refusal k p)
+module _ (s table marks : List ℕ) (answer : Result ℕ Refusal) (after marked : List ℕ) (e : answer_of (λ t. t) answer ≡ (settle_since_of s table marks).answer) (d : after ≡ (settle_since_of s table marks).table) (m : marked ≡ (settle_since_of s table marks).marks) where
+  since_refused : (k p : ℕ) → (finding_of answer ≡ refusal k p) ↔ (first_of (settle_since_checks s (length table) (length marks)) ≡ refusal k p)
   unfolding settle_since_of
   since_refused k p =
-      Iff.trans (told settling_of settling_only answer e (NotSettled k p))
+      Iff.trans (told_refused (λ t. t) answer e k p)
       (found (λ (x : LentMarks ℕ). x.answer) (record { answer = given (settled_stage (card_of s)); table = written (table_of s) table; marks = written (marks_of s) marks })
       (λ k p. record { answer = refused k p; table = table; marks = marks }) (settled_stage (card_of s)) refl (λ k p. refl) (first_of (settle_since_checks s (length table) (length marks))) k p)
 
   since_given : Limits s → kind_count s * kind_count s ≤ length table → kind_count s ≤ length marks
-      → (answer ≡ Settled (settled_stage (card_of s))) × (after ≡ written (table_of s) table) × (marked ≡ written (marks_of s) marks)
+      → (answer ≡ Ok (settled_stage (card_of s))) × (after ≡ written (table_of s) table) × (marked ≡ written (marks_of s) marks)
   since_given L h l =
       let r = (demand1 s).since_given table marks (((demand1 s).since_taken (length table) (length marks)).1 (L, h, l)) in
-      (settling_only answer (Settled (settled_stage (card_of s))) (e ∙ ap (λ (x : LentMarks ℕ). x.answer) r), d ∙ ap (λ (x : LentMarks ℕ). x.table) r, m ∙ ap (λ (x : LentMarks ℕ). x.marks) r)
+      (settled_is answer e (settled_stage (card_of s)) (ap (λ (x : LentMarks ℕ). x.answer) r), d ∙ ap (λ (x : LentMarks ℕ). x.table) r, m ∙ ap (λ (x : LentMarks ℕ). x.marks) r)
 
   since_answers : SinceAnswers s table marks answer after marked
   since_answers = record {
@@ -214,14 +198,14 @@ module _ (s table marks : List ℕ) (answer : Settling) (after marked : List ℕ
   }
 
   module _ (ok : Accepted s) (room : kind_count s * kind_count s ≤ length table) (space : kind_count s ≤ length marks) where
-    all_given : (answer ≡ Settled (settled_stage (card_of s))) × (after ≡ written (table_of s) table) × (marked ≡ written (marks_of s) marks)
+    all_given : (answer ≡ Ok (settled_stage (card_of s))) × (after ≡ written (table_of s) table) × (marked ≡ written (marks_of s) marks)
     all_given = since_given ((demand1 s).accepted.0 ok) room space
 
     -- Settle answers the same, and leaves the same table.
-    as_settled : (settling_of answer ≡ (settle_of s table).answer) × (after ≡ (settle_of s table).lent)
+    as_settled : (answer_of (λ t. t) answer ≡ (settle_of s table).answer) × (after ≡ (settle_of s table).lent)
     as_settled =
         let r = (demand1 s).settled ((demand1 s).accepted.0 ok) table room in
-        (ap settling_of all_given.0 ∙ sym (answer_of_lem r), all_given.1 ∙ sym (lent_of r))
+        (ap (answer_of (λ t. t)) all_given.0 ∙ sym (answer_of_lem r), all_given.1 ∙ sym (lent_of r))
 
     -- Entry k of the buffer is the mark of kind k.
     mark_is : (k : ℕ) → k < kind_count s → at marked k ≡ since (card_of s) k
@@ -253,17 +237,28 @@ module _ (s table marks : List ℕ) (answer : Settling) (after marked : List ℕ
         mark : (k : ℕ) → Reached (card_of s) k → at marked k ≡ since (card_of s) k
         mark k v = mark_is k (under_kinds s k v)
 
+-- The check of a row is passed just where it finds nothing.
+checked : (answer : Result (Unit {0}) Refusal) → (answer ≡ Ok tt) ↔ (finding_of answer ≡ clear)
+checked (Ok x) = ((λ h. refl), (λ h. refl))
+checked (Err r) = (
+  (λ h. let z : ◌≡◌ {A = ℕ} 0 1 = cc in absurd (omega arith)),
+  (λ h. let z : ◌≡◌ {A = ℕ} 0 1 = cc in absurd (omega arith)),
+)
+
 -- Row.
-row_answers : (n k : ℕ) (table : List ℕ) (answer : RowCheck) (part : List ℕ)
+row_answers : (n k : ℕ) (table : List ℕ) (answer : Result (Unit {0}) Refusal) (part : List ℕ)
     → finding_of answer ≡ row_check_of n k table → part ≡ row_of n k table → RowAnswers n k table answer part
 unfolding row_check_of
 row_answers n k table answer part e d = record {
-  taken = Iff.trans (told finding_of finding_only answer e Clear) ((demand1 table).row_taken n k table);
-  refused = λ q p. told finding_of finding_only answer e (NoRow q p);
-  handed = λ h. d ∙ (demand1 table).row_part_is n k table ((told finding_of finding_only answer e Clear).0 h);
+  taken = (
+    (λ h. ((demand1 table).row_taken n k table).0 (sym e ∙ (checked answer).0 h)),
+    (λ h. (checked answer).1 (e ∙ ((demand1 table).row_taken n k table).1 h)),
+  );
+  refused = λ q p. ((λ h. sym e ∙ h), (λ h. e ∙ h));
+  handed = λ h. d ∙ (demand1 table).row_part_is n k table (sym e ∙ ap finding_of h);
   empty = (
-    (λ h. let r = ((demand1 table).row_refused n k table).0 (sym d ∙ h) in (r.0, r.1, (told finding_of finding_only answer e (NoRow r.0 r.1)).1 r.2)),
-    (λ x. d ∙ ((demand1 table).row_refused n k table).1 (x.0, x.1, (told finding_of finding_only answer e (NoRow x.0 x.1)).0 x.2)),
+    (λ h. let r = ((demand1 table).row_refused n k table).0 (sym d ∙ h) in (r.0, r.1, e ∙ r.2)),
+    (λ x. d ∙ ((demand1 table).row_refused n k table).1 (x.0, x.1, sym e ∙ x.2)),
   );
 }
 
@@ -320,17 +315,17 @@ module _ (sense : Sense) (s : List ℕ) (i j : ℕ) (answer : Verdict) (e : verd
 
 -- Prime form.
 module _ (sense : Sense) (s : List ℕ) (i : ℕ) (buffer after : List ℕ) (d : after ≡ (forming_in sense s i buffer).lent) where
-  module _ (answer : Forming) (e : forming_of answer ≡ (forming_in sense s i buffer).answer) where
-    form_refused : (k p : ℕ) → (answer ≡ NotFormed k p) ↔ (first_of (form_checks s i (length buffer)) ≡ refusal k p)
+  module _ (answer : Result (Unit {0}) Refusal) (e : answer_of (λ x. tt) answer ≡ (forming_in sense s i buffer).answer) where
+    form_refused : (k p : ℕ) → (finding_of answer ≡ refusal k p) ↔ (first_of (form_checks s i (length buffer)) ≡ refusal k p)
     unfolding forming_in
     form_refused k p =
-        Iff.trans (told forming_of forming_only answer e (NotFormed k p))
+        Iff.trans (told_refused (λ x. tt) answer e k p)
         (found (λ (x : Lent (Unit {0})). x.answer) (record { answer = given tt; lent = written (prime_form_in sense s i) buffer }) (λ k p. record { answer = refused k p; lent = buffer })
         tt refl (λ k p. refl) (first_of (form_checks s i (length buffer))) k p)
 
     form_answers : FormAnswers sense s i buffer answer after
     form_answers = record {
-      formed = λ L h l. let r = (demand1 s).formed L sense i buffer h l in (forming_only answer Written (e ∙ answer_of_lem r), d ∙ lent_of r);
+      formed = λ L h l. let r = (demand1 s).formed L sense i buffer h l in ((told_given (λ (x : Unit {0}). tt) (λ v w q. refl) answer e tt).1 (answer_of_lem r), d ∙ lent_of r);
       refused = form_refused;
       unchanged = λ k p h. d ∙ lent_of ((demand1 s).form_refused sense i buffer k p ((form_refused k p).0 h));
       size = (demand1 s).form_size sense i;

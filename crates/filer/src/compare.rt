@@ -10,13 +10,13 @@ ghost use Rattle.filer.specs.Answers.{verdict_of};
 ghost use Rattle.filer.specs.Settlement.{IsSettlement};
 
 use crate::answers::Verdict;
-use crate::settlement::{Settlement, settle_once};
+use crate::settlement::{Settlement, settle_accepted};
+use acceptance::accept::accept;
 use norms::lines::gain;
 use sheet::Card;
 use stages::parting::parted;
 use tables::sense::Sense;
-use validation::checks::Checked;
-use validation::fields::check_fields;
+use validation::check_fields;
 use weights::fields::field_norm;
 
 // Compare, of any bytes and any two field numbers.
@@ -37,10 +37,19 @@ pub fn finer_compare(sheet: &[u8], first: usize, second: usize) -> Verdict
 pub fn compare_in(sense: Sense, sheet: &[u8], first: usize, second: usize) -> Verdict
     ensures { verdict_of result ≡ compare_in (sense_of sense) sheet.now first second }
 {
-    compare_settled(sense, sheet, settle_once(sense, sheet), first, second)
+    match accept(sheet) {
+        Ok(acceptance) => compare_settled(
+            sense,
+            sheet,
+            settle_accepted(sense, sheet, acceptance),
+            first,
+            second,
+        ),
+        Err(refusal) => Verdict::from(refusal),
+    }
 }
 
-// The verdict of a sense, of a sheet that was checked and settled in it, and any two field numbers.
+// The verdict of a sense, of an accepted sheet that was settled in it, and any two field numbers.
 // Inlined: a call would copy what is settled once more, onto the stack.
 #[inline(always)]
 pub fn compare_settled(
@@ -53,21 +62,19 @@ pub fn compare_settled(
     requires { IsSettlement (sense_of sense) sheet.now settlement }
     ensures { verdict_of result ≡ compare_in (sense_of sense) sheet.now first second }
 {
-    let checked = settlement.checked;
-    match check_fields(checked, first, second) {
-        Checked::Refused { number, place } => Verdict::Refused { number, place },
-        Checked::Passed(card) => {
-            let norms = settlement.norms;
-            let settled = settlement.settled;
-            let last = settled.stage;
-            let stage = parted(sense, sheet, card, norms, settled, first, second);
-            if last < stage {
-                return Verdict::Same;
-            }
-            let rounds = rounds_at(sheet, card, norms, stage, first, second);
-            Verdict::Different { stage, rounds }
-        }
+    let card = settlement.card;
+    if let Err(refusal) = check_fields(card, first, second) {
+        return Verdict::from(refusal);
     }
+    let norms = settlement.norms;
+    let settled = settlement.settled;
+    let last = settled.stage;
+    let stage = parted(sense, sheet, card, norms, settled, first, second);
+    if last < stage {
+        return Verdict::Same;
+    }
+    let rounds = rounds_at(sheet, card, norms, stage, first, second);
+    Verdict::Different { stage, rounds }
 }
 
 // "rounds is demand 3's number", for two fields that this stage parts.

@@ -7,44 +7,50 @@ ghost use Rattle.model.specs.Refusal.{Accepted};
 ghost use Rattle.model.specs.Answer.{prime_form_in, forming_in, form_of, finer_form_of};
 ghost use Rattle.sheet.specs.Reader.{Reads};
 ghost use Rattle.tables.specs.Senses.{sense_of};
+ghost use Rattle.refusals.specs.Refusals.{answer_of};
 ghost use Rattle.rows.specs.Stage.{BaseAt};
-ghost use Rattle.filer.specs.Answers.{forming_of};
 ghost use Rattle.filer.specs.Settlement.{IsSettlement};
 
-use crate::answers::Forming;
-use crate::settlement::{Settlement, settle_once};
-use copies::bits64::write_u64;
+use crate::settlement::{Settlement, settle_accepted};
+use acceptance::accept::accept;
+use copies::write;
+use refusals::Refusal;
 use sheet::Card;
 use stages::parting::field_form;
 use tables::sense::Sense;
 use tables::table::Base;
-use validation::checks::Checked;
 
 // Prime form, of any bytes, any field number and a buffer of any length; a refusal leaves the buffer as it was.
-pub fn prime_form(sheet: &[u8], field: usize, buffer: &mut [u64]) -> Forming
-    ensures result_value { forming_of result ≡ (form_of sheet.now field buffer.old).answer }
+pub fn prime_form(sheet: &[u8], field: usize, buffer: &mut [u64]) -> Result<(), Refusal>
+    ensures result_value { answer_of (λ x. tt) result ≡ (form_of sheet.now field buffer.old).answer }
     ensures buffer_after { buffer.new ≡ (form_of sheet.now field buffer.old).lent }
 {
     form_in(Sense::Plain, sheet, field, buffer)
 }
 
 // Finer Prime form, of any bytes, any field number and a buffer of any length: the prime form of the finer sense.
-pub fn finer_prime_form(sheet: &[u8], field: usize, buffer: &mut [u64]) -> Forming
-    ensures result_value { forming_of result ≡ (finer_form_of sheet.now field buffer.old).answer }
+pub fn finer_prime_form(sheet: &[u8], field: usize, buffer: &mut [u64]) -> Result<(), Refusal>
+    ensures result_value { answer_of (λ x. tt) result ≡ (finer_form_of sheet.now field buffer.old).answer }
     ensures buffer_after { buffer.new ≡ (finer_form_of sheet.now field buffer.old).lent }
 {
     form_in(Sense::Finer, sheet, field, buffer)
 }
 
 // Prime form or finer Prime form, by the sense.
-pub fn form_in(sense: Sense, sheet: &[u8], field: usize, buffer: &mut [u64]) -> Forming
-    ensures result_value { forming_of result ≡ (forming_in (sense_of sense) sheet.now field buffer.old).answer }
+pub fn form_in(sense: Sense, sheet: &[u8], field: usize, buffer: &mut [u64]) -> Result<(), Refusal>
+    ensures result_value { answer_of (λ x. tt) result ≡ (forming_in (sense_of sense) sheet.now field buffer.old).answer }
     ensures buffer_after { buffer.new ≡ (forming_in (sense_of sense) sheet.now field buffer.old).lent }
 {
-    form_settled(sheet, settle_once(sense, sheet), field, buffer)
+    let acceptance = accept(sheet)?;
+    form_settled(
+        sheet,
+        settle_accepted(sense, sheet, acceptance),
+        field,
+        buffer,
+    )
 }
 
-// The prime form of the sense in which a sheet was settled, of any field number and a buffer of any length.
+// The prime form of the sense in which an accepted sheet was settled, of any field number and a buffer of any length.
 // Inlined: a call would copy what is settled once more, onto the stack.
 #[inline(always)]
 pub fn form_settled(
@@ -52,35 +58,24 @@ pub fn form_settled(
     settlement: Settlement,
     field: usize,
     buffer: &mut [u64],
-) -> Forming
+) -> Result<(), Refusal>
     requires { (sense : model.Sense) × IsSettlement sense sheet.now settlement }
-    ensures { (sense : model.Sense) → IsSettlement sense sheet.now settlement → (forming_of result ≡ (forming_in sense sheet.now field buffer.old).answer) × (buffer.new ≡ (forming_in sense sheet.now field buffer.old).lent) }
+    ensures { (sense : model.Sense) → IsSettlement sense sheet.now settlement → (answer_of (λ x. tt) result ≡ (forming_in sense sheet.now field buffer.old).answer) × (buffer.new ≡ (forming_in sense sheet.now field buffer.old).lent) }
 {
-    let checked = settlement.checked;
-    match checked {
-        Checked::Refused { number, place } => Forming::Refused { number, place },
-        Checked::Passed(card) => {
-            let fields = card.fields;
-            let n = card.kinds;
-            if fields <= field {
-                return Forming::Refused {
-                    number: 11,
-                    place: 0,
-                };
-            }
-            if buffer.len() < n {
-                return Forming::Refused {
-                    number: 12,
-                    place: 0,
-                };
-            }
-            let settled = settlement.settled;
-            let base = settled.base;
-            let form = prime_counts(sheet, card, base, field);
-            write_u64(&form[..n], buffer);
-            Forming::Written
-        }
+    let card = settlement.card;
+    let fields = card.fields;
+    let n = card.kinds;
+    if fields <= field {
+        return Err(Refusal::FirstNumber);
     }
+    if buffer.len() < n {
+        return Err(Refusal::ShortBuffer);
+    }
+    let settled = settlement.settled;
+    let base = settled.base;
+    let form = prime_counts(sheet, card, base, field);
+    write(&form[..n], buffer);
+    Ok(())
 }
 
 // The prime form of a field, by the final base of a sense: the first n counts of the array.

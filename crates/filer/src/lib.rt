@@ -2,7 +2,7 @@
 
 #![tactic(auto)]
 
-// What the calls answer.
+// What Compare answers.
 pub mod answers;
 
 // The core that serves every call but Row: a sheet is checked and settled once.
@@ -20,4 +20,4 @@ pub mod compare;
 // Prime form and finer Prime form.
 pub mod form;
 
-pub use answers::{Forming, RowCheck, Settling, Verdict};
+pub use answers::Verdict;

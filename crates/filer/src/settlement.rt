@@ -1,52 +1,46 @@
 // The core: a sheet is checked and settled once, and every call but Row goes by what that gives.
+ghost use Rattle.norms.specs.Norms.{Accepts};
 ghost use Rattle.tables.specs.Senses.{sense_of};
-ghost use Rattle.filer.specs.Settlement.{IsSettlement};
+ghost use Rattle.filer.specs.Settlement.{IsSettlement, SettlementIs};
 
+use acceptance::Acceptance;
 use acceptance::accept::accept;
+use refusals::Refusal;
+use sheet::Card;
 use stages::reached::settle_reached;
 use stages::settle::Settled;
 use tables::sense::Sense;
-use tables::table::Base;
-use validation::checks::Checked;
 
-// What the checks 1 to 10 come to, the norms of the kinds, and what an accepted sheet settles to.
+// An accepted sheet's card and the norms of its kinds, and what it settles to in a sense.
 #[derive(Clone, Copy)]
 pub struct Settlement {
-    pub checked: Checked,
+    pub card: Card,
     pub norms: [u32; 32],
     pub settled: Settled,
 }
 
-// Any bytes: checked, and settled in a sense if they are accepted. A page of a sheet needs this once.
+// An accepted sheet, settled in a sense: each call settles once, and a page of a sheet too.
 // Inlined: a call would copy what is settled once more, onto the stack.
 #[inline(always)]
-pub fn settle_once(sense: Sense, sheet: &[u8]) -> Settlement
+pub fn settle_accepted(sense: Sense, sheet: &[u8], acceptance: Acceptance) -> Settlement
+    requires { Accepts sheet.now acceptance.card acceptance.norms }
     ensures { IsSettlement (sense_of sense) sheet.now result }
 {
-    let acceptance = accept(sheet);
-    let checked = acceptance.checked;
+    let card = acceptance.card;
     let norms = acceptance.norms;
-    match checked {
-        Checked::Refused { number, place } => {
-            let base = Base::new();
-            let settled = Settled {
-                base,
-                stage: 0,
-                before: [0u32; 1024],
-            };
-            Settlement {
-                checked: Checked::Refused { number, place },
-                norms,
-                settled,
-            }
-        }
-        Checked::Passed(card) => {
-            let settled = settle_reached(sense, sheet, card, norms);
-            Settlement {
-                checked: Checked::Passed(card),
-                norms,
-                settled,
-            }
-        }
+    Settlement {
+        card,
+        norms,
+        settled: settle_reached(sense, sheet, card, norms),
     }
+}
+
+// Any bytes: checked, and settled in a sense if they are accepted. The calls of the library check and settle one after the other: a result of what is settled would be copied once more.
+// Inlined: a call would copy what is settled once more, onto the stack.
+#[inline(always)]
+pub fn settle_once(sense: Sense, sheet: &[u8]) -> Result<Settlement, Refusal>
+    ensures { SettlementIs (sense_of sense) sheet.now result }
+{
+    let acceptance = accept(sheet)?;
+    Ok(settle_accepted(sense, sheet, acceptance))
 }

@@ -7,10 +7,7 @@ ghost use Rattle.std.specs.Io.KnownBytes.{Appends, Keeps};
 ghost use Rattle.model.specs.Page.{printed};
 
 use acceptance::accept::accept;
-use console::Reading;
-use page::Writing;
 use std::io::{Read, Write};
-use validation::checks::Checked;
 
 // Prints the page of a sheet, and answers whether it was printed. Every page fits the buffer, so that none is refused.
 fn print_page<O: Write, E: Write>(output: &mut O, errors: &mut E, sheet: &[u8]) -> bool
@@ -18,21 +15,16 @@ fn print_page<O: Write, E: Write>(output: &mut O, errors: &mut E, sheet: &[u8]) 
     ensures silent { OnTrue result (Keeps (E.contents errors.old) (E.contents errors.new)) }
 {
     let mut text = [0u8; page::PAGE];
-    match page::write_page(sheet, &mut text) {
-        Writing::Written { length } => console::print(output, errors, b"filing", &text[..length]),
-        Writing::Refused {
-            number: _,
-            place: _,
-        } => false,
-    }
+    let Ok(length) = page::write_page(sheet, &mut text) else {
+        return false;
+    };
+    console::print(output, errors, b"filing", &text[..length])
 }
 
 // Says why a sheet is refused.
 fn explain_refusal<E: Write>(errors: &mut E, sheet: &[u8]) {
-    let acceptance = accept(sheet);
-    let checked = acceptance.checked;
-    if let Checked::Refused { number, place } = checked {
-        console::explain(errors, number, place);
+    if let Err(refusal) = accept(sheet) {
+        console::explain(errors, refusal.number(), refusal.place());
     }
 }
 
@@ -53,7 +45,7 @@ fn file_input<I: Read, O: Write, E: Write>(input: &mut I, output: &mut O, errors
     ensures { OnTrue result (IfSome (I.remaining input.old) (λ s. Appends (O.contents output.old) (O.contents output.new) (printed s))) }
 {
     let mut sheet = [0u8; page::INPUT];
-    let Reading::Read { bytes } = console::read_sheet(input, &mut sheet) else {
+    let Ok(bytes) = console::read_sheet(input, &mut sheet) else {
         console::unread(errors, b"filing");
         return false;
     };

@@ -1,4 +1,5 @@
 -- What the answers mean, proved as the specification states it.
+use Rattle.std.specs.Prelude.{Result, Ok}
 use mathlib.Core.List.{List, Memᴰ}
 use mathlib.Core.Logic.Iff
 use mathlib.Core.Logic.{◌↔◌}
@@ -22,42 +23,35 @@ use Rattle.theory.proofs.Exec.{on_keep, tells_eq}
 use Rattle.theory.proofs.Frequencies.{frequencies_claims}
 use Rattle.theory.proofs.Sheets.{field_kinds, sheet_clear}
 use Rattle.theory.proofs.Shelves.{shelves}
-use Rattle.theory.proofs.Told.{told, found, cleared, answer_of_lem, lent_of}
+use Rattle.theory.proofs.Told.{found, cleared, answer_of_lem, lent_of}
 use Rattle.tables.proofs.Tables.{first_below}
-use Rattle.frequencies.specs.Answers.{frequencies_answer}
+use Rattle.refusals.specs.declared.Refusal.{Refusal}
+use Rattle.refusals.specs.Refusals.{finding_of, answer_of}
+use Rattle.refusals.proofs.Told.{told_refused, told_given}
 use Rattle.frequencies.specs.Promises.{FrequenciesAnswers, FrequenciesMean, Promises}
-use Rattle.frequencies.specs.declared.answers.Frequencies.{Frequencies}
-use Rattle.frequencies.specs.declared.answers.Frequencies.TheVariants.{Written, Refused as NotWritten}
-
--- The cases have different values.
-only : (v w : Frequencies) → frequencies_answer v ≡ frequencies_answer w → v ≡ w
-only Written Written e = refl
-only Written (NotWritten k p) e = let z : ◌≡◌ {A = ℕ} 0 1 = cc in absurd (omega arith)
-only (NotWritten k p) Written e = let z : ◌≡◌ {A = ℕ} 0 1 = cc in absurd (omega arith)
-only (NotWritten k p) (NotWritten i q) e = cc
 
 -- A list that has a member is not empty.
 some_member : {A : Type 0} {x : A} {xs : List A} → Memᴰ x xs → 0 < length xs
 some_member (Memᴰ.head e) = omega arith
 some_member (Memᴰ.tail m) = omega arith
 
-module _ (s : List ℕ) (i t : ℕ) (buffer : List ℕ) (answer : Frequencies) (after : List ℕ)
-    (e : frequencies_answer answer ≡ (frequencies_of s i t buffer).answer) (d : after ≡ (frequencies_of s i t buffer).lent) where
-  refuses : (k p : ℕ) → (answer ≡ NotWritten k p) ↔ (first_of (frequencies_checks s i t (length buffer)) ≡ refusal k p)
+module _ (s : List ℕ) (i t : ℕ) (buffer : List ℕ) (answer : Result (Unit {0}) Refusal) (after : List ℕ)
+    (e : answer_of (λ x. tt) answer ≡ (frequencies_of s i t buffer).answer) (d : after ≡ (frequencies_of s i t buffer).lent) where
+  refuses : (k p : ℕ) → (finding_of answer ≡ refusal k p) ↔ (first_of (frequencies_checks s i t (length buffer)) ≡ refusal k p)
   unfolding frequencies_of
   refuses k p =
-      Iff.trans (told frequencies_answer only answer e (NotWritten k p))
+      Iff.trans (told_refused (λ x. tt) answer e k p)
       (found (λ (x : Lent (Unit {0})). x.answer) (record { answer = given tt; lent = written (frequencies s i t) buffer }) (λ k p. record { answer = refused k p; lent = buffer })
       tt refl (λ k p. refl) (first_of (frequencies_checks s i t (length buffer))) k p)
 
-  writes : first_of (frequencies_checks s i t (length buffer)) ≡ clear → answer ≡ Written
-  writes c = only answer Written (e ∙ answer_of_lem ((demand1 s).frequencies_given i t buffer c))
+  writes : first_of (frequencies_checks s i t (length buffer)) ≡ clear → answer ≡ Ok tt
+  writes c = (told_given (λ (x : Unit {0}). tt) (λ v w q. refl) answer e tt).1 (answer_of_lem ((demand1 s).frequencies_given i t buffer c))
 
-  clears : answer ≡ Written → first_of (frequencies_checks s i t (length buffer)) ≡ clear
+  clears : answer ≡ Ok tt → first_of (frequencies_checks s i t (length buffer)) ≡ clear
   clears h = cleared (first_of (frequencies_checks s i t (length buffer))) (λ k p f. other ((refuses k p).1 f))
     where
-      other : {k p : ℕ} → answer ≡ NotWritten k p → ⊥
-      other g = let z : ◌≡◌ {A = ℕ} 0 1 = cc in omega arith
+      other : {k p : ℕ} → finding_of answer ≡ refusal k p → ⊥
+      other g = let z : ◌≡◌ {A = ℕ} 0 1 = cc (ap finding_of h) in omega arith
 
   answers : FrequenciesAnswers s i t buffer answer after
   answers = record {
@@ -69,7 +63,7 @@ module _ (s : List ℕ) (i t : ℕ) (buffer : List ℕ) (answer : Frequencies) (
   }
 
   -- Where it has written.
-  module _ (h : answer ≡ Written) where
+  module _ (h : answer ≡ Ok tt) where
     taken : Limits s × (i < field_count s) × (t ≤ most_tokens) × (entry (reached_count (card_of s)) t ≤ most_listed) × (kind_count s + 2 ≤ length buffer)
     taken = ((demand1 s).frequencies_taken i t (length buffer)).0 (clears h)
 

@@ -1,4 +1,3 @@
 -- What the contracts cite, and what the answers mean.
-pub mod Answers
 pub mod Related
 pub mod Promises

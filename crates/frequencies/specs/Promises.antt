@@ -1,6 +1,6 @@
--- What the answers mean: demand 1 and the sentences of document 02 on how common each answer is (request 8), said of the enum that the call returns and of what it leaves in the lent buffer.
+-- What the answers mean: demand 1 and the sentences of document 02 on how common each answer is (request 8), said of what the call returns and of what it leaves in the lent buffer.
 use mathlib.Core.List.{List, Memᴰ}
-use Rattle.std.specs.Prelude.{◌↔◌, ◌≡◌, ℕ, suc, ◌+◌, ◌≤◌, ◌<◌, length, get_or, take}
+use Rattle.std.specs.Prelude.{Result, Ok, ◌↔◌, ◌≡◌, ℕ, suc, ◌+◌, ◌≤◌, ◌<◌, length, get_or, take}
 use Rattle.model.specs.Sense.{plain}
 use Rattle.model.specs.Finite.{sum}
 use Rattle.model.specs.Field.{Field, none, at, tokens}
@@ -13,9 +13,8 @@ use Rattle.model.specs.Answer.{given, Verdict, compare_of, verdict_place, freque
 use Rattle.theory.specs.Expansion.{Bisimilar}
 use Rattle.theory.specs.Terms.{StageIn}
 use Rattle.theory.specs.Frequencies.{OfSize}
-use Rattle.frequencies.specs.Answers.{frequencies_answer}
-use Rattle.frequencies.specs.declared.answers.Frequencies.{Frequencies}
-use Rattle.frequencies.specs.declared.answers.Frequencies.TheVariants.{Written, Refused as NotWritten}
+use Rattle.refusals.specs.declared.Refusal.{Refusal}
+use Rattle.refusals.specs.Refusals.{finding_of, answer_of}
 
 -- "how many": n is the length of a list, without repeats, of the fields that have a property and of no others.
 pub record HowMany {ℓ} (P : Field → Type ℓ) (n : ℕ) : Type ℓ where
@@ -25,13 +24,13 @@ pub record HowMany {ℓ} (P : Field → Type ℓ) (n : ℕ) : Type ℓ where
   pub many : length fields ≡ n
 
 -- Frequencies, of the bytes s, a field i, a size t and a lent buffer: its answer, and the buffer afterwards.
-pub record FrequenciesAnswers (s : List ℕ) (i t : ℕ) (buffer : List ℕ) (answer : Frequencies) (after : List ℕ) : Type 0 where
+pub record FrequenciesAnswers (s : List ℕ) (i t : ℕ) (buffer : List ℕ) (answer : Result (Unit {0}) Refusal) (after : List ℕ) : Type 0 where
   -- Demand 1: written just when the sheet is within the written limits and has the field, the size is at most 16, its entry at most 65,536 and the buffer has room for n + 2 counts.
-  pub answered : (answer ≡ Written)
+  pub answered : (answer ≡ Ok tt)
       ↔ (Limits s × (i < field_count s) × (t ≤ most_tokens) × (entry (reached_count (card_of s)) t ≤ most_listed) × (kind_count s + 2 ≤ length buffer))
   -- Demand 1: every other input gets the first number that applies in the table, and nothing lent changes.
-  pub refused : (k p : ℕ) → (answer ≡ NotWritten k p) ↔ (first_of (frequencies_checks s i t (length buffer)) ≡ refusal k p)
-  pub unchanged : (k p : ℕ) → answer ≡ NotWritten k p → after ≡ buffer
+  pub refused : (k p : ℕ) → (finding_of answer ≡ refusal k p) ↔ (first_of (frequencies_checks s i t (length buffer)) ≡ refusal k p)
+  pub unchanged : (k p : ℕ) → finding_of answer ≡ refusal k p → after ≡ buffer
   -- "Bytes of a lent buffer past those named keep their values."
   pub past : (e : ℕ) → kind_count s + 2 ≤ e → at after e ≡ at buffer e
   pub long : length after ≡ length buffer
@@ -48,11 +47,11 @@ pub record FrequenciesMean {ℓ} (s : List ℕ) (i t : ℕ) (after : List ℕ) :
 
 -- The promises. Each takes the equations of a call's contract, and says what they mean.
 pub record Promises {ℓ} : Type (ℓ + 1) where
-  pub frequencies_answers : (s : List ℕ) (i t : ℕ) (buffer : List ℕ) (answer : Frequencies) (after : List ℕ)
-      → frequencies_answer answer ≡ (frequencies_of s i t buffer).answer → after ≡ (frequencies_of s i t buffer).lent → FrequenciesAnswers s i t buffer answer after
-  pub frequencies_mean : (s : List ℕ) (i t : ℕ) (buffer : List ℕ) (answer : Frequencies) (after : List ℕ)
-      → frequencies_answer answer ≡ (frequencies_of s i t buffer).answer → after ≡ (frequencies_of s i t buffer).lent → answer ≡ Written → FrequenciesMean {ℓ} s i t after
+  pub frequencies_answers : (s : List ℕ) (i t : ℕ) (buffer : List ℕ) (answer : Result (Unit {0}) Refusal) (after : List ℕ)
+      → answer_of (λ x. tt) answer ≡ (frequencies_of s i t buffer).answer → after ≡ (frequencies_of s i t buffer).lent → FrequenciesAnswers s i t buffer answer after
+  pub frequencies_mean : (s : List ℕ) (i t : ℕ) (buffer : List ℕ) (answer : Result (Unit {0}) Refusal) (after : List ℕ)
+      → answer_of (λ x. tt) answer ≡ (frequencies_of s i t buffer).answer → after ≡ (frequencies_of s i t buffer).lent → answer ≡ Ok tt → FrequenciesMean {ℓ} s i t after
   -- Of what Compare answers for the field and a field j of t tokens of the same sheet: field j counts at the place of that answer.
-  pub compared : (s : List ℕ) (i j t : ℕ) (buffer : List ℕ) (answer : Frequencies) (after : List ℕ) (v : Verdict)
-      → frequencies_answer answer ≡ (frequencies_of s i t buffer).answer → after ≡ (frequencies_of s i t buffer).lent → answer ≡ Written
+  pub compared : (s : List ℕ) (i j t : ℕ) (buffer : List ℕ) (answer : Result (Unit {0}) Refusal) (after : List ℕ) (v : Verdict)
+      → answer_of (λ x. tt) answer ≡ (frequencies_of s i t buffer).answer → after ≡ (frequencies_of s i t buffer).lent → answer ≡ Ok tt
       → compare_of s i j ≡ given v → tokens (kind_count s) (field_of s j) ≡ t → 0 < at after (verdict_place v)

@@ -8,35 +8,41 @@ ghost use Rattle.model.specs.Shelf.{entry};
 ghost use Rattle.model.specs.Sheet.{kind_count, card_of};
 ghost use Rattle.model.specs.Answer.{written, frequencies, frequencies_of};
 ghost use Rattle.norms.specs.Norms.{Accepts};
+ghost use Rattle.refusals.specs.Refusals.{answer_of};
 ghost use Rattle.shelf.specs.Kinds.{InOrder};
-ghost use Rattle.frequencies.specs.Answers.{frequencies_answer};
 ghost use Rattle.frequencies.specs.Related.{related_before, placed};
 
-use crate::answers::Frequencies;
 use crate::related::related_fields;
 use acceptance::accept::accept;
-use copies::bits32::write_u32;
+use copies::write;
 use numbering::kinds::listed_kinds;
 use numbering::number::TOKENS;
+use refusals::Refusal;
 use sheet::Card;
 use shelf::entry::entry_of;
-use validation::checks::Checked;
 
 // "an entry over 65,536"
 const LISTED: u64 = 65_536;
 
 // Frequencies, of any bytes, any field number, any size and a buffer of any length; a refusal leaves the buffer as it was. The sheet is settled once, and not at all where the call is refused.
-pub fn frequencies(sheet: &[u8], field: usize, size: usize, buffer: &mut [u32]) -> Frequencies
-    ensures result_value { frequencies_answer result ≡ (frequencies_of sheet.now field size buffer.old).answer }
+pub fn frequencies(
+    sheet: &[u8],
+    field: usize,
+    size: usize,
+    buffer: &mut [u32],
+) -> Result<(), Refusal>
+    ensures result_value { answer_of (λ x. tt) result ≡ (frequencies_of sheet.now field size buffer.old).answer }
     ensures buffer_after { buffer.new ≡ (frequencies_of sheet.now field size buffer.old).lent }
 {
-    let acceptance = accept(sheet);
-    let checked = acceptance.checked;
-    let norms = acceptance.norms;
-    match checked {
-        Checked::Refused { number, place } => Frequencies::Refused { number, place },
-        Checked::Passed(card) => frequencies_accepted(sheet, card, norms, field, size, buffer),
-    }
+    let acceptance = accept(sheet)?;
+    frequencies_accepted(
+        sheet,
+        acceptance.card,
+        acceptance.norms,
+        field,
+        size,
+        buffer,
+    )
 }
 
 // Frequencies, of a sheet that was accepted, by its norms.
@@ -47,42 +53,30 @@ fn frequencies_accepted(
     field: usize,
     size: usize,
     buffer: &mut [u32],
-) -> Frequencies
+) -> Result<(), Refusal>
     requires { Accepts sheet.now card norms }
-    ensures result_value { frequencies_answer result ≡ (frequencies_of sheet.now field size buffer.old).answer }
+    ensures result_value { answer_of (λ x. tt) result ≡ (frequencies_of sheet.now field size buffer.old).answer }
     ensures buffer_after { buffer.new ≡ (frequencies_of sheet.now field size buffer.old).lent }
 {
     let n = card.kinds;
     let fields = card.fields;
     if fields <= field {
-        return Frequencies::Refused {
-            number: 11,
-            place: 0,
-        };
+        return Err(Refusal::FirstNumber);
     }
     if TOKENS < size {
-        return Frequencies::Refused {
-            number: 14,
-            place: 0,
-        };
+        return Err(Refusal::ManyTokens);
     }
-    let listed = listed_kinds(n, &norms);
-    let count = listed.count;
-    let kinds = listed.kinds;
+    let mut store = [0usize; 32];
+    let kinds = listed_kinds(n, &norms, &mut store);
+    let count = kinds.len();
     if LISTED < entry_of(count, size) {
-        return Frequencies::Refused {
-            number: 18,
-            place: 0,
-        };
+        return Err(Refusal::ManyFields);
     }
     if buffer.len() < n + 2 {
-        return Frequencies::Refused {
-            number: 12,
-            place: 0,
-        };
+        return Err(Refusal::ShortBuffer);
     }
-    count_answers(sheet, card, norms, &kinds[..count], field, size, buffer);
-    Frequencies::Written
+    count_answers(sheet, card, norms, kinds, field, size, buffer);
+    Ok(())
 }
 
 // Writes how many of the fields of the size, over the reached kinds, get each answer.
@@ -117,13 +111,11 @@ fn write_places(all: u64, related: &[u64; 33], kinds: usize, buffer: &mut [u32])
     let mut counts = [0u32; 34];
     counts[0] = related[kinds] as u32;
     let mut before = all;
-    let mut stage = 0;
-    while stage <= kinds {
+    for stage in 0..kinds + 1 {
         let here = related[stage];
         counts[stage + 1] = (before - here) as u32;
         before = here;
-        stage += 1;
     }
     let places = kinds + 2;
-    write_u32(&counts[..places], buffer);
+    write(&counts[..places], buffer);
 }

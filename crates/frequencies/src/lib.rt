@@ -3,14 +3,10 @@
 
 #![tactic(auto)]
 
-// What the call answers.
-pub mod answers;
-
 // How many of the fields each stage relates to the given one.
 pub mod related;
 
 // The call.
 pub mod entry;
 
-pub use answers::Frequencies;
 pub use entry::frequencies;

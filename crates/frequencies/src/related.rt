@@ -15,7 +15,7 @@ ghost use Rattle.stages.specs.Kept.{form_before};
 ghost use Rattle.stages.specs.Settle.{IsSettled};
 ghost use Rattle.frequencies.specs.Related.{RowLowered, RowsLowered, RowsAt};
 
-use copies::bits64::write_u64;
+use copies::{widen, write};
 use row_sums::count::count_fields;
 use sheet::Card;
 use stages::kept::form_before;
@@ -23,32 +23,16 @@ use stages::parting::field_form;
 use stages::reached::settle_reached;
 use stages::settle::Settled;
 use tables::sense::Sense;
-use tables::table::{form_of, wide};
+use tables::table::row_of;
 use weights::fields::field_norm;
-
-// The rows of a base as counts of 64 bits.
-fn wide_rows(rows: &[u32]) -> [u64; 1024]
-    requires { length rows.now ≡ 1024 }
-    ensures { result ≡ rows.now }
-{
-    let mut table = [0u64; 1024];
-    let mut i = 0;
-    while i < 1024 {
-        table[i] = wide(rows[i]);
-        i += 1;
-    }
-    table
-}
 
 // A table of rows of which each has the kind's norm as its first count and no other: norms add up as these rows do.
 fn norm_rows(norms: &[u32; 32]) -> [u64; 1024]
     ensures { (k : ℕ) → k < most_kinds → row_in result k ≡ times (at norms.now k) (unit 0) }
 {
     let mut table = [0u64; 1024];
-    let mut kind = 0;
-    while kind < 32 {
-        table[kind * 32] = wide(norms[kind]);
-        kind += 1;
+    for kind in 0..32 {
+        table[kind * 32] = u64::from(norms[kind]);
     }
     table
 }
@@ -79,10 +63,10 @@ fn lower_row(rows: &mut [u64], kind: usize, since: &[usize], before: &[u32], sta
     requires by_index { (j : ℕ) → form_before since.now before.now stage (row_in rows.old kind) j < 2 ^ 64 }
     ensures { RowLowered since.now before.now stage kind rows.old rows.new }
 {
-    let row = form_before(form_of(rows, kind), since, before, stage);
+    let row = form_before(row_of(rows, kind), since, before, stage);
     let start = kind * 32;
     let end = start + 32;
-    write_u64(&row, &mut rows[start..end]);
+    write(&row, &mut rows[start..end]);
 }
 
 // The rows of the kinds at the stage before, from those at a stage.
@@ -92,11 +76,8 @@ fn lower_rows(rows: &mut [u64], kinds: &[usize], since: &[usize], before: &[u32]
     requires by_index { (x j : ℕ) → x < length kinds.now → form_before since.now before.now stage (row_in rows.old (at kinds.now x)) j < 2 ^ 64 }
     ensures { RowsLowered kinds.now since.now before.now stage rows.old rows.new }
 {
-    let mut i = 0;
-    while i < kinds.len() {
-        let kind = kinds[i];
-        lower_row(rows, kind, since, before, stage);
-        i += 1;
+    for i in 0..kinds.len() {
+        lower_row(rows, kinds[i], since, before, stage);
     }
 }
 
@@ -119,11 +100,9 @@ fn count_forms(
     let mut table = rows;
     let mut given = form;
     let mut related = [count_fields(&table, kinds, size, &given); 33];
-    let mut t = settled.stage;
-    while 1 < t {
-        lower_rows(&mut table, kinds, &since, &before, t);
-        given = form_before(&given, &since, &before, t);
-        t -= 1;
+    for t in (1..settled.stage).rev() {
+        lower_rows(&mut table, kinds, &since, &before, t + 1);
+        given = form_before(&given, &since, &before, t + 1);
         related[t] = count_fields(&table, kinds, size, &given);
     }
     related
@@ -147,7 +126,7 @@ fn count_settled(
     let base = settled.base;
     let rows = base.rows;
     let form = field_form(sheet, card, &rows, field);
-    let table = wide_rows(&rows);
+    let table: [u64; 1024] = widen(&rows);
     count_forms(settled, table, form, kinds, size)
 }
 

@@ -1,23 +1,17 @@
 // common FIELD SIZE.
-ghost use Rattle.std.specs.Prelude.{◌≡◌, ◌+◌, ◌≤◌, ◌<◌, length};
+ghost use Rattle.std.specs.Prelude.{◌+◌, ◌≤◌, ◌<◌, length};
 ghost use Rattle.text.specs.Appended.{Appended};
 ghost use Rattle.replies.specs.Told.{Tells};
 ghost use Rattle.replies.specs.Texts.{most_text};
-ghost use Rattle.frequencies_verb.specs.Texts.{frequencies_room, most_common, common_line};
+ghost use Rattle.frequencies_verb.specs.Texts.{most_common, common_line};
 ghost use Rattle.frequencies_verb.specs.Calls.{common_told};
 
-use copies::bits32::widen_u32;
-use frequencies::{Frequencies, frequencies};
-use replies::reply::{Outcome, Reply, no_call, refuse};
+use copies::widen;
+use frequencies::frequencies;
+use replies::Reply;
+use replies::reply::refuse;
 use sheet::Card;
 use text::{put_bytes, put_counts_line, put_labelled};
-
-// Room for the frequencies on any card.
-fn frequencies_room() -> [u32; 34]
-    ensures { result ≡ frequencies_room }
-{
-    [0u32; 34]
-}
 
 // `same A stages B0 B1 .. Bn`.
 fn put_common(out: &mut [u8], at: usize, counts: &[u64]) -> usize
@@ -35,20 +29,17 @@ pub fn common_answers(sheet: &[u8], numbers: &[u64], out: &mut [u8]) -> Reply
     ensures { Tells (common_told sheet.now numbers.now) out.old out.new result }
 {
     if numbers.len() != 2 {
-        return no_call();
+        return Reply::no_call();
     }
-    let mut counts = frequencies_room();
+    let mut counts = [0u32; 34];
     match frequencies(sheet, numbers[0] as usize, numbers[1] as usize, &mut counts) {
-        Frequencies::Written => {
+        Ok(()) => {
             let card = Card::of_header(sheet);
             let places = card.kinds + 2;
-            let wide = widen_u32(&counts[..places]);
+            let wide: [u64; 34] = widen(&counts[..places]);
             let length = put_common(out, 0, &wide[..places]);
-            Reply {
-                outcome: Outcome::Answered,
-                length,
-            }
+            Reply::answered(length)
         }
-        Frequencies::Refused { number, place } => refuse(out, number, place),
+        Err(refusal) => refuse(out, refusal),
     }
 }

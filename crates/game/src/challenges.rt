@@ -21,7 +21,7 @@ pub struct Part {
 }
 
 impl Part {
-    // The part with these four numbers.
+    // The part with these four numbers. A function: as literals the parts that challenge and reply hand on would take six lines each.
     pub fn new(rounds: u64, from: usize, to: usize, allowance: u32) -> Part
         ensures { result ≡ record { rounds = rounds; from = from; to = to; allowance = allowance } }
     {
@@ -55,6 +55,7 @@ fn may_challenge(
 }
 
 // The first challenge from `from` up to `to` whose side may use its line; `to` where there is none.
+// No Option: what is left of a part is halved from this number up to `to`, and nothing is left where they are one.
 pub fn next_challenge(
     sheet: &[u8],
     card: Card,
@@ -67,14 +68,12 @@ pub fn next_challenge(
     requires from_le_to { (from ≤ to) × (to ≤ 2 * card.lines) }
     ensures { result ≡ next_of (may_challenge (at first.now) (at second.now)) (challenge_of sheet.now) from to }
 {
-    let mut number = from;
-    while number < to {
+    for number in from..to {
         if may_challenge(sheet, card, number, first, second) {
             return number;
         }
-        number += 1;
     }
-    number
+    to
 }
 
 // The first line of a part that is a reply of the other side to the challenge of a number; the part's end where none is.

@@ -22,6 +22,7 @@ use moves::follow::ENTRIES;
 use sheet::Card;
 
 // What a part of the walk comes to: whether it holds, with what is left of the allowance, or spent where its count passes the allowance.
+// An enum of its own: challenge goes on where a part holds and reply where it fails, so that neither case is the error of a Result.
 #[derive(Drop)]
 pub enum Examined {
     Holds(u32),

@@ -6,7 +6,7 @@ ghost use Rattle.text.specs.Lengths.{letters, most_counts};
 ghost use Rattle.listing.specs.Lengths.{most_head, most_words, most_kind_line, most_field_line};
 ghost use Rattle.listing.specs.Line.{head_text, row_text, words_text, kind_text, field_text};
 
-use copies::bits32::widen_u32;
+use copies::widen;
 use text::{put_byte, put_bytes, put_counts, put_labelled, put_labelled_counts, put_two_labelled};
 
 // `kinds N stages S`.
@@ -27,7 +27,7 @@ fn put_prime_or_row(out: &mut [u8], at: usize, kind: usize, row: &[u32]) -> usiz
     if row[kind] == 1 {
         put_bytes(out, at, b"prime")
     } else {
-        let counts = widen_u32(row);
+        let counts: [u64; 32] = widen(row);
         put_counts(out, at, &counts[..row.len()])
     }
 }

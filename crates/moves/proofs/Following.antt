@@ -18,33 +18,6 @@ use Rattle.moves.specs.Lines.{usable, answers, next_of}
 use Rattle.moves.specs.Following.{has_code, Long, RowSet, FollowsFrom, Follows}
 use Rattle.moves.proofs.Searches.{least_next, least_here, least_last, least_over}
 
--- The entries of a row, which starts at `start`, are set below a code.
-pub record Setting (start : ℕ) (number : ℕ → ℕ) (before after : List ℕ) (code : ℕ) : Type 0 where
-  pub within : code ≤ most_codes
-  pub long : length after ≡ length before
-  pub done : (c : ℕ) → c < code → at after (start + c) ≡ number c
-  pub later : (k : ℕ) → start + code ≤ k → at after k ≡ at before k
-
-pub setting_none : {start : ℕ} {number : ℕ → ℕ} {before : List ℕ} → Setting start number before before 0
-setting_none = record { within = omega arith; long = refl; done = λ c h. absurd (omega arith); later = λ k h. refl }
-
-module _ {start : ℕ} {number : ℕ → ℕ} {before after : List ℕ} {code : ℕ} (h : Setting start number before after code) where
-  pub setting_more : code < most_codes → start + code < length before → (v : ℕ) → v ≡ number code → Setting start number before (set after (start + code) v) (code + 1)
-  setting_more l room v e =
-      record {
-        within = omega arith;
-        long = length-set after (start + code) v ∙ h.long;
-        done = λ c b. go c b (ℕ_discrete c code);
-        later = λ k b. get_or-set_other after (start + code) k v 0 (λ q. omega arith) ∙ h.later k (omega arith);
-      }
-    where
-      go : (c : ℕ) → c < code + 1 → Dec (c ≡ code) → at (set after (start + code) v) (start + c) ≡ number c
-      go c b (yes q) = rw q (get_or-set_same after (start + code) v 0 (omega (arith, h.long)) ∙ e)
-      go c b (no q) = get_or-set_other after (start + code) (start + c) v 0 (λ z. q (omega arith)) ∙ h.done c (omega arith)
-
-  pub setting_all : (i : ℕ) → start ≡ i * most_codes → most_codes ≤ code → RowSet i number before after
-  setting_all i e l = record { holds = λ c b. let z : i * most_codes + c ≡ start + c = omega arith in rw z (h.done c (omega arith)); kept = λ k b. h.later k (omega (arith, h.within)) }
-
 -- At the end of the lines no line follows.
 pub follows_end : {s : List ℕ} {lines : ℕ} {before after : List ℕ} → lines ≡ line_count s → Long after → RowSet lines (λ c. lines) before after → FollowsFrom s lines after
 follows_end {s} {lines} {before} {after} e long r =

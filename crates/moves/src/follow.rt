@@ -21,19 +21,12 @@ pub fn row_entry(sheet: &[u8], card: Card, line: usize) -> usize
     card.line_code(sheet, line)
 }
 
-// An entry as the number of a line.
-fn wide(entry: u16) -> usize
-    ensures { result ≡ entry }
-{
-    entry as usize
-}
-
 // What stands in the table at a position and a code.
 pub fn following(table: &[u16; ENTRIES], position: usize, code: usize) -> usize
     requires { (position ≤ most_lines) × (code < most_codes) }
     ensures { result ≡ at table.now (position * most_codes + code) }
 {
-    wide(table[position * Card::CODES + code])
+    usize::from(table[position * Card::CODES + code])
 }
 
 // Sets the row of a position to one number.
@@ -42,11 +35,7 @@ fn fill_row(table: &mut [u16], position: usize, number: u16)
     ensures { RowSet position (λ code. number) table.old table.new }
 {
     let start = position * Card::CODES;
-    let mut code = 0;
-    while code < Card::CODES {
-        table[start + code] = number;
-        code += 1;
-    }
+    table[start..start + Card::CODES].fill(number);
 }
 
 // Copies the row of the next position to that of a position.
@@ -56,12 +45,7 @@ fn copy_row(table: &mut [u16], position: usize)
 {
     let start = position * Card::CODES;
     let next = start + Card::CODES;
-    let mut code = 0;
-    while code < Card::CODES {
-        let line = table[next + code];
-        table[start + code] = line;
-        code += 1;
-    }
+    table.copy_within(next..next + Card::CODES, start);
 }
 
 // The row of a line: that of the next position, with the line itself at its own code.
@@ -80,10 +64,8 @@ pub fn fill_table(sheet: &[u8], card: Card, table: &mut [u16])
     requires { Reads sheet.now card × Long table.old }
     ensures { Follows sheet.now table.new }
 {
-    let mut position = card.lines;
-    fill_row(table, position, position as u16);
-    while 0 < position {
-        position -= 1;
+    fill_row(table, card.lines, card.lines as u16);
+    for position in (0..card.lines).rev() {
         line_row(sheet, card, table, position);
     }
 }

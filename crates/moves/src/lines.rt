@@ -20,6 +20,7 @@ pub fn may_use(sheet: &[u8], card: Card, line: usize, field: &[u32; 32]) -> bool
 }
 
 // The first line from `from` up to `to` that is a reply of the field to a challenge by the line `challenge`; `to` where none is. The table leads from one line of the challenge's code to the next.
+// No Option: a part of the walk goes from this line up to `to`, and is empty where they are one.
 pub fn next_reply(
     sheet: &[u8],
     card: Card,
@@ -35,6 +36,7 @@ pub fn next_reply(
 {
     let code = row_entry(sheet, card, challenge);
     let mut line = following(table, from, code);
+    // A while: the table leads from line to line, and passes over those of other codes.
     while line < to {
         if may_use(sheet, card, line, field) {
             return line;

@@ -22,7 +22,7 @@ use Rattle.sheet.specs.declared.reader.Card.{Card}
 use Rattle.sheet.proofs.Counts.{counts_below, counts_past, at_counts, from_set, counts_none}
 use Rattle.sheet.proofs.Laws.{kinds_are, kinds_most, card_kinds, card_lines}
 use Rattle.norms.specs.Norms.{array_of, cut_norms}
-use Rattle.norms.specs.Sweep.{SameBelow, sweep_of}
+use Rattle.norms.specs.Sweep.{sweep_of}
 use Rattle.weights.specs.Value.{AtMost, read_value, lesser_of}
 use Rattle.norms.proofs.Arrays.{array_at, list_at, keep_in, keep_out}
 use Rattle.norms.proofs.Laws.{in_reach}
@@ -164,10 +164,9 @@ module _ {s : List ℕ} {c : Card} (R : Reads s c) where
       rw z (ap array_of (fun_ext (λ k. cut_norm norm_limit (part (card_of s)) k ∙ ap (λ (v : ℕ → ℕ). min (v k) (suc norm_limit)) (part_norms s R.passed))))
 
   -- The norms at once, where one more sweep gives each kind the value that it has.
-  pub swept_settled : (d : ℕ) (xs ys : List ℕ) → d ≤ c.kinds → xs ≡ array_of (swept s d) → ys ≡ sweep_of s (at xs)
-      → SameBelow c.kinds (at xs) (at ys) → xs ≡ cut_norms s
+  pub swept_settled : (d : ℕ) (xs ys : List ℕ) → d ≤ c.kinds → xs ≡ array_of (swept s d) → ys ≡ sweep_of s (at xs) → ys ≡ xs → xs ≡ cut_norms s
   swept_settled d xs ys h e f same =
-      e ∙ ap array_of (sym (swept_stays s d (c.kinds - d) (fun_ext (λ k. unchanged k (dec_lt k c.kinds))))) ∙ swept_end (c.kinds - d + d) (omega arith)
+      e ∙ ap array_of (sym (swept_stays s d (c.kinds - d) (fun_ext unchanged))) ∙ swept_end (c.kinds - d + d) (omega arith)
     where
       more : ys ≡ array_of (swept s (d + 1))
       more = f ∙ ap (λ (l : List ℕ). sweep_of s (at l)) e ∙ swept_next d
@@ -175,6 +174,5 @@ module _ {s : List ℕ} {c : Card} (R : Reads s c) where
       held : (l : List ℕ) (i : ℕ) → l ≡ array_of (swept s i) → (k : ℕ) → at l k ≡ swept s i k
       held l i q k = ap (λ (x : List ℕ). at x k) q ∙ ap (λ (v : Field). v k) (swept_array i)
 
-      unchanged : (k : ℕ) → Dec (k < c.kinds) → swept s (suc d) k ≡ swept s d k
-      unchanged k (yes l) = rw (← add-one d) (sym (held ys (d + 1) more k) ∙ sym (same k l) ∙ held xs d e k)
-      unchanged k (no l) = swept_past (suc d) k (omega arith) ∙ sym (swept_past d k (omega arith))
+      unchanged : (k : ℕ) → swept s (suc d) k ≡ swept s d k
+      unchanged k = rw (← add-one d) (sym (held ys (d + 1) more k) ∙ ap (λ (l : List ℕ). at l k) same ∙ held xs d e k)

@@ -1,15 +1,10 @@
 -- One sweep of the norm finder in parts: what the contracts of its own functions cite.
-use Rattle.std.specs.Prelude.{List, ◌≡◌, ℕ, suc, ◌<◌, min}
-use Rattle.model.specs.Field.{Field}
+use Rattle.std.specs.Prelude.{List, ℕ, suc, min}
 use Rattle.model.specs.Card.{reached_lines}
 use Rattle.model.specs.Norm.{best}
 use Rattle.model.specs.Sheet.{kind_count, counts, card_of}
 use Rattle.model.specs.Limits.{norm_limit}
 use Rattle.norms.specs.Norms.{array_of}
-
--- Two fields are the same in n kinds.
-abbrev pub SameBelow : ℕ → Field → Field → Type 0
-SameBelow n v w = (k : ℕ) → k < n → v k ≡ w k
 
 -- The values after one more sweep over the lines of reached kinds.
 unfoldable pub sweep_of : List ℕ → (ℕ → ℕ) → List ℕ

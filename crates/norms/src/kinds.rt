@@ -1,12 +1,12 @@
 // The norms of the reached kinds, found by sweeps over the lines of these kinds: each sweep finds every such kind's best line by the values of the sweep before, until one changes nothing, or there were as many as kinds.
-ghost use Rattle.std.specs.Prelude.{true, false, ◌↔◌, ◌≡◌, ℕ, suc, ◌≤◌, get_or};
+ghost use Rattle.std.specs.Prelude.{false, ◌≡◌, ℕ, suc, get_or};
 ghost use Rattle.model.specs.Field.{at};
 ghost use Rattle.model.specs.Card as model;
 ghost use Rattle.model.specs.Sheet.{card_of};
-ghost use Rattle.model.specs.Limits.{most_kinds, norm_limit};
+ghost use Rattle.model.specs.Limits.{norm_limit};
 ghost use Rattle.sheet.specs.Reader.{Reads};
 ghost use Rattle.norms.specs.Norms.{cut_norms};
-ghost use Rattle.norms.specs.Sweep.{SameBelow, sweep_of};
+ghost use Rattle.norms.specs.Sweep.{sweep_of};
 ghost use Rattle.weights.specs.Value.{AtMost};
 
 use sheet::Card;
@@ -18,16 +18,13 @@ pub fn kind_norms(sheet: &[u8], card: Card, reached: &[bool; 32]) -> [u32; 32]
     requires by_index { (k : ℕ) → get_or reached.now k false ≡ model.reached (card_of sheet.now) k }
     ensures { result ≡ cut_norms sheet.now }
 {
-    let kinds = card.kinds;
     let mut values = [0u32; 32];
-    let mut turn = 0;
-    while turn < kinds {
+    for _turn in 0..card.kinds {
         let next = sweep(sheet, card, reached, &values);
-        if same_values(kinds, &values, &next) {
+        if next == values {
             return values;
         }
         values = next;
-        turn += 1;
     }
     values
 }
@@ -40,9 +37,7 @@ fn sweep(sheet: &[u8], card: Card, reached: &[bool; 32], values: &[u32; 32]) -> 
     ensures { result ≡ sweep_of sheet.now (at values.now) }
 {
     let mut next = [0u32; 32];
-    let mut j = card.lines;
-    while 0 < j {
-        j -= 1;
+    for j in (0..card.lines).rev() {
         let kind = card.line_kind(sheet, j);
         if reached[kind] {
             let value = read_value(values, card.line_counts(sheet, j));
@@ -51,21 +46,4 @@ fn sweep(sheet: &[u8], card: Card, reached: &[bool; 32], values: &[u32; 32]) -> 
         }
     }
     next
-}
-
-// Whether two arrays hold the same values of so many kinds.
-fn same_values(kinds: usize, values: &[u32; 32], next: &[u32; 32]) -> bool
-    requires { kinds ≤ most_kinds }
-    ensures { (result ≡ true) ↔ SameBelow kinds (at values.now) (at next.now) }
-{
-    let mut k = 0;
-    while k < kinds {
-        let value = values[k];
-        let other = next[k];
-        if value != other {
-            return false;
-        }
-        k += 1;
-    }
-    true
 }

@@ -1,12 +1,12 @@
 // The lines of an accepted sheet: the norm that each leaves, which lower the norm, and g.
-ghost use Rattle.std.specs.Prelude.{◌≡◌, max, ◌<◌};
+ghost use Rattle.std.specs.Prelude.{◌≡◌, ◌<◌};
 ghost use Rattle.model.specs.Norm.{kind_norm, norm};
 ghost use Rattle.model.specs.Base as base;
 ghost use Rattle.model.specs.Sheet.{line_of, card_of};
 ghost use Rattle.norms.specs.Norms.{Accepts, lowers_norm, line_gain};
 
 use sheet::Card;
-use weights::value::{weight, wide32};
+use weights::value::weight;
 
 // The norm of the tokens that a line leaves.
 pub fn left_norm(sheet: &[u8], card: Card, norms: &[u32; 32], line: usize) -> u64
@@ -25,7 +25,7 @@ pub fn own_norm(sheet: &[u8], card: Card, norms: &[u32; 32], line: usize) -> u64
 {
     let kind = card.line_kind(sheet, line);
     let norm = norms[kind];
-    wide32(norm)
+    u64::from(norm)
 }
 
 // "reads that lower the norm": whether reads by a line do.
@@ -43,10 +43,8 @@ pub fn gain(sheet: &[u8], card: Card, norms: &[u32; 32]) -> u64
     ensures { result ≡ base.gain (card_of sheet.now) }
 {
     let mut most = 0;
-    let mut j = card.lines;
-    while 0 < j {
-        j -= 1;
-        most = greater(line_gain(sheet, card, norms, j), most);
+    for j in (0..card.lines).rev() {
+        most = line_gain(sheet, card, norms, j).max(most);
     }
     most
 }
@@ -63,11 +61,4 @@ fn line_gain(sheet: &[u8], card: Card, norms: &[u32; 32], line: usize) -> u64
     }
     let left = left_norm(sheet, card, norms, line);
     if own < left { left - own } else { 0 }
-}
-
-// The greater of two numbers.
-fn greater(first: u64, second: u64) -> u64
-    ensures { result ≡ max first second }
-{
-    if first < second { second } else { first }
 }

@@ -1,8 +1,8 @@
 -- What the calls come to: where the sheet's checks refuse, where the call's own do, and what an accepted sheet gives.
-use mathlib.Core.List.{List, [], reverse, Memᴰ}
+use mathlib.Core.List.{List, [], ◌++◌, reverse, Memᴰ}
 use mathlib.Core.Path.{◌≡◌, refl, ◌∙◌, ap}
 use Prim.Native.Nat.{ℕ, ◌≤◌, ◌<◌}
-use lib.ListN.{length, take}
+use lib.ListN.{length, take, drop}
 use Rattle.model.specs.Finite.{list_from}
 use Rattle.model.specs.Field.{Field, at, tokens}
 use Rattle.model.specs.Card.{reached_kinds, reached_count}
@@ -90,3 +90,8 @@ module _ (s : List ℕ) (ok : Accepted s) (i : ℕ) {kinds : List ℕ} {a : Fiel
 -- Number to field, by the counts that were found: the first n of these are stored.
 pub counts_by : (n t x : ℕ) (kinds counts : List ℕ) → n ≤ length counts → at counts ≡ field_in (reverse kinds) t x → take n counts ≡ list_from (field_in (reverse kinds) t x) 0 n
 counts_by n t x kinds counts long e = first_counts counts n long ∙ ap (λ (f : Field). list_from f 0 n) e
+
+-- What a copy leaves in a lent buffer.
+pub copied : (xs buffer after : List ℕ) → after ≡ xs ++ drop (length xs) buffer → after ≡ written xs buffer
+unfolding written
+copied xs buffer after e = e

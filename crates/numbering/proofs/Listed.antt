@@ -26,7 +26,6 @@ use Rattle.norms.specs.Norms.{Accepts}
 use Rattle.norms.proofs.Laws.{norm_positive, norm_reached}
 use Rattle.shelf.specs.Kinds.{InOrder}
 use Rattle.numbering.specs.Kinds.{normed_kinds}
-use Rattle.numbering.specs.declared.kinds.Listed.{Listed}
 
 itself : (b : Bool) → Tells b (T b)
 itself b = record { fact = λ t. t; test = λ t. t }
@@ -120,19 +119,18 @@ normed_reached {s} {c} {norms} A =
     has k = tells_map (norm_reached A k) (norm_positive A k) (tells_lt 0 (at norms k))
 
 -- Of an accepted sheet: the kinds that were listed by its norms.
-module _ {s : List ℕ} {c : Card} {norms : List ℕ} (A : Accepts s c norms) (r : Listed)
-    (lists : (r.count ≡ length (normed_kinds c.kinds norms)) × (take r.count r.kinds ≡ normed_kinds c.kinds norms)) where
-  pub listed_few : r.count ≤ c.kinds
-  listed_few = omega (arith, lists.0, normed_few norms c.kinds)
+module _ {s : List ℕ} {c : Card} {norms : List ℕ} (A : Accepts s c norms) (listed : List ℕ) (lists : listed ≡ normed_kinds c.kinds norms) where
+  pub listed_few : length listed ≤ c.kinds
+  listed_few = omega (arith, ap length lists, normed_few norms c.kinds)
 
-  pub listed_count : r.count ≡ reached_count (card_of s)
-  listed_count = lists.0 ∙ ap length (normed_reached A)
+  pub listed_are : listed ≡ reached_kinds (card_of s)
+  listed_are = lists ∙ normed_reached A
 
-  pub listed_are : take r.count r.kinds ≡ reached_kinds (card_of s)
-  listed_are = lists.1 ∙ normed_reached A
+  pub listed_count : length listed ≡ reached_count (card_of s)
+  listed_count = ap length listed_are
 
-  pub listed_order : InOrder (take r.count r.kinds)
-  listed_order = rw lists.1 (in_order norms c.kinds (kinds_most A.reads))
+  pub listed_order : InOrder listed
+  listed_order = rw lists (in_order norms c.kinds (kinds_most A.reads))
 
 -- The first of an array of 32, as they are handed to a call.
 pub first_long : (kinds : List ℕ) (n : ℕ) → n ≤ most_kinds → length kinds ≡ 32 → n ≡ length (take n kinds)

@@ -1,8 +1,9 @@
 -- What the answers mean, proved as the specification states it.
+use Rattle.std.specs.Prelude.{Result, Ok}
 use mathlib.Core.List.{List}
 use mathlib.Core.Logic.Iff
 use mathlib.Core.Logic.{◌↔◌}
-use mathlib.Core.Path.{◌≡◌, refl, sym, ◌∙◌, ap, fun_ext}
+use mathlib.Core.Path.{◌≡◌, refl, sym, ◌∙◌, ap, ap₂, fun_ext}
 use Prim.Native.Nat.{ℕ, ◌≤◌, ◌<◌}
 use native.Mathlib.Decide.{dec_lt}
 use native.Mathlib.Omega.{arith}
@@ -22,30 +23,17 @@ use Rattle.theory.proofs.Sheets.{field_kinds, sheet_clear, under_kinds}
 use Rattle.theory.proofs.Answers.{demand1}
 use Rattle.theory.proofs.Order.{precedes_one}
 use Rattle.theory.proofs.Shelves.{shelves}
-use Rattle.theory.proofs.Told.{told, found, cleared, answer_of_lem, lent_of}
-use Rattle.numbering.specs.Answers.{number_answer, field_answer}
+use Rattle.theory.proofs.Told.{found, cleared, answer_of_lem, lent_of}
+use Rattle.refusals.specs.declared.Refusal.{Refusal}
+use Rattle.refusals.specs.Refusals.{finding_of, answer_of}
+use Rattle.refusals.proofs.Told.{told_refused, told_given}
+use Rattle.numbering.specs.Answers.{numbered, shelved}
 use Rattle.numbering.specs.Promises.{NumberAnswers, FieldAnswers, Promises}
 use Rattle.numbering.specs.declared.answers.ShelfNumber.{ShelfNumber}
-use Rattle.numbering.specs.declared.answers.ShelfNumber.TheVariants.{Given, Refused as NotNumbered}
-use Rattle.numbering.specs.declared.answers.ShelfField.{ShelfField}
-use Rattle.numbering.specs.declared.answers.ShelfField.TheVariants.{Written, Refused as NotFound}
 
--- The cases have different values.
-number_only : (v w : ShelfNumber) → number_answer v ≡ number_answer w → v ≡ w
-number_only (Given t x) (Given u y) e =
-    let r : ◌≡◌ {A = Shelved} (record { size = t; number = x }) (record { size = u; number = y }) = cc in
-    let a : t ≡ u = ap (λ (v : Shelved). v.size) r in
-    let b : x ≡ y = ap (λ (v : Shelved). v.number) r in
-    cc
-number_only (Given t x) (NotNumbered k p) e = let z : ◌≡◌ {A = ℕ} 0 1 = cc in absurd (omega arith)
-number_only (NotNumbered k p) (Given t x) e = let z : ◌≡◌ {A = ℕ} 0 1 = cc in absurd (omega arith)
-number_only (NotNumbered k p) (NotNumbered i q) e = cc
-
-field_only : (v w : ShelfField) → field_answer v ≡ field_answer w → v ≡ w
-field_only Written Written e = refl
-field_only Written (NotFound k p) e = let z : ◌≡◌ {A = ℕ} 0 1 = cc in absurd (omega arith)
-field_only (NotFound k p) Written e = let z : ◌≡◌ {A = ℕ} 0 1 = cc in absurd (omega arith)
-field_only (NotFound k p) (NotFound i q) e = cc
+-- Two shelf numbers do not stand for the same.
+one_for_each : (v w : ShelfNumber) → shelved v ≡ shelved w → v ≡ w
+one_for_each v w e = ap₂ numbered (ap (λ (r : Shelved). r.size) e) (ap (λ (r : Shelved). r.number) e)
 
 card_kinds : (s : List ℕ) → (card_of s).kinds ≡ kind_count s
 unfolding card_of
@@ -59,32 +47,35 @@ own : (s : List ℕ) → Accepted s → (i : ℕ) → shelf_field (card_of s) (t
 own s ok i = (shelves s (tokens (kind_count s) (field_of s i))).field_number (field_of s i) (field_kinds s (sheet_clear s ok) i) (ap (λ n. tokens n (field_of s i)) (card_kinds s))
 
 -- Shelf number.
-module _ (s : List ℕ) (i : ℕ) (answer : ShelfNumber) (e : number_answer answer ≡ shelf_number_of s i) where
+module _ (s : List ℕ) (i : ℕ) (answer : Result ShelfNumber Refusal) (e : answer_of shelved answer ≡ shelf_number_of s i) where
   abbrev t : ℕ
   t = tokens (kind_count s) (field_of s i)
 
   abbrev x : ℕ
   x = shelf_number (card_of s) (field_of s i)
 
-  number_refused : (k p : ℕ) → (answer ≡ NotNumbered k p) ↔ (first_of (shelf_number_checks s i) ≡ refusal k p)
+  number_refused : (k p : ℕ) → (finding_of answer ≡ refusal k p) ↔ (first_of (shelf_number_checks s i) ≡ refusal k p)
   unfolding shelf_number_of
   number_refused k p =
-      Iff.trans (told number_answer number_only answer e (NotNumbered k p)) (found (λ x. x) _ refused _ refl (λ k p. refl) (first_of (shelf_number_checks s i)) k p)
+      Iff.trans (told_refused shelved answer e k p) (found (λ x. x) _ refused _ refl (λ k p. refl) (first_of (shelf_number_checks s i)) k p)
 
-  number_given : first_of (shelf_number_checks s i) ≡ clear → answer ≡ Given t x
-  number_given c = number_only answer (Given t x) (e ∙ (demand1 s).numbered i c)
+  number_given : first_of (shelf_number_checks s i) ≡ clear → answer ≡ Ok (numbered t x)
+  number_given c = (told_given shelved one_for_each answer e (numbered t x)).1 ((demand1 s).numbered i c)
 
-  number_clear : (u y : ℕ) → answer ≡ Given u y → first_of (shelf_number_checks s i) ≡ clear
+  number_clear : (u y : ℕ) → answer ≡ Ok (numbered u y) → first_of (shelf_number_checks s i) ≡ clear
   number_clear u y h = cleared (first_of (shelf_number_checks s i)) (λ k p f. other ((number_refused k p).1 f))
     where
-      other : {k p : ℕ} → answer ≡ NotNumbered k p → ⊥
-      other g = let z : ◌≡◌ {A = ℕ} 0 1 = cc in omega arith
+      other : {k p : ℕ} → finding_of answer ≡ refusal k p → ⊥
+      other g = let z : ◌≡◌ {A = ℕ} 0 1 = cc (ap finding_of h) in omega arith
 
   -- A number that was given is the field's own.
-  number_is : (u y : ℕ) → answer ≡ Given u y → (u ≡ t) × (y ≡ x)
-  number_is u y h = let g = number_given (number_clear u y h) in (cc, cc)
+  number_is : (u y : ℕ) → answer ≡ Ok (numbered u y) → (u ≡ t) × (y ≡ x)
+  number_is u y h =
+      let g = number_given (number_clear u y h) in
+      let q : numbered u y ≡ numbered t x = cc in
+      (ap (λ (v : ShelfNumber). v.size) q, ap (λ (v : ShelfNumber). v.number) q)
 
-  taken : (u y : ℕ) → answer ≡ Given u y → Limits s × (i < field_count s) × (t ≤ most_tokens)
+  taken : (u y : ℕ) → answer ≡ Ok (numbered u y) → Limits s × (i < field_count s) × (t ≤ most_tokens)
   taken u y h = ((demand1 s).number_taken i).0 (number_clear u y h)
 
   under : Accepted s → x < entry (reached_count (card_of s)) t
@@ -120,22 +111,22 @@ module _ (s : List ℕ) (t x : ℕ) (buffer after : List ℕ) (d : after ≡ (sh
           past k h (yes l) = absurd (omega (arith, under_kinds s k (all k l)))
           past k h (no l) = omega arith
 
-  module _ (answer : ShelfField) (e : field_answer answer ≡ (shelf_field_of s t x buffer).answer) where
-    field_refused : (k p : ℕ) → (answer ≡ NotFound k p) ↔ (first_of (shelf_field_checks s t x (length buffer)) ≡ refusal k p)
+  module _ (answer : Result (Unit {0}) Refusal) (e : answer_of (λ x. tt) answer ≡ (shelf_field_of s t x buffer).answer) where
+    field_refused : (k p : ℕ) → (finding_of answer ≡ refusal k p) ↔ (first_of (shelf_field_checks s t x (length buffer)) ≡ refusal k p)
     unfolding shelf_field_of
     field_refused k p =
-        Iff.trans (told field_answer field_only answer e (NotFound k p))
+        Iff.trans (told_refused (λ x. tt) answer e k p)
         (found (λ (x : Lent (Unit {0})). x.answer) (record { answer = given tt; lent = written (shelf_counts s t x) buffer }) (λ k p. record { answer = refused k p; lent = buffer })
         tt refl (λ k p. refl) (first_of (shelf_field_checks s t x (length buffer))) k p)
 
-    field_written : first_of (shelf_field_checks s t x (length buffer)) ≡ clear → answer ≡ Written
-    field_written c = field_only answer Written (e ∙ answer_of_lem ((demand1 s).shelved t x buffer c))
+    field_written : first_of (shelf_field_checks s t x (length buffer)) ≡ clear → answer ≡ Ok tt
+    field_written c = (told_given (λ (x : Unit {0}). tt) (λ v w q. refl) answer e tt).1 (answer_of_lem ((demand1 s).shelved t x buffer c))
 
-    field_clear : answer ≡ Written → first_of (shelf_field_checks s t x (length buffer)) ≡ clear
+    field_clear : answer ≡ Ok tt → first_of (shelf_field_checks s t x (length buffer)) ≡ clear
     field_clear h = cleared (first_of (shelf_field_checks s t x (length buffer))) (λ k p f. other ((field_refused k p).1 f))
       where
-        other : {k p : ℕ} → answer ≡ NotFound k p → ⊥
-        other g = let z : ◌≡◌ {A = ℕ} 0 1 = cc in omega arith
+        other : {k p : ℕ} → finding_of answer ≡ refusal k p → ⊥
+        other g = let z : ◌≡◌ {A = ℕ} 0 1 = cc (ap finding_of h) in omega arith
 
     field_answers : FieldAnswers s t x buffer answer after
     field_answers = record {
@@ -154,9 +145,9 @@ module _ (s : List ℕ) (t x : ℕ) (buffer after : List ℕ) (d : after ≡ (sh
     }
 
 -- The size and the number that a field was given find it.
-number_field : (s : List ℕ) (i t x : ℕ) (number : ShelfNumber) (buffer : List ℕ) (field : ShelfField) (after : List ℕ)
-    → number_answer number ≡ shelf_number_of s i → field_answer field ≡ (shelf_field_of s t x buffer).answer → after ≡ (shelf_field_of s t x buffer).lent
-    → number ≡ Given t x → kind_count s ≤ length buffer → (field ≡ Written) × (at (take (kind_count s) after) ≡ field_of s i)
+number_field : (s : List ℕ) (i t x : ℕ) (number : Result ShelfNumber Refusal) (buffer : List ℕ) (field : Result (Unit {0}) Refusal) (after : List ℕ)
+    → answer_of shelved number ≡ shelf_number_of s i → answer_of (λ x. tt) field ≡ (shelf_field_of s t x buffer).answer → after ≡ (shelf_field_of s t x buffer).lent
+    → number ≡ Ok (numbered t x) → kind_count s ≤ length buffer → (field ≡ Ok tt) × (at (take (kind_count s) after) ≡ field_of s i)
 number_field s i t x number buffer field after e f d h l =
     let g = number_is s i number e t x h in
     let w = taken s i number e t x h in
@@ -164,9 +155,9 @@ number_field s i t x number buffer field after e f d h l =
     (field_written s t x buffer after d field f c, begins s t x buffer after d c ∙ rw (g.0, g.1) (own s (limits_accepted s w.0) i))
 
 -- The field found by a size and a number is given these.
-field_number : (s : List ℕ) (i t x : ℕ) (number : ShelfNumber) (buffer : List ℕ) (field : ShelfField) (after : List ℕ)
-    → number_answer number ≡ shelf_number_of s i → field_answer field ≡ (shelf_field_of s t x buffer).answer → after ≡ (shelf_field_of s t x buffer).lent
-    → field ≡ Written → i < field_count s → at (take (kind_count s) after) ≡ field_of s i → number ≡ Given t x
+field_number : (s : List ℕ) (i t x : ℕ) (number : Result ShelfNumber Refusal) (buffer : List ℕ) (field : Result (Unit {0}) Refusal) (after : List ℕ)
+    → answer_of shelved number ≡ shelf_number_of s i → answer_of (λ x. tt) field ≡ (shelf_field_of s t x buffer).answer → after ≡ (shelf_field_of s t x buffer).lent
+    → field ≡ Ok tt → i < field_count s → at (take (kind_count s) after) ≡ field_of s i → number ≡ Ok (numbered t x)
 field_number s i t x number buffer field after e f d h l m =
     let c = field_clear s t x buffer after d field f h in
     let w = ((demand1 s).shelf_taken t x (length buffer)).0 c in
@@ -176,17 +167,17 @@ field_number s i t x number buffer field after e f d h l m =
     let same : shelf_number (card_of s) (field_of s i) ≡ x = ap (shelf_number (card_of s)) is ∙ (shelves s t).number_field x w.2 in
     number_given s i number e (((demand1 s).number_taken i).1 (w.0, l, rw size w.1)) ∙ rw (size, same) refl
 
-field_order : (s : List ℕ) (t x y : ℕ) (first second : List ℕ) (before after : ShelfField) (first_after second_after : List ℕ)
-    → field_answer before ≡ (shelf_field_of s t x first).answer → first_after ≡ (shelf_field_of s t x first).lent → before ≡ Written
-    → field_answer after ≡ (shelf_field_of s t y second).answer → second_after ≡ (shelf_field_of s t y second).lent → after ≡ Written
+field_order : (s : List ℕ) (t x y : ℕ) (first second : List ℕ) (before after : Result (Unit {0}) Refusal) (first_after second_after : List ℕ)
+    → answer_of (λ x. tt) before ≡ (shelf_field_of s t x first).answer → first_after ≡ (shelf_field_of s t x first).lent → before ≡ Ok tt
+    → answer_of (λ x. tt) after ≡ (shelf_field_of s t y second).answer → second_after ≡ (shelf_field_of s t y second).lent → after ≡ Ok tt
     → x < y → Precedes (last_first (card_of s)) (at (take (kind_count s) first_after)) (at (take (kind_count s) second_after))
 field_order s t x y first second before after first_after second_after e d h f g l m =
     let c = field_clear s t x first first_after d before e h in
     let k = field_clear s t y second second_after g after f l in
     rw (begins s t x first first_after d c, begins s t y second second_after g k) ((shelves s t).order x y m (((demand1 s).shelf_taken t y (length second)).0 k).2)
 
-number_order : (s : List ℕ) (i j t x y : ℕ) (first second : ShelfNumber) → number_answer first ≡ shelf_number_of s i → number_answer second ≡ shelf_number_of s j
-    → first ≡ Given t x → second ≡ Given t y → (x < y) ↔ Precedes (last_first (card_of s)) (field_of s i) (field_of s j)
+number_order : (s : List ℕ) (i j t x y : ℕ) (first second : Result ShelfNumber Refusal) → answer_of shelved first ≡ shelf_number_of s i → answer_of shelved second ≡ shelf_number_of s j
+    → first ≡ Ok (numbered t x) → second ≡ Ok (numbered t y) → (x < y) ↔ Precedes (last_first (card_of s)) (field_of s i) (field_of s j)
 number_order s i j t x y first second e f h l = (follows x y a b (under_is i first e x h) (under_is j second f y l), before)
   where
     a : shelf_field (card_of s) t x ≡ field_of s i
@@ -195,7 +186,7 @@ number_order s i j t x y first second e f h l = (follows x y a b (under_is i fir
     b : shelf_field (card_of s) t y ≡ field_of s j
     b = let g = number_is s j second f t y l in rw (g.0, g.1) (own s (limits_accepted s (taken s j second f t y l).0) j)
 
-    under_is : (k : ℕ) (v : ShelfNumber) → number_answer v ≡ shelf_number_of s k → (z : ℕ) → v ≡ Given t z → z < entry (reached_count (card_of s)) t
+    under_is : (k : ℕ) (v : Result ShelfNumber Refusal) → answer_of shelved v ≡ shelf_number_of s k → (z : ℕ) → v ≡ Ok (numbered t z) → z < entry (reached_count (card_of s)) t
     under_is k v q z m = ((number_answers s k v q).size t z m).1
 
     follows : (x y : ℕ) {p q : Field} → shelf_field (card_of s) t x ≡ p → shelf_field (card_of s) t y ≡ q

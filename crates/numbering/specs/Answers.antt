@@ -1,16 +1,12 @@
--- The paper's numbers and values for each case of the enums that the calls answer with.
-use Rattle.model.specs.Answer.{Answer, refused, given, Shelved}
+-- What Shelf number answers, in the model's terms.
+use Rattle.std.specs.Prelude.{ℕ}
+use Rattle.model.specs.Answer.{Shelved}
 use Rattle.numbering.specs.declared.answers.ShelfNumber.{ShelfNumber}
-use Rattle.numbering.specs.declared.answers.ShelfNumber.TheVariants.{Given, Refused as NotNumbered}
-use Rattle.numbering.specs.declared.answers.ShelfField.{ShelfField}
-use Rattle.numbering.specs.declared.answers.ShelfField.TheVariants.{Written, Refused as NotFound}
 
--- Shelf number: the size and the number, or the refusal with its number and place.
-abbrev pub number_answer : ShelfNumber → Answer Shelved
-number_answer (Given size number) = given (record { size = size; number = number })
-number_answer (NotNumbered number place) = refused number place
+-- A size and a number at it, as the struct.
+abbrev pub numbered : ℕ → ℕ → ShelfNumber
+numbered size number = record { size = size; number = number }
 
--- Shelf field: written, or the refusal.
-abbrev pub field_answer : ShelfField → Answer (Unit {0})
-field_answer Written = given tt
-field_answer (NotFound number place) = refused number place
+-- What the struct stands for.
+abbrev pub shelved : ShelfNumber → Shelved
+shelved x = record { size = x.size; number = x.number }

@@ -1,15 +1,8 @@
-// What the calls answer. specs/Answers.antt gives the cases their numbers and values.
+// What Shelf number answers. specs/Answers.antt says what it stands for.
 
-// Shelf number: the size of the field, its tokens, and its number at that size.
-#[derive(Drop)]
-pub enum ShelfNumber {
-    Given { size: usize, number: u64 },
-    Refused { number: usize, place: usize },
-}
-
-// Shelf field.
-#[derive(Drop)]
-pub enum ShelfField {
-    Written,
-    Refused { number: usize, place: usize },
+// The size of a field, its tokens, and its number at that size.
+#[derive(Clone, Copy, Debug, PartialEq, Eq)]
+pub struct ShelfNumber {
+    pub size: usize,
+    pub number: u64,
 }

@@ -5,54 +5,42 @@ ghost use Rattle.model.specs.Limits.{most_kinds, most_tokens};
 ghost use Rattle.model.specs.Shelf.{entry, field_in};
 ghost use Rattle.model.specs.Answer.{written, shelf_field_of};
 ghost use Rattle.shelf.specs.Kinds.{InOrder};
-ghost use Rattle.numbering.specs.Answers.{field_answer};
+ghost use Rattle.refusals.specs.Refusals.{answer_of};
 
-use crate::answers::ShelfField;
 use crate::kinds::listed_kinds;
 use crate::number::TOKENS;
 use acceptance::accept::accept;
-use copies::bits16::write_u16;
+use copies::write;
+use refusals::Refusal;
 use shelf::entry::entry_of;
 use shelf::field::field_of;
-use validation::checks::Checked;
 
 // Shelf field, of any bytes, any size, any number and a buffer of any length; a refusal leaves the buffer as it was.
-pub fn shelf_field(sheet: &[u8], size: usize, number: u64, buffer: &mut [u16]) -> ShelfField
-    ensures result_value { field_answer result ≡ (shelf_field_of sheet.now size number buffer.old).answer }
+pub fn shelf_field(
+    sheet: &[u8],
+    size: usize,
+    number: u64,
+    buffer: &mut [u16],
+) -> Result<(), Refusal>
+    ensures result_value { answer_of (λ x. tt) result ≡ (shelf_field_of sheet.now size number buffer.old).answer }
     ensures buffer_after { buffer.new ≡ (shelf_field_of sheet.now size number buffer.old).lent }
 {
-    let acceptance = accept(sheet);
-    let checked = acceptance.checked;
-    let norms = acceptance.norms;
-    match checked {
-        Checked::Refused { number, place } => ShelfField::Refused { number, place },
-        Checked::Passed(card) => {
-            let n = card.kinds;
-            let listed = listed_kinds(n, &norms);
-            let count = listed.count;
-            let kinds = listed.kinds;
-            if TOKENS < size {
-                return ShelfField::Refused {
-                    number: 14,
-                    place: 0,
-                };
-            }
-            if entry_of(count, size) <= number {
-                return ShelfField::Refused {
-                    number: 15,
-                    place: 0,
-                };
-            }
-            if buffer.len() < n {
-                return ShelfField::Refused {
-                    number: 12,
-                    place: 0,
-                };
-            }
-            write_field(&kinds[..count], n, size, number, buffer);
-            ShelfField::Written
-        }
+    let acceptance = accept(sheet)?;
+    let n = acceptance.card.kinds;
+    let mut store = [0usize; 32];
+    let kinds = listed_kinds(n, &acceptance.norms, &mut store);
+    let count = kinds.len();
+    if TOKENS < size {
+        return Err(Refusal::ManyTokens);
     }
+    if entry_of(count, size) <= number {
+        return Err(Refusal::NumberAtSize);
+    }
+    if buffer.len() < n {
+        return Err(Refusal::ShortBuffer);
+    }
+    write_field(kinds, n, size, number, buffer);
+    Ok(())
 }
 
 // The field of a number among those of a size, over kinds in number order, to the front of the buffer as so many counts.
@@ -64,5 +52,5 @@ fn write_field(kinds: &[usize], counts: usize, size: usize, number: u64, buffer:
     ensures { buffer.new ≡ written (list_from (field_in (reverse kinds.now) size number) 0 counts) buffer.old }
 {
     let field = field_of(kinds, size, number);
-    write_u16(&field[..counts], buffer);
+    write(&field[..counts], buffer);
 }

@@ -1,33 +1,19 @@
 // The kinds that the listing runs over.
-ghost use Rattle.std.specs.Prelude.{◌≡◌, ◌≤◌, length, take};
+ghost use Rattle.std.specs.Prelude.{◌≡◌, ◌≤◌};
 ghost use Rattle.model.specs.Limits.{most_kinds};
 ghost use Rattle.numbering.specs.Kinds.{normed_kinds};
 
-// Kinds, which are the first of the array, and how many they are.
-#[derive(Drop)]
-pub struct Listed {
-    pub kinds: [usize; 32],
-    pub count: usize,
-}
-
-// "Shelf numbers run over the reached kinds alone, in number order": of so many kinds, those that have a norm.
-pub fn listed_kinds(kinds: usize, norms: &[u32; 32]) -> Listed
+// "Shelf numbers run over the reached kinds alone, in number order": of so many kinds, those that have a norm. They are stored at the front of the caller's array, and that part of it is handed out.
+pub fn listed_kinds<'a>(kinds: usize, norms: &[u32; 32], store: &'a mut [usize; 32]) -> &'a [usize]
     requires { kinds ≤ most_kinds }
-    ensures count_value { result.count ≡ length (normed_kinds kinds norms.now) }
-    ensures kinds_value { take result.count result.kinds ≡ normed_kinds kinds norms.now }
+    ensures { result.now ≡ normed_kinds kinds norms.now }
 {
-    let mut listed = [0usize; 32];
     let mut count = 0;
-    let mut kind = 0;
-    while kind < kinds {
+    for kind in 0..kinds {
         if norms[kind] != 0 {
-            listed[count] = kind;
+            store[count] = kind;
             count += 1;
         }
-        kind += 1;
     }
-    Listed {
-        kinds: listed,
-        count,
-    }
+    &store[..count]
 }

@@ -2,7 +2,7 @@
 
 #![tactic(auto)]
 
-// What the calls answer.
+// What Shelf number answers.
 pub mod answers;
 
 // The kinds that the listing runs over: those that have a norm.
@@ -14,4 +14,4 @@ pub mod number;
 // Shelf field: number to field.
 pub mod field;
 
-pub use answers::{ShelfField, ShelfNumber};
+pub use answers::ShelfNumber;

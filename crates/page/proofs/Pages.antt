@@ -17,7 +17,7 @@ use Rattle.model.specs.Norm.{kind_norm}
 use Rattle.model.specs.Base.{settled_stage, settled_form, since}
 use Rattle.model.specs.Limits.{most_input}
 use Rattle.model.specs.Sheet.{kind_count, field_count, card_of, field_of}
-use Rattle.model.specs.Refusal.{Accepted}
+use Rattle.model.specs.Refusal.{refusal, first_of, accept_checks, Accepted}
 use Rattle.model.specs.Answer.{refused, given, written, row_of, form_of, table_of, prime_form, prime_form_in}
 use Rattle.model.specs.Page.{refused_line, lines, page_of, printed}
 use Rattle.theory.proofs.Lists.{length_from, from_same}
@@ -25,14 +25,11 @@ use Rattle.theory.proofs.Exec.{Tells}
 use Rattle.theory.proofs.Sheets.{tells_reached, norm_tells}
 use Rattle.theory.proofs.Answers.{demand1}
 use Rattle.sheet.specs.declared.reader.Card.{Card}
-use Rattle.validation.specs.declared.checks.Checked.TheVariants.{Refused}
 use Rattle.sheet.proofs.Laws.{kinds_are, fields_are}
 use Rattle.norms.specs.Norms.{Accepts}
 use Rattle.norms.proofs.Laws.{norms_at}
-use Rattle.acceptance.proofs.Acceptances.{refused as checks_refused}
 use Rattle.rows.specs.Stage.{BaseAt}
-use Rattle.filer.specs.Settlement.{IsSettlement, table_in}
-use Rattle.filer.specs.declared.settlement.Settlement.{Settlement}
+use Rattle.filer.specs.Settlement.{table_in}
 use Rattle.filer.proofs.Calls.{limits, table_is}
 use Rattle.filer.proofs.Rows.{Whole, row_clear, row_inside}
 use Rattle.text.specs.Appended.{Appended}
@@ -112,9 +109,9 @@ module _ {s : List ℕ} {c : Card} {norms : List ℕ} (A : Accepts s c norms) wh
   page_lines = rw (A.accepted, page_of) refl
 
 -- The page of a refused sheet is its refusal.
-pub page_refusal : {s : List ℕ} {x : Settlement} → IsSettlement plain s x → (k p : ℕ) → x.checked ≡ Refused k p → refused_line k p ≡ page_of s
+pub page_refusal : (s : List ℕ) (k p : ℕ) → first_of (accept_checks s) ≡ refusal k p → refused_line k p ≡ page_of s
 unfolding page_of
-page_refusal {s} S k p e = rw (checks_refused s k p (sym S.checked_is ∙ e), page_of) refl
+page_refusal s k p e = rw (e, page_of) refl
 
 -- A buffer too short for the page, and one with room for it.
 module _ (s buffer : List ℕ) where

@@ -1,14 +1,7 @@
 -- What the page function answers and leaves in the lent buffer.
 use Rattle.std.specs.Prelude.{true, false, List, ℕ, ltb, length}
-use Rattle.model.specs.Answer.{Answer, refused, given, Lent, written}
+use Rattle.model.specs.Answer.{refused, given, Lent, written}
 use Rattle.model.specs.Page.{printed}
-use Rattle.page.specs.declared.sheet_page.Writing.{Writing}
-use Rattle.page.specs.declared.sheet_page.Writing.TheVariants.{Written, Refused}
-
--- The answer's cases: the page's length, or the refusal with its number and place.
-abbrev pub writing_of : Writing → Answer ℕ
-writing_of (Written length) = given length
-writing_of (Refused number place) = refused number place
 
 -- The page of the bytes s to a lent buffer: its length, and the buffer written; "buffer .. too short" is refused as 12 at place 0, and the buffer is as it was.
 unfoldable pub write_page_of : List ℕ → List ℕ → Lent ℕ

@@ -1,7 +1,6 @@
 // The lines of the fields.
 ghost use Rattle.std.specs.Prelude.{◌+◌, ◌*◌, ◌≤◌, ◌<◌, length};
 ghost use Rattle.model.specs.Answer.{prime_form};
-ghost use Rattle.norms.specs.Norms.{Accepts};
 ghost use Rattle.model.specs.Sense.{plain};
 ghost use Rattle.filer.specs.Settlement.{IsSettlement};
 ghost use Rattle.text.specs.Appended.{Appended};
@@ -11,7 +10,6 @@ ghost use Rattle.page.specs.Lengths.{most_field};
 use filer::form::form_settled;
 use filer::settlement::Settlement;
 use listing::put_field;
-use sheet::Card;
 
 // The line of one field of a settled sheet.
 fn put_settled_field(
@@ -19,40 +17,30 @@ fn put_settled_field(
     at: usize,
     sheet: &[u8],
     settlement: Settlement,
-    card: Card,
     field: usize,
 ) -> usize
     requires settlement { IsSettlement plain sheet.now settlement }
-    requires accepts { Accepts sheet.now card settlement.norms }
-    requires field_lt_fields { field < card.fields }
+    requires field_lt_fields { field < settlement.card.fields }
     requires most_field_in_bounds { at + most_field ≤ length out.old }
     ensures { Appended most_field out.old at (field_text field (prime_form sheet.now field)) out.new result }
 {
-    let n = card.kinds;
+    let n = settlement.card.kinds;
     let mut form = [0u64; 32];
-    form_settled(sheet, settlement, field, &mut form);
+    // No field of an accepted sheet is refused, and the array has room for any form.
+    let _ = form_settled(sheet, settlement, field, &mut form);
     put_field(out, at, field, &form[..n])
 }
 
 // The lines of all fields of a settled sheet.
-pub fn put_fields(
-    out: &mut [u8],
-    at: usize,
-    sheet: &[u8],
-    settlement: Settlement,
-    card: Card,
-) -> usize
+pub fn put_fields(out: &mut [u8], at: usize, sheet: &[u8], settlement: Settlement) -> usize
     requires settlement { IsSettlement plain sheet.now settlement }
-    requires accepts { Accepts sheet.now card settlement.norms }
-    requires fields_in_bounds { at + most_field * card.fields ≤ length out.old }
-    ensures { Appended (most_field * card.fields) out.old at (fields_text sheet.now card.fields) out.new result }
+    requires fields_in_bounds { at + most_field * settlement.card.fields ≤ length out.old }
+    ensures { Appended (most_field * settlement.card.fields) out.old at (fields_text sheet.now settlement.card.fields) out.new result }
 {
-    let fields = card.fields;
+    let fields = settlement.card.fields;
     let mut next = at;
-    let mut i = 0;
-    while i < fields {
-        next = put_settled_field(out, next, sheet, settlement, card, i);
-        i += 1;
+    for i in 0..fields {
+        next = put_settled_field(out, next, sheet, settlement, i);
     }
     next
 }

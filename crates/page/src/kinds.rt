@@ -19,15 +19,13 @@ pub fn put_kinds(
 ) -> usize
     requires le_kinds { (1 ≤ kinds) × (kinds ≤ most_kinds) }
     requires kinds_in_bounds { kinds * kinds ≤ length table.now }
-    requires kinds_in_bounds_2 { at + most_kind * kinds ≤ length out.old }
+    requires out_in_bounds { at + most_kind * kinds ≤ length out.old }
     ensures { Appended (most_kind * kinds) out.old at (kinds_text kinds norms since table.now) out.new result }
 {
     let mut next = at;
-    let mut kind = 0;
-    while kind < kinds {
+    for kind in 0..kinds {
         let part = row(table, kinds, kind);
         next = put_kind(out, next, kind, norms[kind], since[kind], part);
-        kind += 1;
     }
     next
 }

@@ -10,4 +10,4 @@ mod pairs;
 // The page: the public entry.
 mod sheet_page;
 
-pub use sheet_page::{INPUT, PAGE, Writing, write_page};
+pub use sheet_page::{INPUT, PAGE, write_page};

@@ -39,11 +39,9 @@ pub fn put_pairs(
     ensures { Appended (most_pair * (fields - 1)) out.old at (pairs_text sheet.now fields) out.new result }
 {
     let mut next = at;
-    let mut later = 1;
-    while later < fields {
+    for later in 1..fields {
         let verdict = compare_settled(Sense::Plain, sheet, settlement, 0, later);
         next = put_pair(out, next, later, verdict);
-        later += 1;
     }
     next
 }

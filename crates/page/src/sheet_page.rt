@@ -5,24 +5,24 @@ ghost use Rattle.model.specs.Norm.{kind_norm};
 ghost use Rattle.model.specs.Sheet.{card_of};
 ghost use Rattle.model.specs.Answer.{table_of};
 ghost use Rattle.model.specs.Page.{lines, page_of};
-ghost use Rattle.norms.specs.Norms.{Accepts};
 ghost use Rattle.model.specs.Sense.{plain};
 ghost use Rattle.filer.specs.Settlement.{IsSettlement, table_in};
+ghost use Rattle.refusals.specs.Refusals.{answer_of};
 ghost use Rattle.text.specs.Appended.{Appended};
 ghost use Rattle.page.specs.Lengths.{most_page};
-ghost use Rattle.page.specs.Writing.{writing_of, write_page_of};
+ghost use Rattle.page.specs.Writing.{write_page_of};
 
 use crate::fields::put_fields;
 use crate::kinds::put_kinds;
 use crate::pairs::put_pairs;
+use acceptance::accept::accept;
 use filer::settle::write_table;
-use filer::settlement::{Settlement, settle_once};
+use filer::settlement::{Settlement, settle_accepted};
 use listing::put_head;
-use sheet::Card;
+use refusals::Refusal;
 use tables::sense::Sense;
 use tables::table::Base;
 use text::put_bytes;
-use validation::checks::Checked;
 use verdicts::put_refused;
 
 // "at most 12,821 bytes"
@@ -31,28 +31,18 @@ pub const INPUT: usize = 12821;
 // No page is longer: most_page of specs/Lengths.antt, to which `blank` holds it.
 pub const PAGE: usize = 74183;
 
-// What the page function answers. specs/Writing.antt gives the cases their numbers and values.
-#[derive(Drop)]
-pub enum Writing {
-    Written { length: usize },
-    Refused { number: usize, place: usize },
-}
-
 // The page of a sheet to a lent buffer; a refused sheet's page is its refusal.
-pub fn write_page(sheet: &[u8], out: &mut [u8]) -> Writing
-    ensures result_value { writing_of result ≡ (write_page_of sheet.now out.old).answer }
+pub fn write_page(sheet: &[u8], out: &mut [u8]) -> Result<usize, Refusal>
+    ensures result_value { answer_of (λ n. n) result ≡ (write_page_of sheet.now out.old).answer }
     ensures out_after { out.new ≡ (write_page_of sheet.now out.old).lent }
 {
     let mut page = blank();
     let end = put_page(&mut page, input_part(sheet));
     if out.len() < end {
-        return Writing::Refused {
-            number: 12,
-            place: 0,
-        };
+        return Err(Refusal::ShortBuffer);
     }
     let length = put_bytes(out, 0, &page[..end]);
-    Writing::Written { length }
+    Ok(length)
 }
 
 // A page with nothing on it: a caller's proof does not see its bytes, but that they are as many as the longest page has, so that no other function goes by the number.
@@ -77,23 +67,20 @@ fn put_page(out: &mut [u8], sheet: &[u8]) -> usize
     requires { most_page ≤ length out.old }
     ensures { Appended most_page out.old 0 (page_of sheet.now) out.new result }
 {
-    let settlement = settle_once(Sense::Plain, sheet);
-    let checked = settlement.checked;
-    match checked {
-        Checked::Refused { number, place } => put_refused(out, 0, number, place),
-        Checked::Passed(card) => put_lines(out, sheet, settlement, card),
+    match accept(sheet) {
+        Ok(acceptance) => put_lines(out, sheet, settle_accepted(Sense::Plain, sheet, acceptance)),
+        Err(refusal) => put_refused(out, 0, refusal.number(), refusal.place()),
     }
 }
 
 // The lines of an accepted sheet.
-fn put_lines(out: &mut [u8], sheet: &[u8], settlement: Settlement, card: Card) -> usize
+fn put_lines(out: &mut [u8], sheet: &[u8], settlement: Settlement) -> usize
     requires settlement { IsSettlement plain sheet.now settlement }
-    requires accepts { Accepts sheet.now card settlement.norms }
     requires most_page_in_bounds { most_page ≤ length out.old }
     ensures { Appended most_page out.old 0 (lines sheet.now (table_of sheet.now) (kind_norm (card_of sheet.now))) out.new result }
 {
-    let n = card.kinds;
-    let fields = card.fields;
+    let n = settlement.card.kinds;
+    let fields = settlement.card.fields;
     let norms = settlement.norms;
     let settled = settlement.settled;
     let stage = settled.stage;
@@ -103,7 +90,7 @@ fn put_lines(out: &mut [u8], sheet: &[u8], settlement: Settlement, card: Card) -
     let table = table_of(base, n);
     let at_kinds = put_head(out, 0, n, stage);
     let at_fields = put_kinds(out, at_kinds, n, norms, since, &table[..size]);
-    let at_pairs = put_fields(out, at_fields, sheet, settlement, card);
+    let at_pairs = put_fields(out, at_fields, sheet, settlement);
     put_pairs(out, at_pairs, sheet, settlement, fields)
 }
 

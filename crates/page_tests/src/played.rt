@@ -13,11 +13,10 @@ use std::io::Write;
 use std::rt::{Env, Files};
 use tables::sense::Sense;
 use tally::{Called, Played, Tally};
-use validation::checks::Checked;
 
 // The sheets so far: how many were settled, and how many of those are part-used, with a kind that is not reached; how many were refused; and what was
 // played on those settled, in the plain sense and in the finer one.
-#[derive(Drop)]
+#[derive(Default, Drop)]
 struct Count {
     settled: u64,
     part: u64,
@@ -26,41 +25,10 @@ struct Count {
     finer: Tally,
 }
 
-impl Count {
-    fn new() -> Count {
-        let plain = Tally::new();
-        let finer = Tally::new();
-        Count {
-            settled: 0,
-            part: 0,
-            refused: 0,
-            plain,
-            finer,
-        }
-    }
-}
-
-// A count and one more; the greatest number stays.
-fn one_more(count: u64) -> u64 {
-    if count < 18446744073709551615 {
-        count + 1
-    } else {
-        count
-    }
-}
-
 // The most pairs that the player looks at for one verdict, and the rounds that fields called same are played to.
 const BUDGET: usize = 300_000;
 
 const ROUNDS: u64 = 5;
-
-// Whether the game of a sense looks at totals.
-fn looks_at_totals(sense: Sense) -> bool {
-    match sense {
-        Sense::Plain => false,
-        Sense::Finer => true,
-    }
-}
 
 // Field 0 against a later field, in a sense: the verdict and the prime forms against what was played, on the sheet `played`.
 fn with_pair(
@@ -76,12 +44,12 @@ fn with_pair(
     let settled = settlement.settled;
     let last = settled.stage;
     let mut first = [0u64; 32];
-    form_settled(sheet, settlement, 0, &mut first);
+    let _ = form_settled(sheet, settlement, 0, &mut first);
     let mut second = [0u64; 32];
-    form_settled(sheet, settlement, later, &mut second);
-    let equal = tally::same_counts(&first, &second);
+    let _ = form_settled(sheet, settlement, later, &mut second);
+    let equal = first == second;
     let unlike = tally::look_unlike(sheet, 0, later);
-    let totals = looks_at_totals(sense);
+    let totals = sense == Sense::Finer;
     match compare_settled(sense, sheet, settlement, 0, later) {
         Verdict::Same => {
             let tried = test_player::parting(played, totals, ROUNDS, 0, later, BUDGET);
@@ -97,10 +65,7 @@ fn with_pair(
                 tried,
             )
         }
-        Verdict::Refused {
-            number: _,
-            place: _,
-        } => tally,
+        Verdict::Refused { .. } => tally,
     }
 }
 
@@ -110,72 +75,36 @@ fn with_pairs(
     sheet: &[u8],
     played: &[u8],
     settlement: Settlement,
-    fields: usize,
     tally: Tally,
 ) -> Tally
     requires { IsSettlement (sense_of sense) sheet.now settlement }
 {
     let mut next = tally;
-    let mut later = 1;
-    while later < fields {
+    for later in 1..settlement.card.fields {
         next = with_pair(sense, sheet, played, settlement, later, next);
-        later += 1;
     }
     next
 }
 
 // One sheet more, and the sheet that is played for it.
 fn with_sheet(sheet: &[u8], played: &[u8], count: Count) -> Count {
-    let settlement = settle_once(Sense::Plain, sheet);
-    let checked = settlement.checked;
-    let plain_before = count.plain;
-    let finer_before = count.finer;
-    match checked {
-        Checked::Refused {
-            number: _,
-            place: _,
-        } => Count {
-            settled: count.settled,
-            part: count.part,
-            refused: one_more(count.refused),
-            plain: plain_before,
-            finer: finer_before,
-        },
-        Checked::Passed(card) => {
-            let fields = card.fields;
-            let plain = with_pairs(
-                Sense::Plain,
-                sheet,
-                played,
-                settlement,
-                fields,
-                plain_before,
-            );
-            let finer = with_pairs(
-                Sense::Finer,
-                sheet,
-                played,
-                settle_once(Sense::Finer, sheet),
-                fields,
-                finer_before,
-            );
-            Count {
-                settled: one_more(count.settled),
-                part: with_part_used(sheet, count.part),
-                refused: count.refused,
-                plain,
-                finer,
-            }
-        }
-    }
-}
-
-// One part-used sheet more, if the sheet is one.
-fn with_part_used(sheet: &[u8], part: u64) -> u64 {
-    if reached_part::part_used(sheet) {
-        one_more(part)
-    } else {
-        part
+    let (Ok(plain), Ok(finer)) = (
+        settle_once(Sense::Plain, sheet),
+        settle_once(Sense::Finer, sheet),
+    ) else {
+        return Count {
+            refused: count.refused.saturating_add(1),
+            ..count
+        };
+    };
+    Count {
+        settled: count.settled.saturating_add(1),
+        part: count
+            .part
+            .saturating_add(u64::from(reached_part::part_used(sheet))),
+        plain: with_pairs(Sense::Plain, sheet, played, plain, count.plain),
+        finer: with_pairs(Sense::Finer, sheet, played, finer, count.finer),
+        ..count
     }
 }
 
@@ -200,12 +129,9 @@ fn with_argument<R: Env + Files, E: Write>(
 
 // The stored sheets.
 pub fn play_stored<R: Env + Files, O: Write, E: Write>(rt: &R, output: &mut O, errors: &mut E) {
-    let end = argument_count(rt);
-    let mut count = Count::new();
-    let mut i = 1;
-    while i < end {
+    let mut count = Count::default();
+    for i in 1..argument_count(rt) {
         count = with_argument(rt, errors, i, count);
-        i += 1;
     }
     print_count(output, b"stored sheets", count);
 }
@@ -240,11 +166,9 @@ fn with_part(sheet: &[u8], part: [u8; 128], bytes: usize, count: Count) -> Count
 
 // Random small sheets, of the seeds from 0 up.
 pub fn play_random<O: Write>(output: &mut O) {
-    let mut count = Count::new();
-    let mut seed = 0;
-    while seed < 8000 {
+    let mut count = Count::default();
+    for seed in 0..8000 {
         count = with_seed(seed, count);
-        seed += 1;
     }
     print_count(output, b"random sheets", count);
 }

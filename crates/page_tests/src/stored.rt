@@ -2,7 +2,6 @@
 ghost use Rattle.std.specs.Prelude.{◌≤◌, length};
 ghost use Rattle.page_tests.specs.Counts.{IsPrefixLen};
 
-use page::Writing;
 use std::env::FillError;
 use std::fs::File;
 use std::io::{self, Cursor, ErrorKind, Read, Write};
@@ -75,6 +74,7 @@ fn read_full<F: Read>(file: &mut F, buffer: &mut [u8]) -> usize
     ensures { IsPrefixLen result buffer.new }
 {
     let mut done = 0;
+    // A while: each turn reads as many bytes as the file gives.
     while done < buffer.len() {
         let more = file.read(&mut buffer[done..]).unwrap_or(0);
         if more == 0 {
@@ -87,17 +87,10 @@ fn read_full<F: Read>(file: &mut F, buffer: &mut [u8]) -> usize
 
 // Where two texts first differ; the length of the shorter if that is nowhere before its end.
 fn first_difference(page: &[u8], stored: &[u8]) -> usize {
-    let mut i = 0;
-    while i < page.len() {
-        if stored.len() <= i {
-            return i;
-        }
-        if page[i] != stored[i] {
-            return i;
-        }
-        i += 1;
-    }
-    i
+    page.iter()
+        .zip(stored)
+        .position(|(ours, theirs)| ours != theirs)
+        .unwrap_or(page.len().min(stored.len()))
 }
 
 // Prints ok, or where the page differs from the stored one.
@@ -121,13 +114,8 @@ fn check_one<R: Files, O: Write, E: Write>(files: &R, output: &mut O, errors: &m
     let length = read_stored(files, errors, name, b".page", &mut stored);
     let mut text = [0u8; page::PAGE];
     match page::write_page(&sheet[..bytes], &mut text) {
-        Writing::Written { length: end } => {
-            print_difference(output, &text[..end], &stored[..length])
-        }
-        Writing::Refused {
-            number: _,
-            place: _,
-        } => print_difference(output, b"", &stored[..length]),
+        Ok(end) => print_difference(output, &text[..end], &stored[..length]),
+        Err(_) => print_difference(output, b"", &stored[..length]),
     }
 }
 
@@ -150,11 +138,8 @@ pub fn name_of<E: Env>(env: &E, argument: usize, name: &mut [u8; 32]) -> usize
 
 // Each stored sheet that the arguments name.
 pub fn check_all<R: Env + Files, O: Write, E: Write>(rt: &R, output: &mut O, errors: &mut E) {
-    let count = argument_count(rt);
-    let mut i = 1;
-    while i < count {
+    for i in 1..argument_count(rt) {
         check_argument(rt, output, errors, i);
-        i += 1;
     }
 }
 

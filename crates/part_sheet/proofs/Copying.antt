@@ -1,13 +1,13 @@
--- Bytes that are copied one by one, and a number that is set in two bytes.
+-- Bytes that are copied one by one.
 use mathlib.Core.List.{List}
 use mathlib.Core.Path.{◌≡◌, refl, ◌∙◌}
-use Prim.Native.Nat.{ℕ, ◌+◌, ◌/◌, ◌%◌, ◌<◌}
+use Prim.Native.Nat.{ℕ, ◌+◌, ◌<◌}
 use native.Mathlib.Decide.{ℕ_discrete}
 use native.Mathlib.Omega.{arith}
 use lib.ListN.{length, set, length-set}
 use lib.Seq.{get_or-set_same, get_or-set_other}
 use Rattle.model.specs.Sheet.{byte}
-use Rattle.part_sheet.specs.Bytes.{Copied, NumberSet}
+use Rattle.part_sheet.specs.Bytes.{Copied}
 
 -- Nothing is copied at first, and one byte more with each turn.
 pub copied_none : (s : List ℕ) (from : ℕ) (p : List ℕ) (to : ℕ) → Copied s from p to 0 p
@@ -28,27 +28,3 @@ copied_more {s} {from} {p} {to} {n} {q} C h = record {
     here : (i : ℕ) → i < n + 1 → Dec (i ≡ n) → byte (set q (to + n) (byte s (from + n))) (to + i) ≡ byte s (from + i)
     here i l (yes e) = rw e (get_or-set_same q (to + n) (byte s (from + n)) 0 (omega (arith, C.long)))
     here i l (no d) = other (to + i) (λ e. d (omega arith)) ∙ C.here i (omega arith)
-
--- The low byte at an offset and the high byte after it give the number.
-pub number_set : (x : ℕ) (p : List ℕ) (offset : ℕ) → offset + 1 < length p → NumberSet x p offset (set (set p offset (x % 256)) (offset + 1) (x / 256))
-number_set x p offset h = record {
-  long = length-set low (offset + 1) (x / 256) ∙ low_long;
-  here = omega (arith, at_low, at_high);
-  before = λ i l. other i (λ e. omega arith) (λ e. omega arith);
-  past = λ i l. other i (λ e. omega arith) (λ e. omega arith);
-}
-  where
-    low : List ℕ
-    low = set p offset (x % 256)
-
-    low_long : length low ≡ length p
-    low_long = length-set p offset (x % 256)
-
-    other : (i : ℕ) → ¬ (i ≡ offset) → ¬ (i ≡ offset + 1) → byte (set low (offset + 1) (x / 256)) i ≡ byte p i
-    other i d e = get_or-set_other low (offset + 1) i (x / 256) 0 e ∙ get_or-set_other p offset i (x % 256) 0 d
-
-    at_low : byte (set low (offset + 1) (x / 256)) offset ≡ x % 256
-    at_low = get_or-set_other low (offset + 1) offset (x / 256) 0 (λ e. omega arith) ∙ get_or-set_same p offset (x % 256) 0 (omega arith)
-
-    at_high : byte (set low (offset + 1) (x / 256)) (offset + 1) ≡ x / 256
-    at_high = get_or-set_same low (offset + 1) (x / 256) 0 (omega (arith, low_long))

@@ -1,5 +1,5 @@
 -- What the proofs of the functions cite.
-pub mod Copying  -- bytes copied in turns, and a number of two bytes
+pub mod Copying  -- bytes copied one by one
 pub mod Lines  -- lines as they stand in a buffer, taken in turns
 pub mod Headers  -- the header with another number of lines
 pub mod Sheets  -- the sheet of the reached part

@@ -14,11 +14,9 @@ fn copy_lines(sheet: &[u8], card: Card, norms: &[u32; 32], part: &mut [u8]) -> u
     requires sheet_in_bounds { length sheet.now ≤ length part.old }
     ensures { LinesTaken sheet.now part.old result part.new }
 {
-    let lines = card.lines;
     let width = 2 + card.kinds;
     let mut count = 0;
-    let mut line = 0;
-    while line < lines {
+    for line in 0..card.lines {
         let kind = card.line_kind(sheet, line);
         let norm = norms[kind];
         if 0 < norm {
@@ -31,7 +29,6 @@ fn copy_lines(sheet: &[u8], card: Card, norms: &[u32; 32], part: &mut [u8]) -> u
             );
             count += 1;
         }
-        line += 1;
     }
     count
 }

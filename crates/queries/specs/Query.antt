@@ -1,6 +1,6 @@
 -- From the words to the text: a verb and the numbers that it takes.
-use Rattle.std.specs.Prelude.{List, [], ◌∷◌, ℕ}
-use Rattle.words.specs.Words.{Said, numbers, nothing, numbers_of, words_of}
+use Rattle.std.specs.Prelude.{Option, Some, None, List, [], ◌∷◌, ℕ}
+use Rattle.words.specs.Words.{numbers_of, words_of}
 use Rattle.replies.specs.Told.{Told, no_call}
 use Rattle.verbs.specs.Calls.{settle_told, row_told, compare_told, form_told, finer_told, finer_form_told}
 use Rattle.walk_verb.specs.Calls.{walk_told}
@@ -9,7 +9,7 @@ use Rattle.squads_verb.specs.Calls.{squads_told}
 use Rattle.frequencies_verb.specs.Calls.{common_told}
 use Rattle.queries.specs.Verb.{verb_of}
 use Rattle.queries.specs.declared.table.Verb.{Verb}
-use Rattle.queries.specs.declared.table.Verb.TheVariants.{Settle, Row, Compare, Form, Walk, Number, Field, Squads, Finer, FinerForm, Common, Other}
+use Rattle.queries.specs.declared.table.Verb.TheVariants.{Settle, Row, Compare, Form, Walk, Number, Field, Squads, Finer, FinerForm, Common}
 
 -- What the call of each verb, with its numbers, comes to.
 unfoldable pub verb_told : List ℕ → Verb → List ℕ → Told
@@ -24,12 +24,12 @@ verb_told s Squads = squads_told s
 verb_told s Finer = finer_told s
 verb_told s FinerForm = finer_form_told s
 verb_told s Common = common_told s
-verb_told s Other = λ _. no_call
 
 -- What a verb and the words after it come to: its call, where these words say numbers; otherwise it is no call.
-unfoldable pub said_told : List ℕ → Verb → Said → Told
-said_told s verb (numbers xs) = verb_told s verb xs
-said_told s verb nothing = no_call
+unfoldable pub said_told : List ℕ → Option Verb → Option (List ℕ) → Told
+said_told s (Some verb) (Some xs) = verb_told s verb xs
+said_told s (Some verb) None = no_call
+said_told s None said = no_call
 
 -- The numbers that a call takes at most.
 abbrev pub most_numbers : ℕ

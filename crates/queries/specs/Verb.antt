@@ -1,10 +1,10 @@
 -- The table of verbs.
-use Rattle.std.specs.Prelude.{true, false, List, [], ◌∷◌, ℕ}
+use Rattle.std.specs.Prelude.{true, false, Option, Some, None, List, [], ◌∷◌, ℕ}
 use Prim.Native.String.{String}
 use Rattle.model.specs.Page.{bytes}
 use Rattle.words.specs.Words.{same_word}
 use Rattle.queries.specs.declared.table.Verb.{Verb}
-use Rattle.queries.specs.declared.table.Verb.TheVariants.{Settle, Row, Compare, Form, Walk, Number, Field, Squads, Finer, FinerForm, Common, Other}
+use Rattle.queries.specs.declared.table.Verb.TheVariants.{Settle, Row, Compare, Form, Walk, Number, Field, Squads, Finer, FinerForm, Common}
 
 -- A verb and the word for it.
 pub record Named : Type 0 where
@@ -22,9 +22,9 @@ verbs =
     ∷ named "common" Common ∷ []
 
 -- The verb that a word is: the first of a list with that name.
-unfoldable pub verb_in : List Named → List ℕ → Verb
-verb_in [] word = Other
-verb_in (x ∷ xs) word = elim (same_word word (bytes x.name)) [ true ↦ x.verb | false ↦ verb_in xs word ]
+unfoldable pub verb_in : List Named → List ℕ → Option Verb
+verb_in [] word = None
+verb_in (x ∷ xs) word = elim (same_word word (bytes x.name)) [ true ↦ Some x.verb | false ↦ verb_in xs word ]
 
-unfoldable pub verb_of : List ℕ → Verb
+unfoldable pub verb_of : List ℕ → Option Verb
 verb_of word = verb_in verbs word

@@ -6,7 +6,7 @@ ghost use Rattle.queries.specs.Query.{verb_told, query_of};
 
 use crate::table::{Verb, verb_of};
 use frequencies_verb::common::common_answers;
-use replies::reply::{Reply, no_call};
+use replies::reply::Reply;
 use shelf_verbs::field::numbered_field;
 use shelf_verbs::number::field_number;
 use squads_verb::count::count_squads;
@@ -14,7 +14,7 @@ use verbs::compare::{compare_fields, finer_compare_fields};
 use verbs::form::{field_form, finer_field_form};
 use verbs::settle::{settle, settled_row};
 use walk_verb::walk::walk_fields;
-use words::{Count, numbers_in, word_end};
+use words::{numbers_in, word_end};
 
 // No text is longer.
 pub const TEXT: usize = 21564;
@@ -39,7 +39,6 @@ fn call(sheet: &[u8], verb: Verb, numbers: &[u64], out: &mut [u8]) -> Reply
         Verb::Finer => finer_compare_fields(sheet, numbers, out),
         Verb::FinerForm => finer_field_form(sheet, numbers, out),
         Verb::Common => common_answers(sheet, numbers, out),
-        Verb::Other => no_call(),
     }
 }
 
@@ -47,14 +46,16 @@ fn call(sheet: &[u8], verb: Verb, numbers: &[u64], out: &mut [u8]) -> Reply
 pub fn answer(sheet: &[u8], words: &[u8], out: &mut [u8; TEXT]) -> Reply
     ensures { Tells (query_of sheet.now words.now) out.old out.new result }
 {
-    let end = word_end(words);
-    if words.len() <= end {
-        return no_call();
-    }
-    let verb = verb_of(&words[..end]);
+    let Some(end) = word_end(words) else {
+        return Reply::no_call();
+    };
+    let (word, others) = words.split_at(end);
+    let Some(verb) = verb_of(word) else {
+        return Reply::no_call();
+    };
     let mut values = [0u64; NUMBERS];
-    let Count::Numbers(count) = numbers_in(&words[end + 1..], &mut values) else {
-        return no_call();
+    let Some(count) = numbers_in(&others[1..], &mut values) else {
+        return Reply::no_call();
     };
     call(sheet, verb, &values[..count], out)
 }

@@ -7,7 +7,6 @@ ghost use Rattle.std.specs.Io.KnownBytes.{Appends};
 ghost use Rattle.model.specs.Limits.{most_input};
 ghost use Rattle.queries.specs.Query.{query_of};
 
-use console::{Reading, Words};
 use replies::Outcome;
 use std::io::{Read, Write};
 
@@ -49,7 +48,7 @@ fn query<I: Read, O: Write, E: Write>(
     ensures { OnTrue result (IfSome (I.remaining input.old) (λ s. Appends (O.contents output.old) (O.contents output.new) (query_of (take most_input s) words.now).text)) }
 {
     let mut sheet = [0u8; console::INPUT];
-    let Reading::Read { bytes } = console::read_sheet(input, &mut sheet) else {
+    let Ok(bytes) = console::read_sheet(input, &mut sheet) else {
         console::unread(errors, b"query");
         return false;
     };
@@ -61,7 +60,7 @@ const WORDS: usize = 65536;
 
 fn main(rt: HostRuntime) {
     let mut words = [0u8; WORDS];
-    let Words::All { length } = console::arguments(&rt, &mut words, 0) else {
+    let Some(length) = console::arguments(&rt, &mut words, 0) else {
         usage(&mut rt.stderr());
         return;
     };

@@ -1,7 +1,7 @@
 -- How often counts go into counts: kind by kind, each time up to what the kinds before let in.
 use mathlib.Core.Bool.{Bool}
 use mathlib.Core.Path.{◌≡◌, sym, ◌∙◌, ap}
-use Prim.Native.Nat.{ℕ, ◌+◌, ◌-◌, ◌*◌, ◌/◌, ◌≤◌, ◌<◌}
+use Prim.Native.Nat.{ℕ, ◌+◌, ◌-◌, ◌*◌, ◌/◌, ◌≤◌, ◌<◌, min}
 use native.Mathlib.Decide.{ℕ_discrete}
 use native.Mathlib.Nat.{mul-zero, mul-le-mul_left, mul-le-mul_right, le-div_iff_mul-le}
 use native.Mathlib.Omega.{arith}
@@ -35,11 +35,10 @@ module _ (most whole squad : ℕ) where
     fits : whole / squad * squad ≤ whole
     fits = (le-div_iff_mul-le {k = squad} {x = whole / squad} {y = whole} some).0 (omega arith)
 
-    pub up_fewer : whole / squad < most → whole / squad ≡ times_up_to most whole squad
-    up_fewer h = only (whole / squad) fits (omega arith) (λ r _ l. (le-div_iff_mul-le {k = squad} {x = r} {y = whole} some).1 l)
-
-    pub up_most : most ≤ whole / squad → most ≡ times_up_to most whole squad
-    up_most h = only most (omega (arith, fits, mul-le-mul_right squad h)) (omega arith) (λ r i _. i)
+    pub up_some : {times : ℕ} → times ≡ min most (whole / squad) → times ≡ times_up_to most whole squad
+    up_some {times} e =
+        let h : times ≤ whole / squad = omega (arith, e) in
+        only times (omega (arith, fits, mul-le-mul_right squad h)) (omega (arith, e)) (λ r i l. let f : r ≤ whole / squad = (le-div_iff_mul-le {k = squad} {x = r} {y = whole} some).1 l in omega (arith, e))
 
   up_fits : times_up_to most whole squad * squad ≤ whole
   unfolding times_up_to

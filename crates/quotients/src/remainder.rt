@@ -12,9 +12,7 @@ pub fn write_remainder(times: u64, whole: &[u64], squad: &[u64], buffer: &mut [u
     requires times_value { times ≡ times_in (length whole.now) (at whole.now) (at squad.now) }
     ensures { buffer.new ≡ written (list_from (remainder (length whole.now) (at whole.now) (at squad.now)) 0 (length whole.now)) buffer.old }
 {
-    let mut kind = 0;
-    while kind < whole.len() {
+    for kind in 0..whole.len() {
         buffer[kind] = whole[kind] - times * squad[kind];
-        kind += 1;
     }
 }

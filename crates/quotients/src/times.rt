@@ -10,11 +10,9 @@ pub fn times_in(whole: &[u64], squad: &[u64]) -> u64
     requires nonzero { 0 < tokens (length squad.now) (at squad.now) }
     ensures { result ≡ times_in (length whole.now) (at whole.now) (at squad.now) }
 {
-    let mut times: u64 = 18446744073709551615;
-    let mut kind = 0;
-    while kind < whole.len() {
-        times = times_up_to(times, whole[kind], squad[kind]);
-        kind += 1;
+    let mut times = u64::MAX;
+    for (whole, squad) in whole.iter().zip(squad) {
+        times = times_up_to(times, *whole, *squad);
     }
     times
 }
@@ -26,9 +24,5 @@ fn times_up_to(most: u64, whole: u64, squad: u64) -> u64
     if squad == 0 {
         return most;
     }
-    let times = whole / squad;
-    if times < most {
-        return times;
-    }
-    most
+    most.min(whole / squad)
 }

@@ -4,9 +4,8 @@
 // kinds no field has a token of the last kinds, and no line is there to clear these: most of them are out, and may have no norm; some are reached by
 // a line.
 ghost use Rattle.std.specs.Prelude.{◌≤◌, ◌<◌};
-ghost use Rattle.random_cards.specs.Shapes.{Small};
 
-use crate::random::{pick, pick_high, reduce};
+use crate::random::{pick, pick_high};
 use crate::writing::{put, put_header, put_number};
 
 // The numbers of a card. Kind k has the number (k + shift) % kinds on the sheet. The lines that clear a kind leave nothing on a `flat` card. On
@@ -24,6 +23,12 @@ struct Shape {
     flat: bool,
     chain: bool,
     loose: bool,
+    ghost few_kinds: { (1 ≤ kinds) × (kinds ≤ 4) },
+    ghost few_codes: { (1 ≤ codes) × (codes ≤ 3) },
+    ghost few_lines: { lines ≤ 8 },
+    ghost few_fields: { fields ≤ 4 },
+    ghost shift_in_kinds: { shift < kinds },
+    ghost held_in_kinds: { (1 ≤ held) × (held ≤ kinds) },
 }
 
 // How many of the kinds the fields may have: mostly all.
@@ -38,9 +43,7 @@ fn held_of(seed: u64, kinds: usize) -> usize
 }
 
 // The numbers that a seed gives.
-fn shape_of(seed: u64) -> Shape
-    ensures { Small result }
-{
+fn shape_of(seed: u64) -> Shape {
     let kinds = 1 + pick_high(seed, 0, 4);
     let manner = pick(seed, 1, 16);
     Shape {
@@ -57,190 +60,172 @@ fn shape_of(seed: u64) -> Shape
     }
 }
 
-// The kind of a line.
-fn kind_of(shape: Shape, line: usize) -> usize
-    requires { Small shape × (line < 8) }
-    ensures { result < shape.kinds }
-{
-    if shape.loose {
-        return pick(shape.seed, 10 + line, shape.kinds);
-    }
-    if line < shape.held {
-        return line;
-    }
-    if shape.chain {
-        return reduce(line + 1 - shape.held, shape.kinds);
-    }
-    pick(shape.seed, 10 + line, shape.kinds)
-}
-
-// The code of a line: mostly the first for a line that clears a kind, and the second for one of a chain.
-fn code_of(shape: Shape, line: usize) -> usize
-    requires { Small shape × (line < 8) }
-    ensures { result < shape.codes }
-{
-    if pick(shape.seed, 20 + line, 4) == 0 {
-        return pick(shape.seed, 30 + line, shape.codes);
-    }
-    if line < shape.held {
-        return 0;
-    }
-    if shape.chain {
-        return reduce(1, shape.codes);
-    }
-    pick(shape.seed, 30 + line, shape.codes)
-}
-
 // One token of its own kind, as a count of a kind.
 fn one_of(own: usize, kind: usize) -> usize
     ensures { result ≤ 1 }
 {
-    if own == kind { 1 } else { 0 }
+    usize::from(own == kind)
 }
 
-// One token where the seed has 0 below a limit, else none.
-fn token(shape: Shape, place: usize, limit: usize) -> usize
-    requires { 0 < limit }
-    ensures { result ≤ 1 }
-{
-    one_of(pick(shape.seed, place, limit), 0)
-}
-
-// Of how many lines one leaves a token of a kind. A kind that fields do not have is mostly left by lines of such kinds, and so is rarely reached.
-fn one_in(shape: Shape, line: usize, kind: usize) -> usize
-    requires { Small shape × (line < 8) }
-    ensures { 0 < result }
-{
-    if kind < shape.held {
-        return 3;
-    }
-    if shape.held <= kind_of(shape, line) {
-        return 2;
-    }
-    9
-}
-
-// How many tokens of a kind a line leaves.
-fn left_by(shape: Shape, line: usize, kind: usize) -> usize
-    requires { Small shape × (line < 8) × (kind < 4) }
-    ensures { result ≤ 1 }
-{
-    let place = 40 + line * 4 + kind;
-    if shape.loose {
-        return token(shape, place, one_in(shape, line, kind));
-    }
-    if shape.held <= line {
-        if shape.chain {
-            return one_of(reduce(line - shape.held, shape.kinds), kind);
+impl Shape {
+    // The kind of a line.
+    fn kind_of(self, line: usize) -> usize
+        requires { line < 8 }
+        ensures { result < self.kinds }
+    {
+        if self.loose {
+            return pick(self.seed, 10 + line, self.kinds);
         }
-        return token(shape, place, one_in(shape, line, kind));
+        if line < self.held {
+            return line;
+        }
+        if self.chain {
+            return (line + 1 - self.held) % self.kinds;
+        }
+        pick(self.seed, 10 + line, self.kinds)
     }
-    if shape.flat || line <= kind {
-        return 0;
-    }
-    token(shape, place, 2)
-}
 
-// How many tokens of a kind a field has.
-fn tokens_of(shape: Shape, field: usize, kind: usize) -> usize
-    requires { Small shape × (field < 4) × (kind < 4) }
-    ensures { result ≤ 3 }
-{
-    if shape.held <= kind {
-        return 0;
+    // The code of a line: mostly the first for a line that clears a kind, and the second for one of a chain.
+    fn code_of(self, line: usize) -> usize
+        requires { line < 8 }
+        ensures { result < self.codes }
+    {
+        if pick(self.seed, 20 + line, 4) == 0 {
+            return pick(self.seed, 30 + line, self.codes);
+        }
+        if line < self.held {
+            return 0;
+        }
+        if self.chain {
+            return 1 % self.codes;
+        }
+        pick(self.seed, 30 + line, self.codes)
     }
-    let shared = token(shape, 80 + kind, 4);
-    let x = pick_high(shape.seed, 90, shape.held);
-    if field == 0 {
-        return shared + one_of(x, kind);
-    }
-    let way = pick(shape.seed, 100 + field, 8);
-    if way < 3 {
-        return shared + left_by(shape, x, kind) + one_of(0, kind);
-    }
-    if way < 6 {
-        return shared + one_of(pick(shape.seed, 110 + field, shape.held), kind);
-    }
-    token(shape, 120 + field * 4 + kind, 2)
-}
 
-// Where a line starts; for the number of lines, where the fields start.
-fn line_start(shape: Shape, line: usize) -> usize
-    requires { Small shape × (line ≤ 8) }
-    ensures { result ≤ 68 }
-{
-    20 + line * (2 + shape.kinds)
-}
-
-// Where a field starts; for the number of fields, where the sheet ends.
-fn field_start(shape: Shape, field: usize) -> usize
-    requires { Small shape × (field ≤ 4) }
-    ensures { result ≤ 100 }
-{
-    line_start(shape, shape.lines) + 2 * (shape.kinds * field)
-}
-
-// A line is written.
-fn put_line(shape: Shape, line: usize, out: &mut [u8; 128])
-    requires { Small shape × (line < 8) }
-{
-    let start = line_start(shape, line);
-    put(
-        out,
-        start,
-        reduce(kind_of(shape, line) + shape.shift, shape.kinds),
-    );
-    put(out, start + 1, code_of(shape, line));
-    let kinds = shape.kinds;
-    let mut k = 0;
-    while k < kinds {
-        put(
-            out,
-            start + 2 + reduce(k + shape.shift, kinds),
-            left_by(shape, line, k),
-        );
-        k += 1;
+    // One token where the seed has 0 below a limit, else none.
+    fn token(self, place: usize, limit: usize) -> usize
+        requires { 0 < limit }
+        ensures { result ≤ 1 }
+    {
+        one_of(pick(self.seed, place, limit), 0)
     }
-}
 
-// A field is written.
-fn put_field(shape: Shape, field: usize, out: &mut [u8; 128])
-    requires { Small shape × (field < 4) }
-{
-    let start = field_start(shape, field);
-    let kinds = shape.kinds;
-    let mut k = 0;
-    while k < kinds {
-        put_number(
-            out,
-            start + 2 * reduce(k + shape.shift, kinds),
-            tokens_of(shape, field, k),
-        );
-        k += 1;
+    // Of how many lines one leaves a token of a kind. A kind that fields do not have is mostly left by lines of such kinds, and so is rarely reached.
+    fn one_in(self, line: usize, kind: usize) -> usize
+        requires { line < 8 }
+        ensures { 0 < result }
+    {
+        if kind < self.held {
+            return 3;
+        }
+        if self.held <= self.kind_of(line) {
+            return 2;
+        }
+        9
     }
-}
 
-// The lines are written.
-fn put_lines(shape: Shape, out: &mut [u8; 128])
-    requires { Small shape }
-{
-    let lines = shape.lines;
-    let mut j = 0;
-    while j < lines {
-        put_line(shape, j, out);
-        j += 1;
+    // How many tokens of a kind a line leaves.
+    fn left_by(self, line: usize, kind: usize) -> usize
+        requires { (line < 8) × (kind < 4) }
+        ensures { result ≤ 1 }
+    {
+        let place = 40 + line * 4 + kind;
+        if self.loose {
+            return self.token(place, self.one_in(line, kind));
+        }
+        if self.held <= line {
+            if self.chain {
+                return one_of((line - self.held) % self.kinds, kind);
+            }
+            return self.token(place, self.one_in(line, kind));
+        }
+        if self.flat || line <= kind {
+            return 0;
+        }
+        self.token(place, 2)
     }
-}
 
-// The fields are written.
-fn put_fields(shape: Shape, out: &mut [u8; 128])
-    requires { Small shape }
-{
-    let fields = shape.fields;
-    let mut i = 0;
-    while i < fields {
-        put_field(shape, i, out);
-        i += 1;
+    // How many tokens of a kind a field has.
+    fn tokens_of(self, field: usize, kind: usize) -> usize
+        requires { (field < 4) × (kind < 4) }
+        ensures { result ≤ 3 }
+    {
+        if self.held <= kind {
+            return 0;
+        }
+        let shared = self.token(80 + kind, 4);
+        let x = pick_high(self.seed, 90, self.held);
+        if field == 0 {
+            return shared + one_of(x, kind);
+        }
+        let way = pick(self.seed, 100 + field, 8);
+        if way < 3 {
+            return shared + self.left_by(x, kind) + one_of(0, kind);
+        }
+        if way < 6 {
+            return shared + one_of(pick(self.seed, 110 + field, self.held), kind);
+        }
+        self.token(120 + field * 4 + kind, 2)
+    }
+
+    // Where a line starts; for the number of lines, where the fields start.
+    fn line_start(self, line: usize) -> usize
+        requires { line ≤ 8 }
+        ensures { result ≤ 68 }
+    {
+        20 + line * (2 + self.kinds)
+    }
+
+    // Where a field starts; for the number of fields, where the sheet ends.
+    fn field_start(self, field: usize) -> usize
+        requires { field ≤ 4 }
+        ensures { result ≤ 100 }
+    {
+        self.line_start(self.lines) + 2 * (self.kinds * field)
+    }
+
+    // A line is written.
+    fn put_line(self, line: usize, out: &mut [u8; 128])
+        requires { line < 8 }
+    {
+        let start = self.line_start(line);
+        put(out, start, (self.kind_of(line) + self.shift) % self.kinds);
+        put(out, start + 1, self.code_of(line));
+        for k in 0..self.kinds {
+            put(
+                out,
+                start + 2 + (k + self.shift) % self.kinds,
+                self.left_by(line, k),
+            );
+        }
+    }
+
+    // A field is written.
+    fn put_field(self, field: usize, out: &mut [u8; 128])
+        requires { field < 4 }
+    {
+        let start = self.field_start(field);
+        for k in 0..self.kinds {
+            put_number(
+                out,
+                start + 2 * ((k + self.shift) % self.kinds),
+                self.tokens_of(field, k),
+            );
+        }
+    }
+
+    // The lines are written.
+    fn put_lines(self, out: &mut [u8; 128]) {
+        for line in 0..self.lines {
+            self.put_line(line, out);
+        }
+    }
+
+    // The fields are written.
+    fn put_fields(self, out: &mut [u8; 128]) {
+        for field in 0..self.fields {
+            self.put_field(field, out);
+        }
     }
 }
 
@@ -249,8 +234,8 @@ pub fn random_sheet(seed: u64, out: &mut [u8; 128]) -> usize
     ensures { result ≤ 100 }
 {
     let shape = shape_of(seed);
-    let start = line_start(shape, shape.lines);
-    let end = field_start(shape, shape.fields);
+    let start = shape.line_start(shape.lines);
+    let end = shape.field_start(shape.fields);
     put_header(
         shape.kinds,
         shape.codes,
@@ -260,7 +245,7 @@ pub fn random_sheet(seed: u64, out: &mut [u8; 128]) -> usize
         end,
         out,
     );
-    put_lines(shape, out);
-    put_fields(shape, out);
+    shape.put_lines(out);
+    shape.put_fields(out);
     end
 }

@@ -8,14 +8,6 @@ fn mix(number: u64) -> u64
     (number % 4294967296 * 2654435761 + 974711) / 65536 % 4294967296
 }
 
-// A number brought below a limit.
-pub fn reduce(number: usize, limit: usize) -> usize
-    requires { 0 < limit }
-    ensures { result < limit }
-{
-    number % limit
-}
-
 // The number below a limit that the seed has at a place.
 pub fn pick(seed: u64, place: usize, limit: usize) -> usize
     requires { 0 < limit }
@@ -23,7 +15,7 @@ pub fn pick(seed: u64, place: usize, limit: usize) -> usize
 {
     let p = (place % 65536) as u64;
     let x = mix(mix(mix(seed) + mix(seed / 4294967296 + 1)) + p);
-    reduce((mix(mix(x)) / 256) as usize, limit)
+    (mix(mix(x)) / 256) as usize % limit
 }
 
 // The greater of two numbers below a limit that the seed has: one that is rarely small.
@@ -31,7 +23,5 @@ pub fn pick_high(seed: u64, place: usize, limit: usize) -> usize
     requires { (place < 1000) × (0 < limit) }
     ensures { result < limit }
 {
-    let x = pick(seed, place, limit);
-    let y = pick(seed, place + 1000, limit);
-    if x < y { y } else { x }
+    pick(seed, place, limit).max(pick(seed, place + 1000, limit))
 }

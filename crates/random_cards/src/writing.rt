@@ -3,8 +3,8 @@ ghost use Rattle.std.specs.Prelude.{◌<◌};
 
 // A byte is written, where the buffer has it.
 pub fn put(out: &mut [u8; 128], at: usize, value: usize) {
-    if at < 128 {
-        out[at] = (value % 256) as u8;
+    if let Some(byte) = out.get_mut(at) {
+        *byte = (value % 256) as u8;
     }
 }
 

@@ -7,27 +7,17 @@ use mathlib.Core.Path.{◌≡◌, refl, sym, ap, ◌∙◌}
 use Prim.Native.Nat.{ℕ, ◌+◌, ◌-◌, ◌≤◌, ◌<◌}
 use native.Mathlib.Decide.{ℕ_discrete, dec_lt}
 use native.Mathlib.Omega.{arith}
-use lib.ListN.{length, set, take, replicate, length-take}
+use lib.ListN.{length, take}
 use lib.Seq.{get_or-take, length-take-le}
 use Rattle.model.specs.Field.{at}
 use Rattle.model.specs.Limits.{most_lines}
 use Rattle.tables.specs.Match.{LeastMatch, Among}
 use Rattle.tables.proofs.Tables.{told_not}
-use Rattle.tables.proofs.Matching.{Numbered, numbered_none, numbered_more}
+use Rattle.tables.proofs.Matching.{Numbered}
 use Rattle.ranks.specs.Insertion.{Place, Inserted}
 use Rattle.ranks.specs.Firsts.{Firsts}
 use Rattle.ranks.proofs.Laws.{LineOrder}
 use Rattle.ranks.proofs.Sorting.{inserted_in_order}
-
--- Before line 0 there is no class.
-pub firsts_none : (M B : ℕ → ℕ → Type 0) (xs : List ℕ) → Firsts M B (take 0 xs) 0
-firsts_none M B xs =
-    record {
-      in_order = λ x y l h b. omega (arith, length-take 0 xs);
-      before = λ x a. absurd (omega (arith, a.1, length-take 0 xs));
-      least = λ x a. absurd (omega (arith, a.1, length-take 0 xs));
-      each = λ i l. absurd (omega arith);
-    }
 
 module _ {M B : ℕ → ℕ → Type 0} (order : LineOrder M B) {xs : List ℕ} {line place : ℕ} (firsts : Firsts M B xs line) (at_place : Place B xs line place) where
   -- An entry that the line matches is its class.
@@ -165,10 +155,3 @@ pub record Classed (M B : ℕ → ℕ → Type 0) (n j : ℕ) (numbers list : Li
   pub long : length list ≡ most_lines
   pub few : found ≤ j
   pub firsts : Firsts M B (take found list) j
-
-pub classed_none : (M B : ℕ → ℕ → Type 0) {n : ℕ} → n ≤ most_lines → Classed M B n 0 (replicate most_lines 0) (replicate most_lines 0) 0
-classed_none M B l = record { numbered = numbered_none l; long = refl; few = omega arith; firsts = firsts_none M B (replicate most_lines 0) }
-
-pub classed_more : {M B : ℕ → ℕ → Type 0} {n j : ℕ} {numbers list next : List ℕ} {found after class : ℕ} → Classed M B n j numbers list found → j < n → length next ≡ length list
-    → LeastMatch M j class → after ≤ j + 1 → Firsts M B (take after next) (j + 1) → Classed M B n (j + 1) (set numbers j class) next after
-classed_more c l kept m few firsts = record { numbered = numbered_more c.numbered l m; long = kept ∙ c.long; few = few; firsts = firsts }

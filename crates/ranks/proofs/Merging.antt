@@ -30,27 +30,6 @@ pub record Skipping (B : ℕ → ℕ → Type 0) (xs : List ℕ) (start i place 
   pub within : place ≤ length xs
   pub before : (x : ℕ) → start ≤ x → x < place → B (at xs x) i
 
-module _ {B : ℕ → ℕ → Type 0} {xs : List ℕ} {start i : ℕ} where
-  -- The search begins.
-  pub skipping_none : start ≤ length xs → Skipping B xs start i start
-  skipping_none within = record { onward = omega arith; within = within; before = λ x from to. absurd (omega arith) }
-
-  -- The test of the entry at hand says that it comes before i: the search goes on.
-  pub skipping_more : {place : ℕ} → Skipping B xs start i place → place < length xs → {answer : Bool} → (answer ≡ true) ↔ B (at xs place) i → answer ≡ true → Skipping B xs start i (place + 1)
-  skipping_more {place} so_far here test says_true = record { onward = omega (arith, so_far.onward); within = omega arith; before = λ x from to. go x from to (ℕ_discrete x place) }
-    where
-      go : (x : ℕ) → start ≤ x → x < place + 1 → Dec (x ≡ place) → B (at xs x) i
-      go x from to (yes same) = rw same (test.0 says_true)
-      go x from to (no other) = so_far.before x from (omega arith)
-
-  -- The test of the entry at hand says that it does not come before i: it is the first.
-  pub skipping_found : {place : ℕ} → Skipping B xs start i place → {answer : Bool} → (answer ≡ true) ↔ B (at xs place) i → answer ≡ false → FirstNotBefore B xs start i place
-  skipping_found so_far test says_false = record { onward = so_far.onward; within = so_far.within; before = so_far.before; first = λ _. told_not test says_false }
-
-  -- The search has come to the end of the list.
-  pub skipping_end : {place : ℕ} → Skipping B xs start i place → length xs ≤ place → FirstNotBefore B xs start i place
-  skipping_end so_far end = record { onward = so_far.onward; within = so_far.within; before = so_far.before; first = λ within. absurd (omega arith) }
-
 -- The pass over the lists xs and ys has come to a place of xs, and has reached a place of ys: the entries of xs before its place have matches in ys, and the entries of ys before the place reached come
 -- before the entries of xs that are left.
 pub record Passing (M B : ℕ → ℕ → Type 0) (xs ys : List ℕ) (reached place : ℕ) : Type 0 where
@@ -60,10 +39,6 @@ pub record Passing (M B : ℕ → ℕ → Type 0) (xs ys : List ℕ) (reached pl
   pub passed : (x y : ℕ) → place ≤ x → x < length xs → y < reached → B (at ys y) (at xs x)
 
 module _ {M B : ℕ → ℕ → Type 0} {xs ys : List ℕ} where
-  -- The pass begins.
-  pub passing_none : Passing M B xs ys 0 0
-  passing_none = record { reached_within = omega arith; within = omega arith; matched = λ x early. absurd (omega arith); passed = λ x y from within early. absurd (omega arith) }
-
   -- The pass has come to the end of xs: each entry has a match.
   pub passing_all : {reached place : ℕ} → Passing M B xs ys reached place → length xs ≤ place → EachMatched M (Among xs) (Among ys)
   passing_all so_far end = among_all (λ i. (j : ℕ) × Among ys j × M i j) xs end so_far.matched

@@ -1,35 +1,27 @@
 // The classes of the lines, by their order: each line is sought, by halves, among the first lines of the classes before it.
 ghost use Rattle.std.specs.Prelude.{◌+◌, ◌≤◌, ◌<◌, length, take};
 ghost use Rattle.tables.specs.Lines.{lines_in};
-ghost use Rattle.tables.specs.Match.{Bounds, LeastMatch, TellsMatch, MatchTables, MatchIn};
-ghost use Rattle.ranks.specs.Order.{PrecedesIn};
+ghost use Rattle.tables.specs.Match.{Bounds, LeastMatch, TellsMatch, MatchBy};
+ghost use Rattle.ranks.specs.Order.{PrecedesBy};
 ghost use Rattle.ranks.specs.Insertion.{Place};
 ghost use Rattle.ranks.specs.Firsts.{Firsts};
 
 use crate::insert::insert;
 use crate::place::place_of;
-use tables::class::{classes, lines_match};
+use tables::effects::Effects;
 
 // The class of a line, by its place in the list of the first lines of the classes before it: the entry before the place, where the line matches it, and else the line itself.
-fn class_at(
-    lines: &[u8],
-    rows: &[u32],
-    forms: &[u64],
-    list: &[u8],
-    place: usize,
-    line: usize,
-) -> usize
-    requires cases { MatchTables lines.now rows.now forms.now }
-    requires line_bound { line < lines_in lines.now }
-    requires firsts { Firsts (MatchIn lines.now rows.now forms.now) (PrecedesIn lines.now rows.now forms.now) list.now line }
-    requires place { Place (PrecedesIn lines.now rows.now forms.now) list.now line place }
-    ensures { LeastMatch (MatchIn lines.now rows.now forms.now) line result }
+fn class_at(effects: &Effects, list: &[u8], place: usize, line: usize) -> usize
+    requires line_bound { line < lines_in effects.now.lines }
+    requires firsts { Firsts (MatchBy effects.now) (PrecedesBy effects.now) list.now line }
+    requires place { Place (PrecedesBy effects.now) list.now line place }
+    ensures { LeastMatch (MatchBy effects.now) line result }
 {
     if place == 0 {
         return line;
     }
-    let other = list[place - 1] as usize;
-    if lines_match(lines, rows, forms, other, line) {
+    let other = usize::from(list[place - 1]);
+    if effects.matches(other, line) {
         return other;
     }
     line
@@ -43,50 +35,38 @@ struct Joined {
 }
 
 // The class of a line, by a list that begins with the first lines of the `count` classes before it. A line that begins a class is put to its place in the list.
-fn join(
-    lines: &[u8],
-    rows: &[u32],
-    forms: &[u64],
-    list: &mut [u8],
-    count: usize,
-    line: usize,
-) -> Joined
-    requires cases { MatchTables lines.now rows.now forms.now }
-    requires line_bound { (line < lines_in lines.now) × (lines_in lines.now ≤ length list.old) × (count ≤ line) }
-    requires firsts { Firsts (MatchIn lines.now rows.now forms.now) (PrecedesIn lines.now rows.now forms.now) (take count list.old) line }
-    ensures least_match { LeastMatch (MatchIn lines.now rows.now forms.now) line result.class }
+fn join(effects: &Effects, list: &mut [u8; 256], count: usize, line: usize) -> Joined
+    requires line_bound { (line < lines_in effects.now.lines) × (lines_in effects.now.lines ≤ length list.old) × (count ≤ line) }
+    requires firsts { Firsts (MatchBy effects.now) (PrecedesBy effects.now) (take count list.old) line }
+    ensures least_match { LeastMatch (MatchBy effects.now) line result.class }
     ensures count_bound { result.count ≤ line + 1 }
-    ensures firsts_2 { Firsts (MatchIn lines.now rows.now forms.now) (PrecedesIn lines.now rows.now forms.now) (take result.count list.new) (line + 1) }
+    ensures firsts_with_it { Firsts (MatchBy effects.now) (PrecedesBy effects.now) (take result.count list.new) (line + 1) }
 {
-    let place = place_of(lines, rows, forms, &list[..count], line);
-    let class = class_at(lines, rows, forms, &list[..count], place, line);
+    let place = place_of(effects, &list[..count], line);
+    let class = class_at(effects, &list[..count], place, line);
     if class < line {
         return Joined { class, count };
     }
     insert(list, count, place, line as u8);
-    let more = count + 1;
     Joined {
         class: line,
-        count: more,
+        count: count + 1,
     }
 }
 
 // The classes of all lines: two lines match just when their classes are the same number. The lines are taken by number, so that the first met of a class is the least.
-pub fn ordered_classes(lines: &[u8], rows: &[u32], forms: &[u64]) -> [u8; 256]
-    requires { MatchTables lines.now rows.now forms.now }
-    ensures tells_match { TellsMatch (MatchIn lines.now rows.now forms.now) (lines_in lines.now) result }
-    ensures bounds { Bounds (MatchIn lines.now rows.now forms.now) (lines_in lines.now) result }
+pub fn ordered_classes(effects: &Effects) -> [u8; 256]
+    ensures tells_match { TellsMatch (MatchBy effects.now) (lines_in effects.now.lines) result }
+    ensures bounds { Bounds (MatchBy effects.now) (lines_in effects.now.lines) result }
 {
-    let count = lines.len() / 3;
+    let count = effects.lines().len() / 3;
     let mut numbers = [0u8; 256];
     let mut list = [0u8; 256];
     let mut found = 0;
-    let mut line = 0;
-    while line < count {
-        let joined = join(lines, rows, forms, &mut list, found, line);
+    for line in 0..count {
+        let joined = join(effects, &mut list, found, line);
         numbers[line] = joined.class as u8;
         found = joined.count;
-        line += 1;
     }
     numbers
 }
@@ -96,28 +76,22 @@ const MANY: usize = 48;
 
 // Whether many lines have the bound of the first, as all have at stage 1.
 fn many_alike(bounds: &[u8]) -> bool {
-    let mut number = 0;
-    let mut line = 0;
-    while line < bounds.len() {
-        if bounds[line] == bounds[0] {
-            number += 1;
-        }
-        line += 1;
-    }
-    MANY < number
+    let Some(first) = bounds.first() else {
+        return false;
+    };
+    MANY < bounds.iter().filter(|bound| *bound == first).count()
 }
 
 // The classes of all lines: two lines match just when their classes are the same number. No class is before the bound of its line.
-pub fn classes_within(lines: &[u8], rows: &[u32], forms: &[u64], bounds: &[u8]) -> [u8; 256]
-    requires cases { MatchTables lines.now rows.now forms.now }
-    requires lines_in_bounds { lines_in lines.now ≤ length bounds.now }
-    requires bounds { Bounds (MatchIn lines.now rows.now forms.now) (lines_in lines.now) bounds.now }
-    ensures tells_match { TellsMatch (MatchIn lines.now rows.now forms.now) (lines_in lines.now) result }
-    ensures bounds_2 { Bounds (MatchIn lines.now rows.now forms.now) (lines_in lines.now) result }
+pub fn classes_within(effects: &Effects, bounds: &[u8]) -> [u8; 256]
+    requires lines_in_bounds { lines_in effects.now.lines ≤ length bounds.now }
+    requires bounds { Bounds (MatchBy effects.now) (lines_in effects.now.lines) bounds.now }
+    ensures tells_match { TellsMatch (MatchBy effects.now) (lines_in effects.now.lines) result }
+    ensures class_bounds { Bounds (MatchBy effects.now) (lines_in effects.now.lines) result }
 {
-    let count = lines.len() / 3;
+    let count = effects.lines().len() / 3;
     if many_alike(&bounds[..count]) {
-        return ordered_classes(lines, rows, forms);
+        return ordered_classes(effects);
     }
-    classes(lines, rows, forms, bounds)
+    effects.classes(bounds)
 }

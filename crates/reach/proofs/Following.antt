@@ -3,7 +3,7 @@ use mathlib.Core.Bool.{Bool, true, false}
 use mathlib.Core.List.{List}
 use mathlib.Core.Logic.{⊎_elim}
 use mathlib.Core.Path.{◌≡◌, refl, sym, ◌∙◌}
-use Prim.Native.Nat.{ℕ, ◌≤◌}
+use Prim.Native.Nat.{ℕ}
 use native.Mathlib.Decide.{ℕ_discrete}
 use native.Mathlib.Omega.{arith}
 use lib.ListN.{length, get_or, set, replicate, length-set, length-replicate}
@@ -12,11 +12,11 @@ use Rattle.model.specs.Card.{Reached, leads, reached}
 use Rattle.model.specs.Limits.{most_kinds}
 use Rattle.model.specs.Sheet.{line_of, card_of}
 use Rattle.theory.proofs.Done.{none_done}
-use Rattle.theory.proofs.Sheets.{field_kinds, under_kinds, sheet_reached_only}
+use Rattle.theory.proofs.Sheets.{field_kinds, sheet_reached_only}
 use Rattle.sheet.specs.declared.reader.Card.{Card}
 use Rattle.sheet.specs.Reader.{Reads}
-use Rattle.sheet.proofs.Laws.{kinds_are, kinds_most, lines_are, line_on}
-use Rattle.reach.specs.Marks.{Marked, Adds, Next}
+use Rattle.sheet.proofs.Laws.{lines_are, line_on}
+use Rattle.reach.specs.Marks.{Marked, Adds, AllDone}
 use Rattle.reach.specs.Kinds.{HeldBy, LeftBy}
 
 -- The kinds that fields hold are marked, and those that lines of the kinds done leave; all that are marked are reached.
@@ -64,12 +64,9 @@ module _ {s : List ℕ} {c : Card} (R : Reads s c) where
         step k w = leads (line_of s w.0) (line_on R w.0 (omega (arith, w.1, lines_are R))) (rw w.2.0 (h.sound kind m)) w.2.1
 
     -- Where every marked kind is done, the marks are those of the reached kinds.
-    pub followed_all : {r : ℕ} → Next marks done r → most_kinds ≤ r → (k : ℕ) → get_or marks k false ≡ reached (card_of s) k
-    followed_all N l =
+    pub followed_all : AllDone marks done → (k : ℕ) → get_or marks k false ≡ reached (card_of s) k
+    followed_all all =
         sheet_reached_only s (λ k. get_or marks k false)
         (λ i b k p. h.holds k (i, b, p))
-        (λ j b m k p. h.leaves (line_of s j).kind k (is_done_is (line_of s j).kind m) (j, b, (refl, p)))
+        (λ j b m k p. h.leaves (line_of s j).kind k (all (line_of s j).kind m) (j, b, (refl, p)))
         h.sound
-      where
-        is_done_is : (k : ℕ) → Marked marks k → Marked done k
-        is_done_is k m = N.first k (omega (arith, under_kinds s k (h.sound k m), kinds_are R, kinds_most R)) m

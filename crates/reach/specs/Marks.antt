@@ -1,5 +1,5 @@
 -- Marks on kinds, as a list: which kinds are marked, what is added to the marks, and the next marked kind that is not done.
-use Rattle.std.specs.Prelude.{Bool, true, false, List, ◌⊎◌, ◌≡◌, ℕ, ◌≤◌, ◌<◌, length, get_or}
+use Rattle.std.specs.Prelude.{Bool, true, false, List, ◌⊎◌, ◌≡◌, ℕ, ◌<◌, length, get_or}
 
 -- The kind is marked.
 abbrev pub Marked : List Bool → ℕ → Type 0
@@ -11,8 +11,12 @@ pub record Adds (P : ℕ → Type 0) (old new : List Bool) : Type 0 where
   pub added : (k : ℕ) → P k → Marked new k
   pub only : (k : ℕ) → Marked new k → Marked old k ⊎ P k
 
--- r is the first kind that is marked and not done; where every marked kind is done it is the number of marks.
+-- Every marked kind is done.
+abbrev pub AllDone : List Bool → List Bool → Type 0
+AllDone marks done = (k : ℕ) → Marked marks k → Marked done k
+
+-- r is the first kind that is marked and not done.
 pub record Next (marks done : List Bool) (r : ℕ) : Type 0 where
-  pub within : r ≤ length marks
-  pub here : r < length marks → Marked marks r × (get_or done r false ≡ false)
+  pub within : r < length marks
+  pub here : Marked marks r × (get_or done r false ≡ false)
   pub first : (k : ℕ) → k < r → Marked marks k → Marked done k

@@ -7,7 +7,7 @@ ghost use Rattle.sheet.specs.Reader.{Reads};
 ghost use Rattle.reach.specs.Marks.{Adds};
 ghost use Rattle.reach.specs.Kinds.{HeldBy, LeftBy};
 
-use crate::marks::{mark_counts, mark_field, next_kind};
+use crate::marks::{mark, next_kind};
 use sheet::Card;
 
 // Whether each kind that a card may have is reached; none past the card's kinds is.
@@ -18,11 +18,9 @@ pub fn reached_kinds(sheet: &[u8], card: Card) -> [bool; 32]
     let mut marks = [false; 32];
     mark_fields(sheet, card, &mut marks);
     let mut done = [false; 32];
-    let mut kind = next_kind(&marks, &done);
-    while kind < 32 {
+    while let Some(kind) = next_kind(&marks, &done) {
         mark_left(sheet, card, kind, &mut marks);
         done[kind] = true;
-        kind = next_kind(&marks, &done);
     }
     marks
 }
@@ -33,12 +31,9 @@ fn mark_fields(sheet: &[u8], card: Card, marks: &mut [bool])
     requires marks_len { length marks.old ≡ most_kinds }
     ensures { Adds (HeldBy sheet.now) marks.old marks.new }
 {
-    let fields = card.fields;
-    let mut number = 0;
-    while number < fields {
+    for number in 0..card.fields {
         let field = card.field(sheet, number);
-        mark_field(&field, marks);
-        number += 1;
+        mark(&field, marks);
     }
 }
 
@@ -48,12 +43,9 @@ fn mark_left(sheet: &[u8], card: Card, kind: usize, marks: &mut [bool])
     requires marks_len { length marks.old ≡ most_kinds }
     ensures { Adds (LeftBy sheet.now kind) marks.old marks.new }
 {
-    let lines = card.lines;
-    let mut line = 0;
-    while line < lines {
+    for line in 0..card.lines {
         if card.line_kind(sheet, line) == kind {
-            mark_counts(card.line_counts(sheet, line), marks);
+            mark(card.line_counts(sheet, line), marks);
         }
-        line += 1;
     }
 }

@@ -1,47 +1,53 @@
 // Marks, one to a kind: kinds are marked by counts, and taken in number order.
-ghost use Rattle.std.specs.Prelude.{◌≤◌, ◌<◌, length};
+ghost use Rattle.std.specs.Prelude.{IsTrue, MatchOption, map, ◌↔◌, ℕ, ◌≤◌, ◌<◌, length};
 ghost use Rattle.model.specs.Field.{at};
-ghost use Rattle.reach.specs.Marks.{Adds, Next};
+ghost use Rattle.reach.specs.Marks.{Adds, AllDone, Next};
 
-// Marks the kinds of which a field has tokens.
-pub fn mark_field(field: &[u32], marks: &mut [bool])
-    requires { length field.now ≤ length marks.old }
-    ensures { Adds (λ k. 0 < at field.now k) marks.old marks.new }
-{
-    let mut kind = 0;
-    while kind < field.len() {
-        if 0 < field[kind] {
-            marks[kind] = true;
-        }
-        kind += 1;
+// A count of tokens, of either width: a line's is a byte, a field's has 32 bits.
+pub trait Count: Copy {
+    // The tokens that it counts.
+    ghost tokens: { Self → ℕ };
+
+    // Whether there are tokens.
+    fn some(self) -> bool
+        ensures { IsTrue result ↔ 0 < tokens self };
+}
+
+impl Count for u8 {
+    ghost tokens = { λ count. count };
+
+    fn some(self) -> bool {
+        0u8 < self
     }
 }
 
-// Marks the kinds of which a line's counts have tokens.
-pub fn mark_counts(counts: &[u8], marks: &mut [bool])
+impl Count for u32 {
+    ghost tokens = { λ count. count };
+
+    fn some(self) -> bool {
+        0u32 < self
+    }
+}
+
+// Marks the kinds of which the counts have tokens.
+pub fn mark<T: Count>(counts: &[T], marks: &mut [bool])
     requires { length counts.now ≤ length marks.old }
-    ensures { Adds (λ k. 0 < at counts.now k) marks.old marks.new }
+    ensures { Adds (λ k. 0 < at (map T.tokens counts.now) k) marks.old marks.new }
 {
-    let mut kind = 0;
-    while kind < counts.len() {
-        if 0 < counts[kind] {
+    for (kind, count) in counts.iter().enumerate() {
+        if count.some() {
             marks[kind] = true;
         }
-        kind += 1;
     }
 }
 
-// The first kind that is marked and not done; past all kinds where every marked kind is done.
-pub fn next_kind(marks: &[bool], done: &[bool]) -> usize
+// The first kind that is marked and not done, if any is.
+pub fn next_kind(marks: &[bool], done: &[bool]) -> Option<usize>
     requires { length marks.now ≤ length done.now }
-    ensures { Next marks.now done.now result }
+    ensures { MatchOption result (AllDone marks.now done.now) (λ kind. Next marks.now done.now kind) }
 {
-    let mut kind = 0;
-    while kind < marks.len() {
-        if marks[kind] && !done[kind] {
-            return kind;
-        }
-        kind += 1;
-    }
-    kind
+    marks
+        .iter()
+        .zip(done)
+        .position(|(marked, done)| *marked && !*done)
 }

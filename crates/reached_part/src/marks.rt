@@ -8,13 +8,10 @@ use second_reader::{field_count, fields, kinds, line_kind, line_left, lines};
 fn mark_field(sheet: &[u8], field: usize, marks: &mut [bool; 32])
     requires { (kind_count sheet.now ≤ 32) × (field < 65536) }
 {
-    let count = kinds(sheet);
-    let mut kind = 0;
-    while kind < count {
+    for kind in 0..kinds(sheet) {
         if 0 < field_count(sheet, field, kind) {
             marks[kind] = true;
         }
-        kind += 1;
     }
 }
 
@@ -22,17 +19,14 @@ fn mark_field(sheet: &[u8], field: usize, marks: &mut [bool; 32])
 fn mark_fields(sheet: &[u8], marks: &mut [bool; 32])
     requires { kind_count sheet.now ≤ 32 }
 {
-    let count = fields(sheet);
-    let mut field = 0;
-    while field < count {
+    for field in 0..fields(sheet) {
         mark_field(sheet, field, marks);
-        field += 1;
     }
 }
 
 // Whether a kind is marked.
 pub fn marked(marks: &[bool; 32], kind: usize) -> bool {
-    if kind < 32 { marks[kind] } else { false }
+    kind < 32 && marks[kind]
 }
 
 // The kinds that a line leaves are marked, where its own is.
@@ -42,13 +36,10 @@ fn mark_line(sheet: &[u8], line: usize, marks: &mut [bool; 32])
     if !marked(marks, line_kind(sheet, line)) {
         return;
     }
-    let count = kinds(sheet);
-    let mut kind = 0;
-    while kind < count {
+    for kind in 0..kinds(sheet) {
         if 0 < line_left(sheet, line, kind) {
             marks[kind] = true;
         }
-        kind += 1;
     }
 }
 
@@ -56,11 +47,8 @@ fn mark_line(sheet: &[u8], line: usize, marks: &mut [bool; 32])
 fn mark_lines(sheet: &[u8], marks: &mut [bool; 32])
     requires { kind_count sheet.now ≤ 32 }
 {
-    let count = lines(sheet);
-    let mut line = 0;
-    while line < count {
+    for line in 0..lines(sheet) {
         mark_line(sheet, line, marks);
-        line += 1;
     }
 }
 
@@ -70,11 +58,8 @@ pub fn reached_marks(sheet: &[u8]) -> [bool; 32]
 {
     let mut marks = [false; 32];
     mark_fields(sheet, &mut marks);
-    let count = kinds(sheet);
-    let mut pass = 0;
-    while pass < count {
+    for _ in 0..kinds(sheet) {
         mark_lines(sheet, &mut marks);
-        pass += 1;
     }
     marks
 }
@@ -85,13 +70,5 @@ pub fn part_used(sheet: &[u8]) -> bool {
     if 32 < count {
         return false;
     }
-    let marks = reached_marks(sheet);
-    let mut kind = 0;
-    while kind < count {
-        if !marked(&marks, kind) {
-            return true;
-        }
-        kind += 1;
-    }
-    false
+    reached_marks(sheet)[..count].contains(&false)
 }

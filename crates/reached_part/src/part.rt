@@ -14,11 +14,8 @@ fn put_line(sheet: &[u8], line: usize, start: usize, out: &mut [u8; 128])
 {
     put(out, start, line_kind(sheet, line));
     put(out, start + 1, line_code(sheet, line));
-    let count = kinds(sheet);
-    let mut kind = 0;
-    while kind < count {
+    for kind in 0..kinds(sheet) {
         put(out, start + 2 + kind, line_left(sheet, line, kind));
-        kind += 1;
     }
 }
 
@@ -28,15 +25,12 @@ fn put_lines(sheet: &[u8], out: &mut [u8; 128]) -> usize
     ensures { result < 65536 }
 {
     let marks = reached_marks(sheet);
-    let count = lines(sheet);
     let mut kept = 0;
-    let mut line = 0;
-    while line < count {
+    for line in 0..lines(sheet) {
         if marked(&marks, line_kind(sheet, line)) {
             put_line(sheet, line, line_start(sheet, kept), out);
             kept += 1;
         }
-        line += 1;
     }
     kept
 }
@@ -46,25 +40,19 @@ fn put_field(sheet: &[u8], field: usize, start: usize, out: &mut [u8; 128]) -> u
     requires { (kind_count sheet.now ≤ 32) × (field < 65536) × (start < 100000000) }
     ensures { result ≤ start + 64 }
 {
-    let count = kinds(sheet);
-    let mut kind = 0;
-    while kind < count {
+    for kind in 0..kinds(sheet) {
         put_number(out, start + 2 * kind, field_count(sheet, field, kind));
-        kind += 1;
     }
-    start + 2 * count
+    start + 2 * kinds(sheet)
 }
 
 // The fields of the sheet are written, from a position on: where they end.
 fn put_fields(sheet: &[u8], start: usize, out: &mut [u8; 128]) -> usize
     requires { (kind_count sheet.now ≤ 32) × (start < 10000000) }
 {
-    let count = fields(sheet);
     let mut end = start;
-    let mut field = 0;
-    while field < count {
+    for field in 0..fields(sheet) {
         end = put_field(sheet, field, end, out);
-        field += 1;
     }
     end
 }

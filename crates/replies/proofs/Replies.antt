@@ -8,14 +8,14 @@ use Rattle.model.specs.Answer.{refused, given, written}
 use Rattle.model.specs.Page.{refused_line}
 use Rattle.text.specs.Appended.{Appended}
 use Rattle.text.proofs.Append.{from_start}
-use Rattle.replies.specs.Told.{Told, told, no_call, no_reply, Tells}
-use Rattle.replies.specs.declared.reply.Outcome.TheVariants.{Answered, Refused}
+use Rattle.replies.specs.Told.{Told, told, no_call, answered, no_reply, Tells}
+use Rattle.replies.specs.declared.reply.Outcome.TheVariants.{Refused}
 use Rattle.replies.specs.declared.reply.Reply.{Reply}
 
-module _ {m end : ℕ} {before after text : List ℕ} (put : Appended m before 0 text after end) where
-  pub tells_answer : Tells (told (given text)) before after (record { outcome = Answered; length = end })
-  unfolding told
-  tells_answer = record { outcome_is = refl; length_is = omega (arith, put.ends); text_is = from_start put }
+pub tells_answer : {m end : ℕ} {before after text : List ℕ} → Appended m before 0 text after end → (r : Reply) → r ≡ answered end → Tells (told (given text)) before after r
+unfolding told
+tells_answer put r e =
+    record { outcome_is = ap (λ (x : Reply). x.outcome) e; length_is = omega (arith, put.ends, ap (λ (x : Reply). x.length) e); text_is = from_start put }
 
 pub tells_refusal : {m end : ℕ} {before after : List ℕ} (number place : ℕ) → Appended m before 0 (refused_line number place) after end
     → Tells (told (refused number place)) before after (record { outcome = Refused number place; length = end })

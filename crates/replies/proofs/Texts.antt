@@ -13,29 +13,24 @@ use Rattle.theory.proofs.Checks.{first_left}
 use Rattle.theory.proofs.Answers.{demand1}
 use Rattle.replies.specs.Texts.{worded, lent_text, counts_text}
 
--- A call that writes counts, by what it gives for a buffer with room.
-module _ {A : Type 0} (text : A → List ℕ → List ℕ) (n : ℕ) (call : List ℕ → Lent A) {enough room counts : List ℕ} (is_room : room ≡ enough) (lent : counts ≡ (call room).lent) where
-  called_there : {a : Answer A} → a ≡ (call room).answer → a ≡ (call enough).answer
-  called_there e = e ∙ ap (λ (r : List ℕ). (call r).answer) is_room
-
-  pub lent_answered : (a : A) → given a ≡ (call room).answer → given (text a (take n counts)) ≡ lent_text text n (call enough)
+-- A call that writes counts, by what it gives.
+module _ {A : Type 0} (text : A → List ℕ → List ℕ) (n : ℕ) (wrote : Lent A) where
+  pub lent_answered : {counts : List ℕ} → counts ≡ wrote.lent → (a : A) → given a ≡ wrote.answer → given (text a (take n counts)) ≡ lent_text text n wrote
   unfolding lent_text worded
-  lent_answered a e =
-      ap (λ (l : List ℕ). given (text a (take n l))) (lent ∙ ap (λ (r : List ℕ). (call r).lent) is_room)
-      ∙ ap (worded (λ a. text a (take n (call enough).lent))) (called_there e)
+  lent_answered lent a e = ap (λ (l : List ℕ). given (text a (take n l))) lent ∙ ap (worded (λ a. text a (take n wrote.lent))) e
 
-  pub lent_refused : (number place : ℕ) → refused number place ≡ (call room).answer → refused number place ≡ lent_text text n (call enough)
+  pub lent_refused : (number place : ℕ) → refused number place ≡ wrote.answer → refused number place ≡ lent_text text n wrote
   unfolding lent_text worded
-  lent_refused number place e = ap (worded (λ a. text a (take n (call enough).lent))) (called_there e)
+  lent_refused number place e = ap (worded (λ a. text a (take n wrote.lent))) e
 
-module _ (n : ℕ) (call : List ℕ → Lent (Unit {0})) {enough room counts : List ℕ} (is_room : room ≡ enough) (lent : counts ≡ (call room).lent) where
-  pub counts_answered : given tt ≡ (call room).answer → given (counts_line (take n counts)) ≡ counts_text n (call enough)
+module _ (n : ℕ) (wrote : Lent (Unit {0})) where
+  pub counts_answered : {counts : List ℕ} → counts ≡ wrote.lent → given tt ≡ wrote.answer → given (counts_line (take n counts)) ≡ counts_text n wrote
   unfolding counts_text
-  counts_answered e = lent_answered (λ _ l. counts_line l) n call is_room lent tt e
+  counts_answered lent e = lent_answered (λ _ l. counts_line l) n wrote lent tt e
 
-  pub counts_refused : (number place : ℕ) → refused number place ≡ (call room).answer → refused number place ≡ counts_text n (call enough)
+  pub counts_refused : (number place : ℕ) → refused number place ≡ wrote.answer → refused number place ≡ counts_text n wrote
   unfolding counts_text
-  counts_refused number place e = lent_refused (λ _ l. counts_line l) n call is_room lent number place e
+  counts_refused number place e = lent_refused (λ _ l. counts_line l) n wrote number place e
 
 -- A sheet that a call answers is accepted, and so has at most 32 kinds.
 few_kinds : (s : List ℕ) → Accepted s → kind_count s ≤ most_kinds

@@ -25,6 +25,10 @@ told (refused number place) = record { outcome = Refused number place; text = re
 unfoldable pub no_call : Told
 no_call = record { outcome = NoCall; text = [] }
 
+-- The reply of a call that was answered, with the length of its text.
+abbrev pub answered : ℕ → Reply
+answered n = record { outcome = Answered; length = n }
+
 -- The reply to words that are no call.
 abbrev pub no_reply : Reply
 no_reply = record { outcome = NoCall; length = 0 }

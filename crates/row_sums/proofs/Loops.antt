@@ -3,15 +3,16 @@ use mathlib.Core.List.{List, ◌∷◌, reverse}
 use mathlib.Core.Path.{◌≡◌, sym, ◌∙◌, ap, fun_ext}
 use Prim.Native.Nat.{ℕ, suc, ◌+◌, ◌-◌, ◌*◌, ◌^◌, ◌≤◌, ◌<◌}
 use native.Mathlib.Numerals.{add-one}
+use native.Mathlib.Decide.{dec_lt}
 use native.Mathlib.Omega.{arith}
-use lib.ListN.{length, take, replicate, length-take}
+use lib.ListN.{length, take, length-take}
 use lib.Seq.{get_or-take}
-use Rattle.model.specs.Field.{none, ◌⊕◌, at}
+use Rattle.model.specs.Field.{Field, ◌⊕◌, at}
 use Rattle.model.specs.Limits.{most_kinds, most_tokens}
 use Rattle.tables.specs.Table.{row_part}
 use Rattle.shelf.specs.Kinds.{InOrder}
 use Rattle.theory.proofs.Shelves.{entries_fit}
-use Rattle.tables.proofs.Tables.{at_kind, lent_row, lent_length, past, zero_counts}
+use Rattle.tables.proofs.Tables.{at_kind, lent_row, lent_length, past}
 use Rattle.shelf.proofs.Loops.{front, front_next, front_all, front_many}
 use Rattle.row_sums.specs.Sums.{adding_to}
 use Rattle.row_sums.proofs.Sums.{NonePast, adding_most, adding_nothing, adding_something, adding_empty, adding_fits, adding_over, adding_row, adding_other}
@@ -41,14 +42,15 @@ module _ (rows : List ℕ) {kinds : List ℕ} (wide : length rows ≡ 1024) (sor
 
 -- No token: the empty field alone, and its rows add up to counts that are all 0.
 module _ (rows ks counts : List ℕ) {size : ℕ} (empty : size ≡ 0) (long : length counts ≡ most_kinds) where
-  zeros : at (replicate most_kinds 0) ≡ none
-  zeros = fun_ext (zero_counts most_kinds)
+  pub empty_adds : ((k : ℕ) → k < length counts → at counts k ≡ 0) → 1 ≡ adding_to rows ks size (at counts)
+  empty_adds z = rw empty (sym (adding_nothing rows ks (at counts) (none_past counts long) (fun_ext (λ k. sym (go k (dec_lt k (length counts)))))))
+    where
+      go : (k : ℕ) → Dec (k < length counts) → at counts k ≡ 0
+      go k (yes h) = z k h
+      go k (no h) = past counts k (omega arith)
 
-  pub empty_adds : at (replicate most_kinds 0) ≡ at counts → 1 ≡ adding_to rows ks size (at counts)
-  empty_adds e = rw empty (sym (adding_nothing rows ks (at counts) (none_past counts long) (sym zeros ∙ e)))
-
-  pub empty_differs : ¬ (at (replicate most_kinds 0) ≡ at counts) → 0 ≡ adding_to rows ks size (at counts)
-  empty_differs d = rw empty (sym (adding_something rows ks (at counts) (none_past counts long) (λ e. d (zeros ∙ e))))
+  pub empty_differs : ¬ ((k : ℕ) → k < length counts → at counts k ≡ 0) → 0 ≡ adding_to rows ks size (at counts)
+  empty_differs d = rw empty (sym (adding_something rows ks (at counts) (none_past counts long) (λ e. d (λ k _. sym (ap (λ (f : Field). f k) e)))))
 
 -- Of the fields of a size over the first i kinds, so many have rows that add up to the counts.
 pub record Counted (rows kinds : List ℕ) (size : ℕ) (counts : List ℕ) (found i : ℕ) : Type 0 where

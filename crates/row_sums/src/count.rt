@@ -6,7 +6,7 @@ ghost use Rattle.shelf.specs.Kinds.{InOrder};
 ghost use Rattle.row_sums.specs.Sums.{adding_to};
 
 use crate::take::less_row;
-use tables::table::{form_of, same_counts};
+use tables::table::row_of;
 
 // Of the fields of one token: how many of the kinds have the counts as their row.
 fn count_kinds(rows: &[u64], kinds: &[usize], counts: &[u64]) -> u64
@@ -15,13 +15,10 @@ fn count_kinds(rows: &[u64], kinds: &[usize], counts: &[u64]) -> u64
     ensures { result ≡ adding_to rows.now (reverse kinds.now) 1 (at counts.now) }
 {
     let mut found = 0;
-    let mut i = 0;
-    while i < kinds.len() {
-        let kind = kinds[i];
-        if same_counts(form_of(rows, kind), counts) {
+    for i in 0..kinds.len() {
+        if row_of(rows, kinds[i]) == counts {
             found += 1;
         }
-        i += 1;
     }
     found
 }
@@ -35,7 +32,7 @@ pub fn count_fields(rows: &[u64], kinds: &[usize], size: usize, counts: &[u64]) 
     ensures { result ≡ adding_to rows.now (reverse kinds.now) size (at counts.now) }
 {
     if size == 0 {
-        if same_counts(&[0u64; 32], counts) {
+        if counts.iter().all(|count| *count == 0) {
             return 1;
         }
         return 0;
@@ -44,15 +41,10 @@ pub fn count_fields(rows: &[u64], kinds: &[usize], size: usize, counts: &[u64]) 
         return count_kinds(rows, kinds, counts);
     }
     let mut found = 0;
-    let mut i = 0;
-    while i < kinds.len() {
-        let kind = kinds[i];
-        let next = i + 1;
-        let rest = less_row(counts, form_of(rows, kind));
-        if rest.fits {
-            found += count_fields(rows, &kinds[..next], size - 1, &rest.counts);
+    for (i, kind) in kinds.iter().enumerate() {
+        if let Some(rest) = less_row(counts, row_of(rows, *kind)) {
+            found += count_fields(rows, &kinds[..i + 1], size - 1, &rest);
         }
-        i = next;
     }
     found
 }

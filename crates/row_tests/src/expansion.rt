@@ -6,7 +6,7 @@ ghost use Rattle.tables.specs.Table.{row_in, Atoms};
 ghost use Rattle.tables.specs.Lines.{lines_in, LineTable};
 ghost use Rattle.tables.specs.Class.{AlikeIn, KindMarks, RowsExpand};
 
-use tables::marks::{kind_marks, marks_of_field, marks_of_kind, same_marks};
+use tables::marks::{kind_marks, marks_of_field, marks_of_kind};
 use tables::table::{is_atom, row_of};
 
 // One token of a kind, as counts.
@@ -25,7 +25,7 @@ pub fn uses_alike(marks: &[bool], kind: usize, field: &[u32]) -> bool
     ensures { (lines classes : List ℕ) → KindMarks lines classes marks.now → (result ≡ true) ↔ AlikeIn lines classes (unit kind) (at field.now) }
 {
     let other = marks_of_field(marks, field);
-    same_marks(marks_of_kind(marks, kind), &other)
+    marks_of_kind(marks, kind) == other.as_slice()
 }
 
 // Whether a kind, if it has a norm, and its row may use lines of the same classes. An atom is its own row.
@@ -55,11 +55,8 @@ pub fn rows_expand(lines: &[u8], classes: &[u8], rows: &[u32], norms: &[u32], ki
 {
     let mut marks = [false; 8192];
     kind_marks(lines, classes, &mut marks);
-    let mut kind = 0;
-    while kind < kinds {
-        if row_expands(&marks, rows, norms, kind) {
-            kind += 1;
-        } else {
+    for kind in 0..kinds {
+        if !row_expands(&marks, rows, norms, kind) {
             return false;
         }
     }

@@ -5,21 +5,13 @@ ghost use Rattle.model.specs.Limits.{most_kinds};
 ghost use Rattle.tables.specs.Senses.{sense_of, SharesTotal};
 
 use tables::sense::Sense;
-use tables::table::wide;
 
 // The tokens of a row.
 fn tokens_of(row: &[u32]) -> u64
     requires { length row.now ≤ most_kinds }
     ensures { result ≡ tokens (length row.now) (at row.now) }
 {
-    let mut total: u64 = 0;
-    let mut kind = 0;
-    while kind < row.len() {
-        let count = row[kind];
-        total += wide(count);
-        kind += 1;
-    }
-    total
+    row.iter().map(|count| u64::from(*count)).sum()
 }
 
 // Whether a row shares with its kind what the sense asks for beside the norm: in the finer one it has as many tokens, one.

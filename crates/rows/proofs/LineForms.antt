@@ -1,7 +1,7 @@
 -- The forms of what the lines leave: how large they are, and the loops that write them.
 -- Assumes nothing.
 use mathlib.Core.List.{List}
-use mathlib.Core.Path.{◌≡◌, refl, ap, sym, ◌∙◌}
+use mathlib.Core.Path.{◌≡◌, ap, sym, ◌∙◌}
 use Prim.Native.Nat.{ℕ, ◌+◌, ◌^◌, ◌≤◌, ◌<◌}
 use native.Mathlib.Decide.{ℕ_discrete}
 use native.Mathlib.Omega.{arith}
@@ -68,9 +68,6 @@ pub record ListFormed (s rows list old forms : List ℕ) (place : ℕ) : Type 0 
   pub small : Under (2 ^ 63) forms
   pub done : (x : ℕ) → x < place → LineForm s rows forms (at list x)
   pub others : (j : ℕ) → ((x : ℕ) → x < place → ¬ (at list x ≡ j)) → row_in forms j ≡ row_in old j
-
-pub list_formed_none : {s rows list old : List ℕ} → Under (2 ^ 63) old → ListFormed s rows list old old 0
-list_formed_none u = record { within = omega arith; kept = refl; small = u; done = λ x l. absurd (omega arith); others = λ j _. refl }
 
 module _ {s rows list old forms : List ℕ} {place : ℕ} (h : ListFormed s rows list old forms place) where
   pub list_formed_more : {new : List ℕ} → place < length list → RowSet (form_in (kind_count s) rows (line_of s (at list place)).left) (at list place) forms new → length new ≡ length forms

@@ -36,10 +36,6 @@ module _ (s : List ℕ) where
   unfolding card_of
   kind_of k h = h
 
-  pub kind_in_is : (k : ℕ) → k < (card_of s).kinds → k < kind_count s
-  unfolding card_of
-  kind_in_is k h = h
-
 -- Lines that satisfy P are those whose numbers satisfy Q: then fields' usable lines have matches just when the numbers do.
 module _ (s : List ℕ) {P : Line → Type 0} {Q : ℕ → Type 0} (every : (j : ℕ) → Q j → P (line_of s j)) (some : (l : Line) → P l → (j : ℕ) × Q j × (l ≡ line_of s j))
     (M : Line → Line → Type 0) where

@@ -48,9 +48,6 @@ pub record Searched (sense : Sense) (lines classes forms : List ℕ) (k l : ℕ)
   pub sought : (s : List ℕ) (t : ℕ) → StageGiven sense s t lines classes → RowSought sense s t k old forms → RowSought sense s t k rows forms
   pub none : (s : List ℕ) (t : ℕ) → StageGiven sense s t lines classes → RowSought sense s t k old forms → (x : ℕ) → x < m → TellsNone sense s t k l x
 
-pub searched_none : {sense : Sense} {lines classes forms : List ℕ} {k l : ℕ} {rows : List ℕ} → Searched sense lines classes forms k l rows rows 0
-searched_none = record { within = omega arith; long = refl; others = λ i _. refl; sought = λ s t _ K. K; none = λ s t _ _ x h. absurd (omega arith) }
-
 -- The table with another row k, whose own count is not 1, tells as much of the earlier kinds.
 sought_kept : {sense : Sense} {s : List ℕ} {t k : ℕ} {rows new forms : List ℕ} → Accepted s → OthersKept k rows new → ¬ (row_in new k k ≡ 1) → RowSought sense s t k rows forms → RowSought sense s t k new forms
 sought_kept {sense} {s} {t} {k} {rows} {new} ok o n K =

@@ -1,5 +1,5 @@
 // The forms of what the lines leave: a flat table, one row of 32 counts to a line, by the rows of a base.
-ghost use Rattle.std.specs.Prelude.{◌≡◌, ℕ, ◌^◌, ◌≤◌, ◌<◌, length, take};
+ghost use Rattle.std.specs.Prelude.{◌≡◌, ℕ, ◌^◌, ◌≤◌, ◌<◌, length};
 ghost use Rattle.model.specs.Field.{unit};
 ghost use Rattle.model.specs.Limits.{most_kinds};
 ghost use Rattle.model.specs.Sheet.{kind_count, line_of};
@@ -23,7 +23,7 @@ fn line_form(sheet: &[u8], card: Card, rows: &[u32], forms: &mut [u64], line: us
     requires line_lt_lines { line < card.lines }
     requires under { Under (2 ^ 63) forms.old }
     ensures row_set { RowSet (form_in (kind_count sheet.now) rows.now (line_of sheet.now line).left) line forms.old forms.new }
-    ensures under_2 { Under (2 ^ 63) forms.new }
+    ensures stays_under { Under (2 ^ 63) forms.new }
 {
     let start = line * 32;
     let end = start + 32;
@@ -40,13 +40,10 @@ pub fn all_forms(sheet: &[u8], card: Card, lines: &[u8], rows: &[u32], forms: &m
     requires lowering_forms { LoweringForms sheet.now rows.now lines.now forms.old }
     ensures { AllForms sheet.now rows.now forms.new }
 {
-    let count = card.lines;
-    let mut line = 0;
-    while line < count {
+    for line in 0..card.lines {
         if !lowers(lines, line) {
             line_form(sheet, card, rows, forms, line);
         }
-        line += 1;
     }
 }
 
@@ -55,38 +52,35 @@ fn list_forms(sheet: &[u8], card: Card, rows: &[u32], forms: &mut [u64], list: &
     requires reads { Reads sheet.now card }
     requires rows_len { (length rows.now ≡ 1024) × (length forms.old ≡ 8192) }
     requires atoms { Atoms rows.now (kind_count sheet.now) }
-    requires by_index { (j : ℕ) → Among list.now j → j < card.lines }
+    requires list_within { (j : ℕ) → Among list.now j → j < card.lines }
     requires under { Under (2 ^ 63) forms.old }
     ensures { ListForms sheet.now rows.now list.now forms.old forms.new }
 {
-    let mut place = 0;
-    while place < list.len() {
-        let line = list[place] as usize;
-        line_form(sheet, card, rows, forms, line);
-        place += 1;
+    for line in list {
+        line_form(sheet, card, rows, forms, usize::from(*line));
     }
 }
 
-// The forms of what the lines of a kind that lower the norm leave: how many these lines are. The list then begins with their numbers.
-pub fn kind_forms(
+// The forms of what the lines of a kind that lower the norm leave. These lines are listed in the buffer.
+pub fn kind_forms<'a>(
     sheet: &[u8],
     card: Card,
     lines: &[u8],
     rows: &[u32],
     forms: &mut [u64],
-    list: &mut [u8],
+    list: &'a mut [u8],
     kind: usize,
-) -> usize
+) -> &'a [u8]
     requires reads { Reads sheet.now card }
     requires line_table { LineTable lines.now × (lines_in lines.now ≡ card.lines) × (lines_in lines.now ≤ length list.old) }
     requires rows_len { (length rows.now ≡ 1024) × (length forms.old ≡ 8192) × (kind < most_kinds) }
     requires atoms { Atoms rows.now (kind_count sheet.now) }
     requires under { Under (2 ^ 63) forms.old }
-    ensures upper_bound { (result ≤ length list.new) × Lists (UsableIn lines.now (unit kind)) (take result list.new) }
+    ensures own { (length result.now ≤ length list.old) × Lists (UsableIn lines.now (unit kind)) result.now }
     ensures kind_forms { KindForms sheet.now rows.now lines.now kind forms.old forms.new }
 {
     let token = one_token(kind);
-    let count = usable_lines(lines, &token, list);
-    list_forms(sheet, card, rows, forms, &list[..count]);
-    count
+    let own = usable_lines(lines, &token, list);
+    list_forms(sheet, card, rows, forms, own);
+    own
 }

@@ -14,14 +14,12 @@ pub fn line_table(sheet: &[u8], card: Card, norms: [u32; 32]) -> [u8; 768]
     let lines = card.lines;
     let marks = 2 * lines;
     let mut table = [0u8; 768];
-    let mut line = 0;
-    while line < lines {
+    for line in 0..lines {
         table[line] = card.line_kind(sheet, line) as u8;
         table[lines + line] = card.line_code(sheet, line) as u8;
         if lowers(sheet, card, &norms, line) {
             table[marks + line] = 1;
         }
-        line += 1;
     }
     table
 }

@@ -1,16 +1,11 @@
 -- Laws of counts read from a sheet, and of fields filled count by count.
-use mathlib.Core.Bool.{Bool, true, false}
 use mathlib.Core.List.{List}
 use mathlib.Core.Path.{◌≡◌, refl, sym, ap, fun_ext, ◌∙◌}
 use Prim.Native.Nat.{ℕ, ◌+◌, ◌-◌, ◌*◌, ◌≤◌, ◌<◌}
-use native.Mathlib.Decide.{ℕ_discrete, dec_lt}
+use native.Mathlib.Decide.{dec_lt}
 use native.Mathlib.Nat.{mul-le-mul}
 use native.Mathlib.Omega.{arith}
-use lib.Dec.{ltb}
-use borrow.Author.Tests.{le-ltb}
-use lib.ListN.{length, set, replicate, length-set, length-replicate, get_or-replicate, get_or-eq_default}
-use lib.Seq.{get_or-set_same, get_or-set_other}
-use Rattle.model.specs.Finite.{both}
+use lib.ListN.{length, replicate, length-replicate, get_or-replicate, get_or-eq_default}
 use Rattle.model.specs.Field.{Field, unit, at}
 use Rattle.model.specs.Card.{fire}
 use Rattle.model.specs.Sheet.{byte, u16_at, kind_count, line_count, fields_offset, lines_offset, line_of, field_of}
@@ -70,25 +65,6 @@ module _ (f g : ℕ → ℕ) (a : List ℕ) where
   pub filled_none : ((k : ℕ) → at a k ≤ g k) → Filled f g a a 0
   filled_none h = record { done = λ k l. absurd (omega arith); rest = λ k l. refl; most = h; same = refl }
 
-  pub filled_more : {b : List ℕ} {i v : ℕ} → Filled f g a b i → i < length a → v ≡ f i → v ≤ g i → Filled f g a (set b i v) (i + 1)
-  filled_more {b} {i} {v} p h e l = record {
-    done = λ k q. done k q (ℕ_discrete k i);
-    rest = λ k q. get_or-set_other b i k v 0 (λ d. omega arith) ∙ p.rest k (omega arith);
-    most = λ k. most k (ℕ_discrete k i);
-    same = length-set b i v ∙ p.same;
-  }
-    where
-      here : at (set b i v) i ≡ v
-      here = get_or-set_same b i v 0 (omega (arith, p.same))
-
-      done : (k : ℕ) → k < i + 1 → Dec (k ≡ i) → at (set b i v) k ≡ f k
-      done k q (yes d) = rw d (here ∙ e)
-      done k q (no d) = get_or-set_other b i k v 0 d ∙ p.done k (omega arith)
-
-      most : (k : ℕ) → Dec (k ≡ i) → at (set b i v) k ≤ g k
-      most k (yes d) = rw d (omega (arith, here))
-      most k (no d) = omega (arith, get_or-set_other b i k v 0 d, p.most k)
-
   pub filled_all : {b : List ℕ} {i : ℕ} → Filled f g a b i → ((k : ℕ) → i ≤ k → f k ≡ at a k) → at b ≡ f
   filled_all {b} {i} p h = fun_ext (λ k. go k (dec_lt k i))
     where
@@ -130,16 +106,3 @@ module _ (s : List ℕ) (j k tokens left kind : ℕ) (e : left ≡ (line_of s j)
 
   pub one_goes : k ≡ kind → 0 < tokens → tokens - 1 + left ≡ (tokens - unit (line_of s j).kind k) + (line_of s j).left k
   one_goes q h = omega (arith, e, ap (λ (x : ℕ). unit (line_of s j).kind x) (q ∙ d) ∙ unit_same (line_of s j).kind)
-
--- A kind past those that the player counts has no token.
-pub no_token : {s : List ℕ} {a : List ℕ} {k kind : ℕ} → Fits s 0 a → kind_count s ≤ k → k ≡ kind → false ≡ ltb 0 (at a kind)
-no_token {s} {a} {k} {kind} p h e = sym (le-ltb 0 (at a kind) (omega (arith, p.over k h, ap (at a) e)))
-
--- Two tests, the second made only where the first is passed.
-pub both_second : (b c : Bool) → b ≡ true → c ≡ both b c
-both_second true c e = refl
-both_second false c e = absurd (let z : ◌≡◌ {A = ℕ} 0 1 = cc in omega arith)
-
-pub both_none : (b c : Bool) → b ≡ false → false ≡ both b c
-both_none true c e = absurd (let z : ◌≡◌ {A = ℕ} 0 1 = cc in omega arith)
-both_none false c e = refl

@@ -14,7 +14,7 @@ pub fn may_use(sheet: &[u8], line: usize, field: &[usize; 32]) -> bool
     ensures { result ≡ ltb 0 (at field.now (line_of sheet.now line).kind) }
 {
     let kind = line_kind(sheet, line);
-    if kind < 32 { 0 < field[kind] } else { false }
+    kind < 32 && 0 < field[kind]
 }
 
 // "A reply is a line of the same code that the other side may use": whether the line replies to the challenge by the line `challenge`.
@@ -23,11 +23,7 @@ pub fn may_reply(sheet: &[u8], line: usize, challenge: usize, field: &[usize; 32
     requires fits { Fits sheet.now 0 field.now }
     ensures { result ≡ both (ltb 0 (at field.now (line_of sheet.now line).kind)) (eqb (line_of sheet.now line).code (line_of sheet.now challenge).code) }
 {
-    if may_use(sheet, line, field) {
-        line_code(sheet, line) == line_code(sheet, challenge)
-    } else {
-        false
-    }
+    may_use(sheet, line, field) && line_code(sheet, line) == line_code(sheet, challenge)
 }
 
 // What stands for tokens of a kind after the line is used: "one X goes, the counts come".
@@ -51,12 +47,9 @@ pub fn field_after(sheet: &[u8], line: usize, field: &[usize; 32]) -> [usize; 32
     requires fits { Fits sheet.now 1 field.now }
     ensures { After sheet.now line field.now result }
 {
-    let n = kinds(sheet);
     let mut after = *field;
-    let mut kind = 0;
-    while kind < n {
+    for kind in 0..kinds(sheet) {
         after[kind] = count_after(sheet, line, kind, field[kind]);
-        kind += 1;
     }
     after
 }

@@ -4,22 +4,11 @@ ghost use Rattle.model.specs.Field.{at};
 ghost use Rattle.model.specs.Sheet.{byte, u16_at, kind_count, code_count, line_count, field_count, lines_offset, line_of, field_of};
 ghost use Rattle.second_reader.specs.Fields.{Fits};
 
-// The byte as a number to count with.
-fn wide(byte: u8) -> usize
-    ensures { (result ≡ byte) × (result < 256) }
-{
-    byte as usize
-}
-
 // The byte at a position.
 fn byte_at(sheet: &[u8], position: usize) -> usize
     ensures { (result ≡ byte sheet.now position) × (result < 256) }
 {
-    if position < sheet.len() {
-        wide(sheet[position])
-    } else {
-        0
-    }
+    sheet.get(position).map_or(0, |byte| usize::from(*byte))
 }
 
 // The two bytes from a position on, "low byte first".
@@ -106,12 +95,9 @@ pub fn field(sheet: &[u8], number: usize) -> [usize; 32]
     requires { (kind_count sheet.now ≤ 32) × (number < 65536) }
     ensures { (at result ≡ field_of sheet.now number) × Fits sheet.now 200 result }
 {
-    let n = kinds(sheet);
     let mut counts = [0usize; 32];
-    let mut kind = 0;
-    while kind < n {
+    for kind in 0..kinds(sheet) {
         counts[kind] = field_count(sheet, number, kind);
-        kind += 1;
     }
     counts
 }

@@ -1,5 +1,5 @@
 -- Laws that the proofs cite, and the examples.
--- The rows of the code and the table; a search from row to row.
+-- What the rows of the code say.
 pub mod Rows
 -- A sentence of each kind, and the limits in the sentences, closed by computation.
 pub mod Worked

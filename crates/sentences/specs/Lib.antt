@@ -1,7 +1,7 @@
 -- What the contracts cite.
 -- The sentences of refusals, by number and place.
 pub mod Sentence
--- A row of the table as the code has it.
+-- What a row of the code says.
 pub mod Row
 -- The claim that every refusal has a sentence.
 pub mod Every

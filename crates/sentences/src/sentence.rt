@@ -29,10 +29,9 @@ pub fn put_sentence(out: &mut [u8], at: usize, number: usize, place: usize) -> u
     requires { at + 80 ≤ length out.old }
     ensures { Appended 80 out.old at (sentence_of number place) out.new result }
 {
-    let row = find_row(number, place);
-    let places = row.places;
-    let words = row.words;
-    let count = row.count;
-    let next = put_place(out, at, places, place);
-    put_bytes(out, next, &words[..count])
+    let Some(row) = find_row(number, place) else {
+        return at;
+    };
+    let next = put_place(out, at, row.places, place);
+    put_bytes(out, next, row.words)
 }

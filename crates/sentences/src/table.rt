@@ -1,8 +1,8 @@
 // The table of sentences.
-ghost use Rattle.std.specs.Prelude.{◌≡◌, ◌<◌, eqb, get_or, length};
-ghost use Rattle.model.specs.Finite.{both, pick};
-ghost use Rattle.sentences.specs.Row.{row_of};
-ghost use Rattle.sentences.specs.Sentence.{among, has, sentences, unsaid};
+ghost use Rattle.std.specs.Prelude.{◌≡◌};
+ghost use Rattle.model.specs.Finite.{pick};
+ghost use Rattle.sentences.specs.Row.{first_row, said, sentence};
+ghost use Rattle.sentences.specs.Sentence.{has, sentences, unsaid};
 
 // The places of a row: one, any line, or any kind.
 #[derive(Clone, Copy)]
@@ -12,191 +12,151 @@ pub enum Place {
     Kind,
 }
 
-// The number of a refusal, its places, and what is said: the first `count` of the bytes.
+// The number of a refusal, its places, and what is said.
 #[derive(Clone, Copy)]
 pub struct Row {
     pub number: usize,
     pub places: Place,
-    pub count: usize,
-    pub words: [u8; 52],
+    pub words: &'static [u8],
 }
 
-const ROWS: usize = 22;
-
-const TABLE: [Row; ROWS] = [
+const TABLE: [Row; 22] = [
     Row {
         number: 16,
         places: Place::Only(0),
-        count: 19,
-        words: *b"the desk is over 7\n                                 ",
+        words: b"the desk is over 7\n",
     },
     Row {
         number: 1,
         places: Place::Only(0),
-        count: 29,
-        words: *b"the sheet has under 20 bytes\n                       ",
+        words: b"the sheet has under 20 bytes\n",
     },
     Row {
         number: 2,
         places: Place::Only(0),
-        count: 40,
-        words: *b"the number of kinds is not from 1 to 32\n            ",
+        words: b"the number of kinds is not from 1 to 32\n",
     },
     Row {
         number: 3,
         places: Place::Only(0),
-        count: 40,
-        words: *b"the number of codes is not from 1 to 64\n            ",
+        words: b"the number of codes is not from 1 to 64\n",
     },
     Row {
         number: 4,
         places: Place::Only(0),
-        count: 25,
-        words: *b"there are over 256 lines\n                           ",
+        words: b"there are over 256 lines\n",
     },
     Row {
         number: 5,
         places: Place::Only(0),
-        count: 25,
-        words: *b"there are over 64 fields\n                           ",
+        words: b"there are over 64 fields\n",
     },
     Row {
         number: 6,
         places: Place::Only(0),
-        count: 34,
-        words: *b"the offset of the lines is not 20\n                  ",
+        words: b"the offset of the lines is not 20\n",
     },
     Row {
         number: 6,
         places: Place::Only(1),
-        count: 52,
-        words: *b"the offset of the fields is not where the lines end\n",
+        words: b"the offset of the fields is not where the lines end\n",
     },
     Row {
         number: 6,
         places: Place::Only(2),
-        count: 38,
-        words: *b"the total is not where the fields end\n              ",
+        words: b"the total is not where the fields end\n",
     },
     Row {
         number: 6,
         places: Place::Only(3),
-        count: 45,
-        words: *b"the bytes given are not as many as the total\n       ",
+        words: b"the bytes given are not as many as the total\n",
     },
     Row {
         number: 7,
         places: Place::Line,
-        count: 42,
-        words: *b"its kind is not under the number of kinds\n          ",
+        words: b"its kind is not under the number of kinds\n",
     },
     Row {
         number: 8,
         places: Place::Line,
-        count: 42,
-        words: *b"its code is not under the number of codes\n          ",
+        words: b"its code is not under the number of codes\n",
     },
     Row {
         number: 9,
         places: Place::Kind,
-        count: 44,
-        words: *b"it has no norm, since it can not be cleared\n        ",
+        words: b"it has no norm, since it can not be cleared\n",
     },
     Row {
         number: 10,
         places: Place::Kind,
-        count: 31,
-        words: *b"its norm is over 1,000,000,000\n                     ",
+        words: b"its norm is over 1,000,000,000\n",
     },
     Row {
         number: 11,
         places: Place::Only(0),
-        count: 44,
-        words: *b"the first field or kind number is too large\n        ",
+        words: b"the first field or kind number is too large\n",
     },
     Row {
         number: 11,
         places: Place::Only(1),
-        count: 37,
-        words: *b"the second field number is too large\n               ",
+        words: b"the second field number is too large\n",
     },
     Row {
         number: 13,
         places: Place::Only(0),
-        count: 26,
-        words: *b"the round limit is over 8\n                          ",
+        words: b"the round limit is over 8\n",
     },
     Row {
         number: 14,
         places: Place::Only(0),
-        count: 40,
-        words: *b"the field or the size is over 16 tokens\n            ",
+        words: b"the field or the size is over 16 tokens\n",
     },
     Row {
         number: 15,
         places: Place::Only(0),
-        count: 44,
-        words: *b"no field of this size has so large a number\n        ",
+        words: b"no field of this size has so large a number\n",
     },
     Row {
         number: 17,
         places: Place::Only(1),
-        count: 19,
-        words: *b"the squad is empty\n                                 ",
+        words: b"the squad is empty\n",
     },
     Row {
         number: 18,
         places: Place::Only(0),
-        count: 42,
-        words: *b"there are over 65,536 fields of this size\n          ",
+        words: b"there are over 65,536 fields of this size\n",
     },
     Row {
         number: 12,
         places: Place::Only(0),
-        count: 31,
-        words: *b"a buffer or table is too short\n                     ",
+        words: b"a buffer or table is too short\n",
     },
 ];
 
-// The row of the table at an index.
-fn entry(index: usize) -> Row
-    requires { index < length sentences }
-    ensures { result ≡ row_of (get_or sentences index unsaid) }
-{
-    TABLE[index]
-}
-
-// Whether a row has a number and a place.
-fn is_of(row: Row, number: usize, place: usize) -> bool
-    ensures { result ≡ both (eqb row.number number) (among row.places place) }
-{
-    let places = row.places;
-    if row.number != number {
-        return false;
-    }
-    match places {
-        Place::Only(only) => only == place,
-        Place::Line => true,
-        Place::Kind => true,
+impl Row {
+    // Whether the row has a number and a place.
+    fn is_of(&self, number: usize, place: usize) -> bool
+        ensures { result ≡ has number place (sentence self.now) }
+    {
+        self.number == number
+            && match self.places {
+                Place::Only(only) => only == place,
+                Place::Line | Place::Kind => true,
+            }
     }
 }
 
-// The first row that has a number and a place; one with no words where no row has them.
-pub fn find_row(number: usize, place: usize) -> Row
-    ensures { result ≡ row_of (pick (has number place) sentences unsaid) }
+// The first of some rows that has a number and a place.
+#[tactic(auto, unfolding(crate::specs::Row::first_row))]
+fn find_in(rows: &[Row], number: usize, place: usize) -> Option<Row>
+    ensures { result ≡ first_row number place rows.now }
 {
-    let mut i = 0;
-    while i < ROWS {
-        let row = entry(i);
-        if is_of(row, number, place) {
-            return row;
-        }
-        i += 1;
-    }
-    Row {
-        number: 0,
-        places: Place::Only(0),
-        count: 0,
-        words: [b' '; 52],
-    }
+    rows.iter().copied().find(|row| row.is_of(number, place))
+}
+
+// The first row of the table that has a number and a place.
+pub fn find_row(number: usize, place: usize) -> Option<Row>
+    ensures { said result ≡ pick (has number place) sentences unsaid }
+{
+    find_in(&TABLE, number, place)
 }

@@ -2,21 +2,13 @@
 ghost use Rattle.std.specs.Prelude.{◌≡◌, ◌+◌, ◌<◌, ◌^◌};
 ghost use Rattle.model.specs.Sheet.{byte, u16_at, u32_at};
 
-// A byte as a number to count with.
-fn wide(value: u8) -> usize
-    ensures { (result ≡ value) × (result < 256) }
-{
-    value as usize
-}
-
 // The byte at an offset, 0 past the end.
 pub fn byte_at(sheet: &[u8], offset: usize) -> usize
     ensures { (result ≡ byte sheet.now offset) × (result < 256) }
 {
-    if offset < sheet.len() {
-        wide(sheet[offset])
-    } else {
-        0
+    match sheet.get(offset) {
+        Some(byte) => usize::from(*byte),
+        None => 0,
     }
 }
 

@@ -7,7 +7,7 @@ ghost use Rattle.sheet.specs.Reader.{header_of, Reads, line_counts, field_counts
 use crate::bytes::{byte_at, u16_at};
 
 // The header's four numbers, by value.
-#[derive(Clone, Copy)]
+#[derive(Clone, Copy, PartialEq, Eq, Debug)]
 pub struct Card {
     pub kinds: usize,
     pub codes: usize,
@@ -135,13 +135,10 @@ impl Card {
         requires field_lt_fields { field < self.fields }
         ensures { result ≡ field_counts sheet.now field }
     {
-        let kinds = self.kinds;
         let start = self.field_start(field);
         let mut counts = [0u32; Card::KINDS];
-        let mut kind = 0;
-        while kind < kinds {
+        for kind in 0..self.kinds {
             counts[kind] = u16_at(sheet, start + 2 * kind) as u32;
-            kind += 1;
         }
         counts
     }

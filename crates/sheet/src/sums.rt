@@ -2,21 +2,12 @@
 ghost use Rattle.std.specs.Prelude.{◌≡◌, ◌<◌};
 ghost use Rattle.sheet.specs.Sum.{Addable, plus};
 
-// A byte as a number to add.
-fn wide(value: u8) -> u32
-    ensures { (result ≡ value) × (result < 256) }
-{
-    value as u32
-}
-
 // A line's counts are added to the field's, kind by kind.
 pub fn add_counts(field: &mut [u32], counts: &[u8])
     requires { Addable field.old counts.now }
     ensures { field.new ≡ plus field.old counts.now }
 {
-    let mut k = 0;
-    while k < counts.len() {
-        field[k] = field[k] + wide(counts[k]);
-        k += 1;
+    for (k, count) in counts.iter().enumerate() {
+        field[k] += u32::from(*count);
     }
 }

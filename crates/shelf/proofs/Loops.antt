@@ -62,20 +62,21 @@ module _ (kinds : List ℕ) (a : Field) (size : ℕ) where
   }
 
   -- The count of the last kind left is among the tokens left; what it passes over brings the loop to the kind before.
-  pub numbered_next : InOrder kinds → (number left i count fewer : ℕ) → Numbered number left i → 0 < i → count ≡ a (get_or kinds (i - 1) 0)
-      → (count ≤ left) × (fewer + entry i (left - count) ≡ entry i left → Numbered (number + fewer) (left - count) (i - 1))
+  pub numbered_next : InOrder kinds → (number left i fewer : ℕ) → Numbered number left i → 0 < i
+      → let count = a (get_or kinds (i - 1) 0) in
+      (count ≤ left) × (fewer + entry (i - 1 + 1) (left - count) ≡ entry (i - 1 + 1) left → Numbered (number + fewer) (left - count) (i - 1))
   unfolding total
-  numbered_next sorted number left zero count fewer H h c = absurd (omega arith)
-  numbered_next sorted number left (suc j) count fewer H h c = rw z (omega (arith, is, tokens_are), next)
+  numbered_next sorted number left zero fewer H h = absurd (omega arith)
+  numbered_next sorted number left (suc j) fewer H h = rw (y, z) (omega (arith, tokens_are), next)
     where
       z : suc j - 1 ≡ j
       z = omega arith
 
+      y : suc j - 1 + 1 ≡ suc j
+      y = omega arith
+
       k : ℕ
       k = get_or kinds j 0
-
-      is : count ≡ a k
-      is = rw z at c
 
       tokens_are : a k + total (front kinds j) a ≡ left
       tokens_are = ap (λ (ks : List ℕ). total ks a) (sym (front_next kinds j (omega (arith, H.kinds_left)))) ∙ H.tokens_left
@@ -83,7 +84,7 @@ module _ (kinds : List ℕ) (a : Field) (size : ℕ) where
       once : Once (k ∷ front kinds j)
       once = rw (front_next kinds j (omega (arith, H.kinds_left))) at (front_once kinds sorted (suc j) H.kinds_left)
 
-      next : fewer + entry (suc j) (left - count) ≡ entry (suc j) left → Numbered (number + fewer) (left - count) j
+      next : fewer + entry (suc j) (left - a k) ≡ entry (suc j) left → Numbered (number + fewer) (left - a k) j
       next e =
           let m : length (front kinds j) ≡ j = front_many kinds j (omega (arith, H.kinds_left)) in
           let n : number_in (front kinds (suc j)) left a ≡ number_in (k ∷ front kinds j) left a = ap (λ (ks : List ℕ). number_in ks left a) (front_next kinds j (omega (arith, H.kinds_left))) in
@@ -91,8 +92,8 @@ module _ (kinds : List ℕ) (a : Field) (size : ℕ) where
           record {
             kinds_left = omega (arith, H.kinds_left);
             few = omega (arith, H.few);
-            tokens_left = omega (arith, is, tokens_are);
-            sum = omega (arith, rw (m, ← is) at step, n, H.sum);
+            tokens_left = omega (arith, tokens_are);
+            sum = omega (arith, rw m at step, n, H.sum);
           }
 
   pub numbered_end : (number left : ℕ) → Numbered number left 0 → number ≡ number_in (reverse kinds) size a

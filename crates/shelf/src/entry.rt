@@ -28,8 +28,8 @@ pub fn entry_of(kinds: usize, tokens: usize) -> u64
 
 // The entry for so many kinds and tokens, of the table that the caller has.
 pub fn entry_in(table: &[u64; 561], kinds: usize, tokens: usize) -> u64
-    requires kinds_le_most_kinds { (kinds ≤ most_kinds) × (tokens ≤ most_tokens) }
-    requires t { T (obeys_rule table.now) }
+    requires in_table { (kinds ≤ most_kinds) × (tokens ≤ most_tokens) }
+    requires obeys { T (obeys_rule table.now) }
     ensures { result ≡ entry kinds tokens }
 {
     table[kinds * SIZES + tokens]

@@ -24,13 +24,14 @@ fn field_in(table: &[u64; 561], kinds: &[usize], size: usize, number: u64) -> [u
     requires in_order { InOrder kinds.now }
     requires size_le_most_tokens { size ≤ most_tokens }
     requires number_bound { number < entry (length kinds.now) size }
-    requires t { T (obeys_rule table.now) }
+    requires obeys { T (obeys_rule table.now) }
     ensures { at result ≡ field_in (reverse kinds.now) size number }
 {
     let mut counts = [0u16; 32];
     let mut i = kinds.len();
     let mut left = size;
     let mut rest = number;
+    // A while over two counters: a turn passes over a kind or takes a token.
     while 0 < left {
         let without = entry_in(table, i - 1, left);
         if rest < without {

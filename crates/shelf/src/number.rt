@@ -11,18 +11,11 @@ use crate::entry::{entries, entry_in};
 
 // How many of the fields of so many tokens of so many kinds have fewer than this count of the last kind: the entry, less that for the tokens left beside the count.
 fn with_fewer(table: &[u64; 561], kinds: usize, tokens: usize, count: usize) -> u64
-    requires le_kinds { (1 ≤ kinds) × (kinds ≤ most_kinds) × (tokens ≤ most_tokens) × (count ≤ tokens) }
-    requires t { T (obeys_rule table.now) }
+    requires in_table { (1 ≤ kinds) × (kinds ≤ most_kinds) × (tokens ≤ most_tokens) × (count ≤ tokens) }
+    requires obeys { T (obeys_rule table.now) }
     ensures { result + entry kinds (tokens - count) ≡ entry kinds tokens }
 {
     entry_in(table, kinds, tokens) - entry_in(table, kinds, tokens - count)
-}
-
-// A count as a number of tokens.
-fn wide(count: u32) -> usize
-    ensures { result ≡ count }
-{
-    count as usize
 }
 
 // The number of a field among those of its size, which it is one of, over kinds in number order.
@@ -40,19 +33,17 @@ pub fn number_of(kinds: &[usize], field: &[u32; 32], size: usize) -> u64
 fn number_in(table: &[u64; 561], kinds: &[usize], field: &[u32; 32], size: usize) -> u64
     requires in_order { InOrder kinds.now }
     requires size_le_most_tokens { size ≤ most_tokens }
-    requires fact { Memᴰ (at field.now) (listed (reverse kinds.now) size) }
-    requires t { T (obeys_rule table.now) }
+    requires listed { Memᴰ (at field.now) (listed (reverse kinds.now) size) }
+    requires obeys { T (obeys_rule table.now) }
     ensures { result ≡ number_in (reverse kinds.now) size (at field.now) }
 {
     let mut number: u64 = 0;
     let mut left = size;
-    let mut i = kinds.len();
-    while 0 < i {
-        let kind = kinds[i - 1];
-        let count = wide(field[kind]);
-        number += with_fewer(table, i, left, count);
+    for i in (0..kinds.len()).rev() {
+        let kind = kinds[i];
+        let count = field[kind] as usize;
+        number += with_fewer(table, i + 1, left, count);
         left -= count;
-        i -= 1;
     }
     number
 }

@@ -6,9 +6,9 @@ ghost use Rattle.shelf_verbs.specs.Texts.{most_shelved, shelved_line};
 ghost use Rattle.replies.specs.Texts.{most_text};
 ghost use Rattle.shelf_verbs.specs.Calls.{number_told};
 
-use numbering::ShelfNumber;
 use numbering::number::shelf_number;
-use replies::reply::{Outcome, Reply, no_call, refuse};
+use replies::Reply;
+use replies::reply::refuse;
 use text::{put_byte, put_two_labelled};
 
 // `size S number X`.
@@ -26,16 +26,13 @@ pub fn field_number(sheet: &[u8], numbers: &[u64], out: &mut [u8]) -> Reply
     ensures { Tells (number_told sheet.now numbers.now) out.old out.new result }
 {
     if numbers.len() != 1 {
-        return no_call();
+        return Reply::no_call();
     }
     match shelf_number(sheet, numbers[0] as usize) {
-        ShelfNumber::Given { size, number } => {
-            let length = put_shelved(out, 0, size, number);
-            Reply {
-                outcome: Outcome::Answered,
-                length,
-            }
+        Ok(shelved) => {
+            let length = put_shelved(out, 0, shelved.size, shelved.number);
+            Reply::answered(length)
         }
-        ShelfNumber::Refused { number, place } => refuse(out, number, place),
+        Err(refusal) => refuse(out, refusal),
     }
 }

@@ -14,18 +14,13 @@ use Rattle.model.specs.Sheet.{kind_count, field_count, field_of}
 use Rattle.model.specs.Refusal.{refusal, first_of, accept_checks, Accepted, squads_checks, check}
 use Rattle.model.specs.Answer.{refused, given, prime_form, squad_count, remainder_form, squads_of, written}
 use Rattle.theory.proofs.Exec.{tells_eq}
-use Rattle.theory.proofs.Checks.{first_right, first_here, first_later, from_some, not_none}
+use Rattle.theory.proofs.Checks.{first_left, first_right, first_here, first_later, from_some, not_none}
 use Rattle.theory.proofs.Answers.{demand1}
 use Rattle.theory.proofs.Squads.{form_some}
 use Rattle.theory.proofs.Told.{gives}
 use Rattle.validation.proofs.Checking.{less_stops}
 use Rattle.validation.proofs.FieldNumbers.{numbers_pass, fields_refused}
-use Rattle.validation.specs.Fields.{with_fields}
-use Rattle.validation.specs.declared.checks.Checked.{Checked}
-use Rattle.validation.specs.declared.checks.Checked.TheVariants.{Refused}
-use Rattle.sheet.proofs.Laws.{fields_are}
-use Rattle.acceptance.specs.Acceptance.{acceptance_of}
-use Rattle.acceptance.proofs.Acceptances.{accepts, refused as refused_checks}
+use Rattle.validation.specs.Fields.{field_checks}
 
 -- The test for tokens, as it is read in the code.
 module _ (n : ℕ) (b : Bool) (e : b ≡ eqb n 0) where
@@ -43,12 +38,14 @@ module _ (s : List ℕ) (i j : ℕ) (buffer : List ℕ) where
   refuses : (k p : ℕ) → first_of (squads_checks s i j (length buffer)) ≡ refusal k p → Refuses k p
   refuses k p e = gives ((demand1 s).squads_refused i j buffer k p e)
 
-  -- The checks of the sheet and of the two field numbers refuse.
-  pub fields_refuse : (checked : Checked) → checked ≡ (acceptance_of s).checked → (k p : ℕ) → with_fields i j checked ≡ Refused k p → Refuses k p
+  -- The checks of the sheet refuse, or those of the two field numbers.
+  pub sheet_refuses : (k p : ℕ) → first_of (accept_checks s) ≡ refusal k p → Refuses k p
+  unfolding squads_checks
+  sheet_refuses k p e = refuses k p (first_left (accept_checks s) _ k p e)
+
+  pub fields_refuse : Accepted s → (k p : ℕ) → first_of (field_checks (field_count s) i j) ≡ refusal k p → Refuses k p
   unfolding Accepted squads_checks
-  fields_refuse checked e k p r =
-      refuses k p
-      (fields_refused (accept_checks s) _ (field_count s) i j k p checked (λ f. refused_checks s k p (sym e ∙ f)) (λ c f. let A = accepts s c (sym e ∙ f) in (A.accepted, fields_are A.reads)) r)
+  fields_refuse ok k p e = refuses k p (first_right (accept_checks s) _ ok ∙ fields_refused (field_count s) i j _ k p e)
 
   -- The call's own: 17 and 12.
   module _ (ok : Accepted s) (h : i < field_count s) (l : j < field_count s) where

@@ -1,4 +1,5 @@
 -- What the answers mean, proved as the specification states it.
+use Rattle.std.specs.Prelude.{Result, Ok}
 use mathlib.Core.List.{List}
 use mathlib.Core.Logic.Iff
 use mathlib.Core.Logic.{◌↔◌}
@@ -15,37 +16,30 @@ use Rattle.model.specs.Refusal.{Accepted, clear, refusal, first_of, squads_check
 use Rattle.model.specs.Answer.{refused, given, Lent, written, form_of, squad_count, remainder_form, squads_of}
 use Rattle.theory.proofs.Answers.{demand1}
 use Rattle.theory.proofs.Squads.{squads}
-use Rattle.theory.proofs.Told.{told, found, cleared, answer_of_lem, lent_of}
+use Rattle.theory.proofs.Told.{found, cleared, answer_of_lem, lent_of}
 use Rattle.filer.proofs.Promises.{begins as form_begins}
-use Rattle.squads.specs.Answers.{squads_answer}
+use Rattle.refusals.specs.declared.Refusal.{Refusal}
+use Rattle.refusals.specs.Refusals.{finding_of, answer_of}
+use Rattle.refusals.proofs.Told.{told_refused, told_given}
 use Rattle.squads.specs.Promises.{SquadsAnswers, SquadsMeans, Promises}
-use Rattle.squads.specs.declared.answers.Squads.{Squads}
-use Rattle.squads.specs.declared.answers.Squads.TheVariants.{Counted, Refused as NotCounted}
 
--- The cases have different values.
-only : (v w : Squads) → squads_answer v ≡ squads_answer w → v ≡ w
-only (Counted x) (Counted y) e = cc
-only (Counted x) (NotCounted k p) e = let z : ◌≡◌ {A = ℕ} 0 1 = cc in absurd (omega arith)
-only (NotCounted k p) (Counted x) e = let z : ◌≡◌ {A = ℕ} 0 1 = cc in absurd (omega arith)
-only (NotCounted k p) (NotCounted i q) e = cc
-
-module _ (s : List ℕ) (i j : ℕ) (buffer : List ℕ) (answer : Squads) (after : List ℕ)
-    (e : squads_answer answer ≡ (squads_of s i j buffer).answer) (d : after ≡ (squads_of s i j buffer).lent) where
-  refuses : (k p : ℕ) → (answer ≡ NotCounted k p) ↔ (first_of (squads_checks s i j (length buffer)) ≡ refusal k p)
+module _ (s : List ℕ) (i j : ℕ) (buffer : List ℕ) (answer : Result ℕ Refusal) (after : List ℕ)
+    (e : answer_of (λ q. q) answer ≡ (squads_of s i j buffer).answer) (d : after ≡ (squads_of s i j buffer).lent) where
+  refuses : (k p : ℕ) → (finding_of answer ≡ refusal k p) ↔ (first_of (squads_checks s i j (length buffer)) ≡ refusal k p)
   unfolding squads_of
   refuses k p =
-      Iff.trans (told squads_answer only answer e (NotCounted k p))
+      Iff.trans (told_refused (λ q. q) answer e k p)
       (found (λ (x : Lent ℕ). x.answer) (record { answer = given (squad_count s i j); lent = written (remainder_form s i j) buffer }) (λ k p. record { answer = refused k p; lent = buffer })
       (squad_count s i j) refl (λ k p. refl) (first_of (squads_checks s i j (length buffer))) k p)
 
-  counts : first_of (squads_checks s i j (length buffer)) ≡ clear → answer ≡ Counted (squad_count s i j)
-  counts c = only answer (Counted (squad_count s i j)) (e ∙ answer_of_lem ((demand1 s).squads_given i j buffer c))
+  counts : first_of (squads_checks s i j (length buffer)) ≡ clear → answer ≡ Ok (squad_count s i j)
+  counts c = (told_given (λ q. q) (λ v w h. h) answer e (squad_count s i j)).1 (answer_of_lem ((demand1 s).squads_given i j buffer c))
 
-  clears : (q : ℕ) → answer ≡ Counted q → first_of (squads_checks s i j (length buffer)) ≡ clear
+  clears : (q : ℕ) → answer ≡ Ok q → first_of (squads_checks s i j (length buffer)) ≡ clear
   clears q h = cleared (first_of (squads_checks s i j (length buffer))) (λ k p f. other ((refuses k p).1 f))
     where
-      other : {k p : ℕ} → answer ≡ NotCounted k p → ⊥
-      other g = let z : ◌≡◌ {A = ℕ} 0 1 = cc in omega arith
+      other : {k p : ℕ} → finding_of answer ≡ refusal k p → ⊥
+      other g = let z : ◌≡◌ {A = ℕ} 0 1 = cc (ap finding_of h) in omega arith
 
   answers : SquadsAnswers s i j buffer answer after
   answers = record {
@@ -57,7 +51,7 @@ module _ (s : List ℕ) (i j : ℕ) (buffer : List ℕ) (answer : Squads) (after
   }
 
   -- Where it answered.
-  module _ (q : ℕ) (h : answer ≡ Counted q) where
+  module _ (q : ℕ) (h : answer ≡ Ok q) where
     count_is : squad_count s i j ≡ q
     count_is = let g = counts (clears q h) in cc
 

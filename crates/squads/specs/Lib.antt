@@ -1,3 +1,2 @@
 -- What the contracts cite, and what the answers mean.
-pub mod Answers
 pub mod Promises

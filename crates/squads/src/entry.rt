@@ -7,39 +7,36 @@ ghost use Rattle.model.specs.Sheet.{kind_count, card_of, field_of};
 ghost use Rattle.model.specs.Refusal.{Accepted};
 ghost use Rattle.model.specs.Answer.{written, squad_count, remainder_form, squads_of};
 ghost use Rattle.sheet.specs.Reader.{Reads};
+ghost use Rattle.refusals.specs.Refusals.{answer_of};
 ghost use Rattle.rows.specs.Stage.{BaseAt};
-ghost use Rattle.squads.specs.Answers.{squads_answer};
 
-use crate::answers::Squads;
+use acceptance::accept::accept;
 use filer::form::prime_counts;
-use filer::settlement::settle_once;
+use filer::settlement::settle_accepted;
 use quotients::divide::divide;
+use refusals::Refusal;
 use sheet::Card;
 use tables::sense::Sense;
 use tables::table::Base;
-use validation::checks::Checked;
-use validation::fields::check_fields;
+use validation::check_fields;
 use weights::fields::field_tokens;
 
 // Squads, of any bytes, any two field numbers and a buffer of any length; a refusal leaves the buffer as it was. The sheet is settled once.
-pub fn squads(sheet: &[u8], whole: usize, squad: usize, remainder: &mut [u64]) -> Squads
-    ensures result_value { squads_answer result ≡ (squads_of sheet.now whole squad remainder.old).answer }
+pub fn squads(
+    sheet: &[u8],
+    whole: usize,
+    squad: usize,
+    remainder: &mut [u64],
+) -> Result<u64, Refusal>
+    ensures result_value { answer_of (λ q. q) result ≡ (squads_of sheet.now whole squad remainder.old).answer }
     ensures remainder_after { remainder.new ≡ (squads_of sheet.now whole squad remainder.old).lent }
 {
-    let settlement = settle_once(Sense::Plain, sheet);
-    let checked = settlement.checked;
+    let acceptance = accept(sheet)?;
+    let settlement = settle_accepted(Sense::Plain, sheet, acceptance);
+    let card = settlement.card;
+    check_fields(card, whole, squad)?;
     let settled = settlement.settled;
-    match check_fields(checked, whole, squad) {
-        Checked::Refused { number, place } => Squads::Refused { number, place },
-        Checked::Passed(card) => squads_accepted(
-            sheet,
-            card,
-            settled.base,
-            whole,
-            squad,
-            remainder,
-        ),
-    }
+    squads_accepted(sheet, card, settled.base, whole, squad, remainder)
 }
 
 // Squads, of two fields of a sheet that was accepted, by its final base.
@@ -50,27 +47,21 @@ fn squads_accepted(
     whole: usize,
     squad: usize,
     remainder: &mut [u64],
-) -> Squads
+) -> Result<u64, Refusal>
     requires reads { Reads sheet.now card × Accepted sheet.now }
     requires base_at { BaseAt plain sheet.now (settled_stage (card_of sheet.now)) base.rows }
     requires whole_lt_fields { (whole < card.fields) × (squad < card.fields) }
-    ensures result_value { squads_answer result ≡ (squads_of sheet.now whole squad remainder.old).answer }
+    ensures result_value { answer_of (λ q. q) result ≡ (squads_of sheet.now whole squad remainder.old).answer }
     ensures remainder_after { remainder.new ≡ (squads_of sheet.now whole squad remainder.old).lent }
 {
     if is_empty(sheet, card, squad) {
-        return Squads::Refused {
-            number: 17,
-            place: 1,
-        };
+        return Err(Refusal::EmptySquad);
     }
     if remainder.len() < card.kinds {
-        return Squads::Refused {
-            number: 12,
-            place: 0,
-        };
+        return Err(Refusal::ShortBuffer);
     }
     let count = divide_forms(sheet, card, base, whole, squad, remainder);
-    Squads::Counted { count }
+    Ok(count)
 }
 
 // "a squad that is empty": the field has no token.

@@ -2,11 +2,7 @@
 
 #![tactic(auto)]
 
-// What the call answers.
-pub mod answers;
-
 // The call.
 pub mod entry;
 
-pub use answers::Squads;
 pub use entry::squads;

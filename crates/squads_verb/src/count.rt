@@ -1,22 +1,16 @@
 // squads WHOLE SQUAD.
-ghost use Rattle.std.specs.Prelude.{◌≡◌, ◌+◌, ◌≤◌, length};
+ghost use Rattle.std.specs.Prelude.{◌+◌, ◌≤◌, length};
 ghost use Rattle.text.specs.Appended.{Appended};
 ghost use Rattle.replies.specs.Told.{Tells};
 ghost use Rattle.replies.specs.Texts.{most_text};
-ghost use Rattle.squads_verb.specs.Texts.{remainder_room, most_squads, squads_line};
+ghost use Rattle.squads_verb.specs.Texts.{most_squads, squads_line};
 ghost use Rattle.squads_verb.specs.Calls.{squads_told};
 
-use replies::reply::{Outcome, Reply, no_call, refuse};
+use replies::Reply;
+use replies::reply::refuse;
 use sheet::Card;
-use squads::{Squads, squads};
+use squads::squads;
 use text::put_labelled_counts;
-
-// Room for the remainder on any card.
-fn remainder_room() -> [u64; 32]
-    ensures { result ≡ remainder_room }
-{
-    [0u64; 32]
-}
 
 // `squads Q = COUNTS`.
 fn put_squads(out: &mut [u8], at: usize, count: u64, remainder: &[u64]) -> usize
@@ -32,24 +26,21 @@ pub fn count_squads(sheet: &[u8], numbers: &[u64], out: &mut [u8]) -> Reply
     ensures { Tells (squads_told sheet.now numbers.now) out.old out.new result }
 {
     if numbers.len() != 2 {
-        return no_call();
+        return Reply::no_call();
     }
-    let mut remainder = remainder_room();
+    let mut remainder = [0u64; 32];
     match squads(
         sheet,
         numbers[0] as usize,
         numbers[1] as usize,
         &mut remainder,
     ) {
-        Squads::Counted { count } => {
+        Ok(count) => {
             let card = Card::of_header(sheet);
             let n = card.kinds;
             let length = put_squads(out, 0, count, &remainder[..n]);
-            Reply {
-                outcome: Outcome::Answered,
-                length,
-            }
+            Reply::answered(length)
         }
-        Squads::Refused { number, place } => refuse(out, number, place),
+        Err(refusal) => refuse(out, refusal),
     }
 }

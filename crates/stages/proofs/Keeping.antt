@@ -95,10 +95,7 @@ module _ (before after : List ℕ) (stage k : ℕ) {since rows : List ℕ} where
   pub kind_left : row_in before k ≡ row_in after k → KindKept before after stage k since rows since rows
   kind_left e = record { here = left e refl refl; others = λ i _. (refl, refl) }
 
--- No kind is kept yet; one more.
-pub kept_none : {before after : List ℕ} {stage : ℕ} {since rows : List ℕ} → KeptFrom before after stage 0 since rows since rows
-kept_none = record { each = λ k h. absurd (omega arith); others = λ k _. (refl, refl) }
-
+-- One kind more is kept.
 module _ {before after : List ℕ} {stage m : ℕ} {since rows oldSince oldRows : List ℕ} (h : KeptFrom before after stage m since rows oldSince oldRows) where
   pub kept_more : {newSince newRows : List ℕ} → KindKept before after stage m oldSince oldRows newSince newRows → KeptFrom before after stage (m + 1) since rows newSince newRows
   kept_more {newSince} {newRows} x = record {

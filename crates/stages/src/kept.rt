@@ -5,7 +5,7 @@ ghost use Rattle.model.specs.Field.{◌⊕◌, times, at};
 ghost use Rattle.model.specs.Limits.{most_kinds};
 ghost use Rattle.stages.specs.Kept.{row_before, form_before, KindKept, KeptFrom};
 
-use tables::table::{add_times, row_of, same_row, set_row};
+use tables::table::{add_times, row_of, set_row};
 
 // Keeps one kind: where its row is not the one of the stage before, the stage, and the row that it had there.
 fn keep_kind(
@@ -21,7 +21,7 @@ fn keep_kind(
     ensures { KindKept before.now after.now stage kind since.old rows.old since.new rows.new }
 {
     let old = row_of(before, kind);
-    if same_row(old, row_of(after, kind)) {
+    if old == row_of(after, kind) {
         return;
     }
     since[kind] = stage;
@@ -41,10 +41,8 @@ pub fn keep_stage(
     requires kinds_le_most_kinds { kinds ≤ most_kinds }
     ensures { KeptFrom before.now after.now stage kinds since.old rows.old since.new rows.new }
 {
-    let mut kind = 0;
-    while kind < kinds {
+    for kind in 0..kinds {
         keep_kind(before, after, stage, kind, since, rows);
-        kind += 1;
     }
 }
 
@@ -59,8 +57,7 @@ fn add_before(sum: &mut [u64], since: &[usize], rows: &[u32], stage: usize, kind
         add_times(sum, row_of(rows, kind), count);
         return;
     }
-    let old = sum[kind];
-    sum[kind] = old + count;
+    sum[kind] += count;
 }
 
 // The form at the stage before, from that at a stage.
@@ -70,11 +67,8 @@ pub fn form_before(form: &[u64], since: &[usize], rows: &[u32], stage: usize) ->
     ensures { at result ≡ form_before since.now rows.now stage (at form.now) }
 {
     let mut sum = [0u64; 32];
-    let mut kind = 0;
-    while kind < 32 {
-        let count = form[kind];
-        add_before(&mut sum, since, rows, stage, kind, count);
-        kind += 1;
+    for (kind, count) in form.iter().enumerate() {
+        add_before(&mut sum, since, rows, stage, kind, *count);
     }
     sum
 }

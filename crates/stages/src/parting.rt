@@ -19,7 +19,7 @@ use crate::kept::form_before;
 use crate::settle::Settled;
 use sheet::Card;
 use tables::sense::Sense;
-use tables::table::{form_of_field, same_counts};
+use tables::table::form_of_field;
 use weights::fields::{field_norm, field_tokens};
 
 // The decomposition of a field, by the rows of a table.
@@ -96,10 +96,11 @@ fn parting_form(settled: Settled, first: [u64; 32], second: [u64; 32]) -> usize
     let mut one = first;
     let mut other = second;
     let mut t = settled.stage;
+    // A while: each turn goes to the stage before, with the forms there.
     while 1 < t {
         one = form_before(&one, &since, &rows, t);
         other = form_before(&other, &since, &rows, t);
-        if same_counts(&one, &other) {
+        if one == other {
             return t;
         }
         t -= 1;
@@ -130,7 +131,7 @@ pub fn parted(
     if start_relates(sense, sheet, card, norms, first, second) {
         let one = field_form(sheet, card, &rows, first);
         let other = field_form(sheet, card, &rows, second);
-        if same_counts(&one, &other) {
+        if one == other {
             return stage + 1;
         }
         return parting_form(settled, one, other);

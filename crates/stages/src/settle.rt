@@ -17,7 +17,7 @@ use rows::line_forms::all_forms;
 use rows::line_table::line_table;
 use rows::stage_rows::stage_rows;
 use sheet::Card;
-use tables::class::classes;
+use tables::effects::Effects;
 use tables::sense::Sense;
 use tables::table::Base;
 
@@ -46,7 +46,8 @@ fn line_classes(
     ensures form_table { FormTable forms.new }
 {
     all_forms(sheet, card, lines, rows, forms);
-    classes(lines, rows, forms, bounds)
+    let effects = Effects::new(lines, rows, forms);
+    effects.classes(bounds)
 }
 
 // The first stage of a sense that is settled, from stage 1 on. Before it all rows are 0, and so are all classes.
@@ -70,6 +71,7 @@ fn settle_lines(
     let mut since = [0usize; 32];
     let mut before = [0u32; 1024];
     let mut stage = 0;
+    // A loop: it ends at the stage that is settled, which no number says beforehand.
     loop {
         let next = stage_rows(sense, sheet, card, norms, lines, &rows, &classes, forms);
         classes = line_classes(sheet, card, lines, &next, &classes, forms);

@@ -1,14 +1,13 @@
 -- The loops that mark the classes of the lines of each kind, that add such marks, and that compare them.
 -- Assumes nothing.
-use mathlib.Core.Bool.{Bool, true, false, not, beq}
+use mathlib.Core.Bool.{Bool, true, false}
 use mathlib.Core.List.{List}
-use mathlib.Core.Logic.{◌↔◌, ◌⊎◌, inl, inr, ⊎_elim}
+use mathlib.Core.Logic.{◌↔◌, ◌⊎◌, inl, ⊎_elim}
 use mathlib.Core.Path.{◌≡◌, refl, sym, subst, ap, ◌∙◌}
-use Prim.Native.Nat.{ℕ, ◌+◌, ◌*◌, ◌-◌, ◌≤◌, ◌<◌}
+use Prim.Native.Nat.{ℕ, ◌+◌, ◌*◌, ◌≤◌, ◌<◌}
 use native.Mathlib.Decide.{ℕ_discrete, dec_lt}
-use native.Mathlib.Nat.{add-sub_cancel_left}
 use native.Mathlib.Omega.{arith}
-use lib.ListN.{length, get_or, set, take, drop, replicate, length-set, length-take, length-drop, length-replicate, get_or-eq_default}
+use lib.ListN.{length, get_or, set, drop, replicate, length-set, length-take, length-drop, length-replicate, get_or-eq_default}
 use lib.Seq.{get_or-set_same, get_or-set_other, get_or-take, get_or-drop, length-take-le, ext_get_or}
 use Rattle.model.specs.Field.{Field, unit, at}
 use Rattle.model.specs.Limits.{most_kinds, most_lines}
@@ -17,7 +16,7 @@ use Rattle.theory.proofs.Done.{none_done}
 use Rattle.tables.specs.Table.{Under}
 use Rattle.tables.specs.Lines.{lines_in, kind_in}
 use Rattle.tables.specs.Class.{MayUse, AlikeIn, MarksTell, marks_part, KindMarks}
-use Rattle.tables.proofs.Tables.{tells_same, tells_other, past, unit_here}
+use Rattle.tables.proofs.Tables.{past, unit_here}
 use Rattle.tables.proofs.Answers.{not_both}
 
 -- No mark stands past the end of a list, and none in a list that has none.
@@ -34,10 +33,7 @@ marks_at marks k x h = get_or-take most_lines (drop (k * most_lines) marks) x fa
 marks_past : (marks : List Bool) (k x : ℕ) → most_lines ≤ x → get_or (marks_part marks k) x false ≡ true → ⊥
 marks_past marks k x h = past_mark (marks_part marks k) x (omega (arith, length-take most_lines (drop (k * most_lines) marks)))
 
--- The part of a table from row k to the next is the row, and a row has 256 marks.
-pub marks_part_lem : (marks : List Bool) (k : ℕ) → take (k * most_lines + most_lines - k * most_lines) (drop (k * most_lines) marks) ≡ marks_part marks k
-marks_part_lem marks k = rw (add-sub_cancel_left (k * most_lines) most_lines)
-
+-- A row has 256 marks.
 pub marks_long : {xs : List Bool} (marks : List Bool) (k : ℕ) → k * most_lines + most_lines ≤ length marks → xs ≡ marks_part marks k → length xs ≡ most_lines
 marks_long marks k l e = rw e (length-take-le most_lines (drop (k * most_lines) marks) (omega (arith, length-drop (k * most_lines) marks)))
 
@@ -119,46 +115,6 @@ pub marks_added_none : {old more : List Bool} → length more ≤ length old →
 marks_added_none r =
     record { within = omega arith; room = r; kept = refl; tells = λ x. (λ e. inl e, λ w. ⊎_elim (λ e. e) (λ u. absurd (omega (arith, u.0))) w) }
 
-module _ {old more : List Bool} {i : ℕ} {sum : List Bool} (h : MarksAdded old more i sum) (l : i < length more) where
-  wider : {x : ℕ} → get_or sum x false ≡ true → (get_or old x false ≡ true) ⊎ ((x < i + 1) × (get_or more x false ≡ true))
-  wider {x} e = ⊎_elim (λ o. inl o) (λ u. inr (omega (arith, u.0), u.1)) ((h.tells x).0 e)
-
-  narrower : {x : ℕ} → ¬ (x ≡ i) → (get_or old x false ≡ true) ⊎ ((x < i + 1) × (get_or more x false ≡ true)) → get_or sum x false ≡ true
-  narrower {x} d w = ⊎_elim (λ o. (h.tells x).1 (inl o)) (λ u. (h.tells x).1 (inr (omega (arith, u.0), u.1))) w
-
-  pub marks_added_more : {m : Bool} → (m ≡ true) ↔ ((get_or sum i false ≡ true) ⊎ (get_or more i false ≡ true)) → MarksAdded old more (i + 1) (set sum i m)
-  marks_added_more {m} a =
-      record { within = omega arith; room = h.room; kept = length-set sum i m ∙ h.kept; tells = λ x. go x (ℕ_discrete x i) }
-    where
-      here : get_or (set sum i m) i false ≡ m
-      here = get_or-set_same sum i m false (omega (arith, h.room, h.kept))
-
-      go : (x : ℕ) → Dec (x ≡ i) → (get_or (set sum i m) x false ≡ true) ↔ ((get_or old x false ≡ true) ⊎ ((x < i + 1) × (get_or more x false ≡ true)))
-      go x (yes e) =
-          let s : get_or (set sum i m) x false ≡ m = rw e here in (
-            λ t. ⊎_elim (λ u. wider (rw e u)) (λ u. inr (omega arith, rw e u)) (a.0 (sym s ∙ t)),
-            λ w. s ∙ a.1 (⊎_elim (λ o. inl ((h.tells i).1 (inl (rw e at o)))) (λ u. inr (rw e at u.1)) w),
-          )
-      go x (no d) = (λ e. wider (sym (get_or-set_other sum i x m false d) ∙ e), λ w. get_or-set_other sum i x m false d ∙ narrower d w)
-
--- A mark with another added to it.
-pub mark_added : {a b : Bool} → b ≡ true → (true ≡ true) ↔ ((a ≡ true) ⊎ (b ≡ true))
-mark_added e = tells_same (inr e)
-
-pub mark_kept : {a b : Bool} → b ≡ false → (a ≡ true) ↔ ((a ≡ true) ⊎ (b ≡ true))
-mark_kept e = (λ t. inl t, λ w. ⊎_elim (λ t. t) (λ t. absurd (not_both e t)) w)
-
-pub marks_added_all : {old more : List Bool} {i : ℕ} {sum : List Bool} → MarksAdded old more i sum → length more ≤ i
-    → (x : ℕ) → (get_or sum x false ≡ true) ↔ ((get_or old x false ≡ true) ⊎ (get_or more x false ≡ true))
-marks_added_all {more = more} {i = i} h l x = (
-  λ e. ⊎_elim (λ o. inl o) (λ u. inr u.1) ((h.tells x).0 e),
-  λ w. (h.tells x).1 (⊎_elim (λ o. inl o) (λ m. inr (go m (dec_lt x i), m)) w),
-)
-  where
-    go : get_or more x false ≡ true → Dec (x < i) → x < i
-    go m (yes p) = p
-    go m (no p) = absurd (past_mark more x (omega arith) m)
-
 -- Class x is marked for one of the first k kinds, of which the field has some.
 abbrev pub MarkedFor : List Bool → Field → ℕ → ℕ → Type 0
 MarkedFor marks f k x = (j : ℕ) × (j < k) × (0 < f j) × (get_or (marks_part marks j) x false ≡ true)
@@ -175,33 +131,6 @@ field_marked_none f =
     record { few = f; within = omega arith; size = refl; tells = λ x. (λ e. absurd (no_mark most_lines x e), λ w. absurd (omega (arith, w.1))) }
 
 module _ {marks : List Bool} {field : List ℕ} {k : ℕ} {sum : List Bool} (h : FieldMarked marks field k sum) where
-  more_kinds : (x : ℕ) → MarkedFor marks (at field) k x → MarkedFor marks (at field) (k + 1) x
-  more_kinds x w = (w.0, omega (arith, w.1), w.2, w.3)
-
-  fewer_kinds : (x : ℕ) (w : MarkedFor marks (at field) (k + 1) x) → ¬ (w.0 ≡ k) → MarkedFor marks (at field) k x
-  fewer_kinds x w d = (w.0, omega (arith, w.1), w.2, w.3)
-
-  pub field_marked_some : {row new : List Bool} → k < length field → 0 < at field k → row ≡ marks_part marks k → length new ≡ length sum
-      → ((x : ℕ) → (get_or new x false ≡ true) ↔ ((get_or sum x false ≡ true) ⊎ (get_or row x false ≡ true))) → FieldMarked marks field (k + 1) new
-  field_marked_some {row} {new} l p r s a =
-      record { few = h.few; within = omega arith; size = s ∙ h.size; tells = λ x. (λ e. there x ((a x).0 e), λ w. back x w (ℕ_discrete w.0 k)) }
-    where
-      there : (x : ℕ) → (get_or sum x false ≡ true) ⊎ (get_or row x false ≡ true) → MarkedFor marks (at field) (k + 1) x
-      there x w = ⊎_elim (λ e. more_kinds x ((h.tells x).0 e)) (λ e. (k, omega arith, p, ap (λ (xs : List Bool). get_or xs x false) (sym r) ∙ e)) w
-
-      back : (x : ℕ) (w : MarkedFor marks (at field) (k + 1) x) → Dec (w.0 ≡ k) → get_or new x false ≡ true
-      back x w (yes e) = (a x).1 (inr (ap (λ (xs : List Bool). get_or xs x false) r ∙ ap (λ (j : ℕ). get_or (marks_part marks j) x false) (sym e) ∙ w.3))
-      back x w (no d) = (a x).1 (inl ((h.tells x).1 (fewer_kinds x w d)))
-
-  pub field_marked_skip : k < length field → at field k ≤ 0 → FieldMarked marks field (k + 1) sum
-  field_marked_skip l p =
-      record {
-        few = h.few;
-        within = omega arith;
-        size = h.size;
-        tells = λ x. (λ e. more_kinds x ((h.tells x).0 e), λ w. (h.tells x).1 (fewer_kinds x w (λ q. omega (arith, w.2, ap (at field) q))));
-      }
-
   pub field_marked_all : length field ≤ k → (lines classes : List ℕ) → KindMarks lines classes marks → MarksTell (kind_in lines) (at classes) (at field) (lines_in lines) sum
   field_marked_all l lines classes K x = (λ e. there ((h.tells x).0 e), λ u. (h.tells x).1 (back u))
     where
@@ -217,37 +146,6 @@ module _ {marks : List Bool} {field : List ℕ} {k : ℕ} {sum : List Bool} (h :
           go (yes p) =
               (kind_in lines u.0, p, u.2, (K.tells (kind_in lines u.0) (omega (arith, h.within, h.few)) x).1 (u.0, u.1, omega (arith, unit_here (kind_in lines u.0) (kind_in lines u.0) refl), u.3))
           go (no p) = absurd (omega (arith, u.2, past field (kind_in lines u.0) (omega arith)))
-
--- Two lists of marks are compared below i.
-pub record Compared (a b : List Bool) (same : Bool) (i : ℕ) : Type 0 where
-  pub within : i ≤ length a
-  pub lengths : length a ≡ length b
-  pub tells : (same ≡ true) ↔ ((x : ℕ) → x < i → get_or a x false ≡ get_or b x false)
-
-pub compared_none : {a b : List Bool} → length a ≡ length b → Compared a b true 0
-compared_none e = record { within = omega arith; lengths = e; tells = tells_same (λ x l. absurd (omega arith)) }
-
-module _ {a b : List Bool} {same : Bool} {i : ℕ} (h : Compared a b same i) where
-  pub compared_other : i < length a → (get_or a i false ≡ get_or b i false → ⊥) → Compared a b false (i + 1)
-  compared_other l d = record { within = omega arith; lengths = h.lengths; tells = tells_other (λ f. d (f i (omega arith))) }
-
-  pub compared_same : i < length a → get_or a i false ≡ get_or b i false → Compared a b same (i + 1)
-  compared_same l e =
-      record { within = omega arith; lengths = h.lengths; tells = (λ t x p. go t x p (ℕ_discrete x i), λ f. h.tells.1 (λ x p. f x (omega arith))) }
-    where
-      go : same ≡ true → (x : ℕ) → x < i + 1 → Dec (x ≡ i) → get_or a x false ≡ get_or b x false
-      go t x p (yes q) = rw q e
-      go t x p (no q) = h.tells.0 t x (omega arith)
-
-  pub compared_all : length a ≤ i → (same ≡ true) ↔ (a ≡ b)
-  compared_all l = (
-    λ t. ext_get_or false a b h.lengths (λ x p. h.tells.0 t x (omega arith)),
-    λ e. h.tells.1 (λ x _. ap (λ (xs : List Bool). get_or xs x false) e),
-  )
-
--- A difference of lengths.
-pub lengths_differ : {a b : List Bool} → (length a ≡ length b → ⊥) → (false ≡ true) ↔ (a ≡ b)
-lengths_differ d = tells_other (λ e. d (ap length e))
 
 -- Marks of two fields are the same just when the fields may use lines of the same classes.
 marks_tell : {a b : List Bool} {P Q : ℕ → Type 0} → length a ≡ length b → ((x : ℕ) → (get_or a x false ≡ true) ↔ P x) → ((x : ℕ) → (get_or b x false ≡ true) ↔ Q x)
@@ -277,16 +175,3 @@ uses_tell {own = own} {other = other} {marks = marks} {lines = lines} {classes =
 
     m : (own ≡ other) ↔ AlikeIn lines classes (unit k) f
     m = marks_tell (marks_long marks k (omega (arith, K.long)) e ∙ sym long) own_tell p
-
--- What a comparison of two marks says.
-pub marks_other : (s t : Bool) → not (beq s t) ≡ true → s ≡ t → ⊥
-marks_other true true e _ = let z : ◌≡◌ {A = ℕ} 0 1 = cc in omega arith
-marks_other true false _ e = let z : ◌≡◌ {A = ℕ} 0 1 = cc in omega arith
-marks_other false true _ e = let z : ◌≡◌ {A = ℕ} 0 1 = cc in omega arith
-marks_other false false e _ = let z : ◌≡◌ {A = ℕ} 0 1 = cc in omega arith
-
-pub marks_same : (s t : Bool) → not (beq s t) ≡ false → s ≡ t
-marks_same true true e = refl
-marks_same true false e = let z : ◌≡◌ {A = ℕ} 0 1 = cc in absurd (omega arith)
-marks_same false true e = let z : ◌≡◌ {A = ℕ} 0 1 = cc in absurd (omega arith)
-marks_same false false e = refl

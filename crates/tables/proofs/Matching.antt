@@ -116,15 +116,7 @@ module _ {M : ℕ → ℕ → Type 0} where
       go x b (yes e) = subst (λ (y : ℕ). M y j → ⊥) (sym e) d
       go x b (no n) = h.none x (omega arith)
 
-  -- The first line that matches is the class.
-  pub least_here : {j i : ℕ} → NoneBefore M j i → M i j → LeastMatch M j i
-  least_here h m = record { within = h.within; matches = m; least = h.none }
-
 module _ {M : ℕ → ℕ → Type 0} (E : Equivalence M) where
-  -- Line j itself is the class, if no line before matches.
-  pub least_self : {j i : ℕ} → NoneBefore M j i → j ≤ i → LeastMatch M j j
-  least_self {j} {i} h l = record { within = omega arith; matches = E.itself j; least = λ x b. h.none x (omega (arith, h.within)) }
-
   -- Two lines have one class just when they match.
   pub least_tells : {i j r s : ℕ} → LeastMatch M i r → LeastMatch M j s → (r ≡ s) ↔ M i j
   least_tells {i} {j} {r} {s} p q = (there, λ m. go m (dec_lt r s) (dec_lt s r))
@@ -157,6 +149,3 @@ module _ {M : ℕ → ℕ → Type 0} {n j : ℕ} {numbers : List ℕ} (h : Numb
 
   pub numbered_tells : Equivalence M → n ≤ j → TellsMatch M n numbers
   numbered_tells E l i k a b = least_tells E (h.classes i (omega arith)) (h.classes k (omega arith))
-
-  pub numbered_bounds : n ≤ j → Bounds M n numbers
-  numbered_bounds l i a = let m = h.classes i (omega arith) in record { within = m.within; none = m.least }

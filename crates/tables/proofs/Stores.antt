@@ -4,10 +4,9 @@ use mathlib.Core.List.{List, ◌++◌}
 use mathlib.Core.Path.{◌≡◌, sym, subst, ap, ◌∙◌}
 use Prim.Native.Nat.{ℕ, ◌+◌, ◌*◌, ◌-◌, ◌≤◌, ◌<◌}
 use native.Mathlib.Decide.{dec_lt}
-use native.Mathlib.Numerals.{add-one}
 use native.Mathlib.Omega.{arith}
-use lib.ListN.{length, get_or, set, take, drop, get_or-append, length-append}
-use lib.Seq.{get_or-take, get_or-drop, get_or-append-add, length-take-le, paste, paste-zero, paste-suc, length-paste, take-length}
+use lib.ListN.{length, get_or, take, drop, get_or-append, length-append}
+use lib.Seq.{get_or-take, get_or-drop, get_or-append-add, length-take-le}
 use Rattle.model.specs.Field.{at}
 use Rattle.model.specs.Limits.{most_kinds}
 use Rattle.tables.specs.Table.{row_in, with_row}
@@ -58,23 +57,3 @@ module _ (t r : List ℕ) (k : ℕ) (wide : length r ≡ most_kinds) (fits : k *
       go : (j : ℕ) → j < most_kinds → Dec (i < k) → at (with_row t k r) (i * most_kinds + j) ≡ at t (i * most_kinds + j)
       go j l (yes b) = replaced_before t r (k * most_kinds) inside (i * most_kinds + j) (omega arith)
       go j l (no b) = replaced_after t r (k * most_kinds) inside (i * most_kinds + j) (omega arith)
-
--- The first i counts of a row are copied to a table, from an index on.
-pub record Copied (old row rows : List ℕ) (start i : ℕ) : Type 0 where
-  pub within : i ≤ length row
-  pub fits : start + length row ≤ length old
-  pub copy : rows ≡ paste old start row i
-
-pub copied_none : {old row : List ℕ} {start : ℕ} → start + length row ≤ length old → Copied old row old start 0
-copied_none {old} {row} {start} f = record { within = omega arith; fits = f; copy = paste-zero old start row }
-
-module _ {old row rows : List ℕ} {start i : ℕ} (h : Copied old row rows start i) where
-  pub copied_more : i < length row → Copied old row (set rows (start + i) (at row i)) start (i + 1)
-  copied_more l =
-      record { within = omega arith; fits = h.fits; copy = rw (h.copy, add-one) (paste-suc old start row i 0 (omega (arith, h.fits)) l) }
-
-  pub copied_length : length rows ≡ length old
-  copied_length = rw h.copy (length-paste old start row i (omega (arith, h.fits, h.within)) h.within)
-
-  pub copied_all : length row ≤ i → rows ≡ take start old ++ row ++ drop (start + length row) old
-  copied_all l = let e : i ≡ length row = omega (arith, h.within) in rw (h.copy, e, take-length)

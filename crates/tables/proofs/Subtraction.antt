@@ -1,17 +1,16 @@
 -- The loop that finds a candidate for a row: what one line leaves, with a token of another's kind, less what that other leaves.
 -- Assumes nothing.
-use mathlib.Core.Bool.{Bool, true, false}
+use mathlib.Core.Bool.{true, false}
 use mathlib.Core.List.{List}
-use mathlib.Core.Path.{◌≡◌, refl, ◌∙◌, fun_ext}
+use mathlib.Core.Path.{◌≡◌, refl, fun_ext}
 use Prim.Native.Nat.{ℕ, ◌+◌, ◌^◌, ◌≤◌, ◌<◌}
-use native.Mathlib.Decide.{ℕ_discrete}
 use native.Mathlib.Omega.{arith}
-use lib.ListN.{length, set, replicate, length-set}
-use lib.Seq.{get_or-set_same, get_or-set_other}
+use lib.ListN.{length, replicate}
+use Rattle.std.specs.Prelude.{Option}
 use Rattle.model.specs.Field.{Field, ◌⊕◌, unit, at}
 use Rattle.model.specs.Limits.{most_kinds}
 use Rattle.theory.proofs.Field.{unit_other}
-use Rattle.tables.specs.Table.{row_part, row_in, IsCandidate}
+use Rattle.tables.specs.Table.{row_part, row_in, IsCandidate, CandidateIs}
 use Rattle.tables.proofs.Tables.{at_kind, Agree, agree_none, agree_all, past, zero_counts, lent_row}
 
 -- The counts below i are those of the second side less m's, and no others are set.
@@ -26,19 +25,6 @@ subtracted_none {l} {m} {kind} h =
     record { within = omega arith; wide = h; agree = agree_none; rest = λ j _. zero_counts most_kinds j }
 
 module _ {l m : List ℕ} {kind : ℕ} {counts : List ℕ} {i : ℕ} (h : Subtracted l m kind counts i) where
-  pub subtracted_more : (v : ℕ) → v + at m i ≡ unit kind i + at l i → i < length l → Subtracted l m kind (set counts i v) (i + 1)
-  subtracted_more v e q =
-      record {
-        within = omega arith;
-        wide = simp length-set h.wide;
-        agree = record { same = λ j b. go j b (ℕ_discrete j i) };
-        rest = λ j b. get_or-set_other counts i j v 0 (λ p. omega arith) ∙ h.rest j (omega arith);
-      }
-    where
-      go : (j : ℕ) → j < i + 1 → Dec (j ≡ i) → at (set counts i v) j + at m j ≡ unit kind j + at l j
-      go j b (yes p) = rw (p, get_or-set_same counts i v 0 (omega (arith, h.wide))) e
-      go j b (no p) = rw (get_or-set_other counts i j v 0 p) (h.agree.same j (omega arith))
-
   pub subtracted_all : length l ≤ i → length m ≤ i → kind < i → IsCandidate (at l) (at m) kind true counts
   subtracted_all p q r =
       record {
@@ -60,6 +46,6 @@ subtracted_not i h =
     }
 
 -- The candidate of the rows that hold two lines' forms.
-pub told_candidate : {own other : List ℕ} {kind : ℕ} {found : Bool} {counts : List ℕ} (forms : List ℕ) (l m : ℕ) → own ≡ row_part forms l → other ≡ row_part forms m
-    → IsCandidate (at own) (at other) kind found counts → IsCandidate (row_in forms l) (row_in forms m) kind found counts
-told_candidate forms l m p q C = rw (lent_row forms l p, lent_row forms m q) at C
+pub told_candidate : {own other : List ℕ} (forms : List ℕ) (l m kind : ℕ) (told : Option (List ℕ)) → own ≡ row_part forms l → other ≡ row_part forms m
+    → CandidateIs (at own) (at other) kind told → CandidateIs (row_in forms l) (row_in forms m) kind told
+told_candidate forms l m kind told p q C = rw (lent_row forms l p, lent_row forms m q) at C

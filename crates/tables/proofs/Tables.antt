@@ -1,16 +1,21 @@
 -- Laws over plain lists of counts, of any length, read as fields. The record of a loop is its invariant after i turns; its laws are the loop's begin, one turn, and end.
 -- Assumes nothing.
-use mathlib.Core.Bool.{Bool, true, false}
+use mathlib.Core.Bool.{Bool, true, false, beq}
 use mathlib.Core.List.{List}
 use mathlib.Core.Logic.{◌↔◌}
 use mathlib.Core.Path.{◌≡◌, refl, sym, ap, ◌∙◌, fun_ext}
 use Prim.Native.Nat.{ℕ, zero, suc, ◌+◌, ◌*◌, ◌-◌, ◌≤◌, ◌<◌}
 use native.Mathlib.Decide.{ℕ_discrete, dec_lt}
-use native.Mathlib.Nat.{mul-zero, zero-mul, add-sub_cancel_left}
+use native.Mathlib.Nat.{mul-zero, add-sub_cancel_left}
 use native.Mathlib.Numerals.{add-one}
 use native.Mathlib.Omega.{arith}
+use lib.Dec.{eqb}
+use lib.Pointwise.{pointwise}
+use Rattle.std.specs.Cmp.{booleans_Decides}
+use Rattle.std.proofs.lemmas.Bool.Decides.{Decides-eqb}
+use Rattle.std.proofs.lemmas.Slice.Eq.{slice_eq-Decides}
 use lib.ListN.{length, set, take, drop, replicate, get_or-eq_default, length-take, length-drop, length-set, length-replicate, get_or-replicate}
-use lib.Seq.{get_or-set_same, get_or-set_other, get_or-take, get_or-drop, length-take-le, take_all}
+use lib.Seq.{get_or-set_same, get_or-set_other, get_or-take, get_or-drop, length-take-le, take_all, ext_get_or}
 use Rattle.model.specs.Field.{Field, none, ◌⊕◌, times, unit, at, weigh}
 use Rattle.model.specs.Limits.{most_kinds}
 use Rattle.theory.proofs.Field.{unit_same, unit_other, weigh_next, weigh_weights}
@@ -34,6 +39,18 @@ first_next xs i j h = go (dec_lt j i)
     go : Dec (j < i) → at (take (i + 1) xs) j ≡ at (take i xs) j
     go (yes l) = first_below xs (i + 1) j (omega arith) ∙ sym (first_below xs i j l)
     go (no l) = first_past xs (i + 1) j (omega arith) ∙ sym (first_past xs i j (omega arith))
+
+-- Past its end a list has no counts.
+pub past : (xs : List ℕ) (j : ℕ) → length xs ≤ j → at xs j ≡ 0
+past xs j l = get_or-eq_default xs 0 l
+
+-- No count is set.
+pub zero_counts : (n j : ℕ) → at (replicate n 0) j ≡ 0
+zero_counts n j = go (dec_lt j n)
+  where
+    go : Dec (j < n) → at (replicate n 0) j ≡ 0
+    go (yes l) = get_or-replicate n j 0 0 l
+    go (no l) = past (replicate n 0) j (omega (arith, length-replicate {A = ℕ} n 0))
 
 -- Count times the first i counts of a row are added to the sum.
 pub record Added (count : ℕ) (old sum row : List ℕ) (i : ℕ) : Type 0 where
@@ -68,9 +85,6 @@ module _ {count : ℕ} {old sum row : List ℕ} {i : ℕ} (h : Added count old s
   pub added_bound : {bound : ℕ} → ((j : ℕ) → at old j + count * at row j < bound) → (x : ℕ) → x ≡ at row i → at sum i + count * x < bound
   added_bound f x e = rw (added_here, e) (f i)
 
-pub added_zero : {count : ℕ} (sum row : List ℕ) → count ≡ 0 → at sum ≡ at sum ⊕ times count (at row)
-added_zero sum row e = fun_ext (λ j. rw e (omega (arith, zero-mul (at row j))))
-
 -- Count tokens of a kind are added.
 pub added_tokens : (count : ℕ) (sum : List ℕ) (k : ℕ) → k < length sum → at (set sum k (at sum k + count)) ≡ at sum ⊕ times count (unit k)
 added_tokens count sum k l = fun_ext (λ j. go j (ℕ_discrete j k))
@@ -78,31 +92,6 @@ added_tokens count sum k l = fun_ext (λ j. go j (ℕ_discrete j k))
     go : (j : ℕ) → Dec (j ≡ k) → at (set sum k (at sum k + count)) j ≡ at sum j + count * unit k j
     go j (yes p) = rw (p, get_or-set_same sum k (at sum k + count) 0 l, unit_same k) (omega arith)
     go j (no p) = rw (get_or-set_other sum k j (at sum k + count) 0 p, unit_other k j p) (omega arith)
-
--- The first i counts are 0.
-pub record Cleared (old xs : List ℕ) (i : ℕ) : Type 0 where
-  pub within : i ≤ length xs
-  pub kept : length xs ≡ length old
-  pub zeros : (j : ℕ) → j < i → at xs j ≡ 0
-
-pub cleared_none : {xs : List ℕ} → Cleared xs xs 0
-cleared_none = record { within = omega arith; kept = refl; zeros = λ j b. absurd (omega arith) }
-
-module _ {old xs : List ℕ} {i : ℕ} (h : Cleared old xs i) where
-  pub cleared_more : i < length xs → Cleared old (set xs i 0) (i + 1)
-  cleared_more l =
-      record { within = simp length-set (omega arith); kept = length-set xs i 0 ∙ h.kept; zeros = λ j b. go j b (ℕ_discrete j i) }
-    where
-      go : (j : ℕ) → j < i + 1 → Dec (j ≡ i) → at (set xs i 0) j ≡ 0
-      go j b (yes p) = rw (p, get_or-set_same xs i 0 0 l)
-      go j b (no p) = get_or-set_other xs i j 0 0 p ∙ h.zeros j (omega arith)
-
-  pub cleared_all : length xs ≤ i → at xs ≡ none
-  cleared_all l = fun_ext (λ j. go j (dec_lt j i))
-    where
-      go : (j : ℕ) → Dec (j < i) → at xs j ≡ 0
-      go j (yes p) = h.zeros j p
-      go j (no p) = get_or-eq_default xs 0 (omega arith)
 
 -- A count of a row is one of the table's.
 pub row_at : (t : List ℕ) (k j : ℕ) → j < most_kinds → row_in t k j ≡ at t (k * most_kinds + j)
@@ -143,23 +132,27 @@ lent_under {xs} {bound} t k e f j = go (dec_lt j most_kinds)
     go (yes l) = rw (at_kind (lent_row t k e) j, row_at t k j l) (f (k * most_kinds + j))
     go (no l) = rw (at_kind (lent_row t k e) j, row_past t k j (omega arith)) (omega (arith, f 0))
 
--- Count times row k are added, where there is no count, where the row is the kind itself, and by the row as a list.
-pub row_added_none : {count : ℕ} (sum rows : List ℕ) (k : ℕ) → count ≡ 0 → at sum ≡ at sum ⊕ times count (row_in rows k)
-unfolding row_in
-row_added_none sum rows k e = added_zero sum (row_part rows k) e
-
+-- Count times row k are added, where the row is the kind itself, and by the row as a list.
 module _ (count : ℕ) (sum rows : List ℕ) (k : ℕ) (one : row_in rows k k ≡ 1) where
   pub row_added_atom : (row_in rows k k ≡ 1 → row_in rows k ≡ unit k) → k < length sum → at (set sum k (at sum k + count)) ≡ at sum ⊕ times count (row_in rows k)
   row_added_atom atom room = rw (atom one) (added_tokens count sum k room)
-
-  pub atom_bound : {bound : ℕ} → ((j : ℕ) → at sum j + count * row_in rows k j < bound) → at sum k + count < bound
-  atom_bound f = omega (arith, rw one at (f k))
 
 pub row_bound : {row : List ℕ} {bound : ℕ} (count : ℕ) (sum rows : List ℕ) (k : ℕ) → row ≡ row_part rows k → ((j : ℕ) → at sum j + count * row_in rows k j < bound) → (j : ℕ) → at sum j + count * at row j < bound
 row_bound count sum rows k r f j = rw (at_kind (lent_row rows k r) j) (f j)
 
 pub row_added : {row : List ℕ} (count : ℕ) (sum new rows : List ℕ) (k : ℕ) → row ≡ row_part rows k → at new ≡ at sum ⊕ times count (at row) → at new ≡ at sum ⊕ times count (row_in rows k)
 row_added count sum new rows k r e = rw (← lent_row rows k r) e
+
+-- Two lists of one length with the same counts are the same.
+pub same_list : (xs ys : List ℕ) → length ys ≡ length xs → at xs ≡ at ys → xs ≡ ys
+same_list xs ys l e = ext_get_or 0 xs ys (sym l) (λ j _. at_kind e j)
+
+-- What `==` answers of two slices of counts of one length, as fields; and of two slices of marks.
+pub counts_equal : (xs ys : List ℕ) (r : Bool) → length ys ≡ length xs → r ≡ pointwise eqb xs ys → (r ≡ true) ↔ (at xs ≡ at ys)
+counts_equal xs ys r l e = let t = slice_eq-Decides Decides-eqb xs ys r e in (λ y. ap at (t.0 y), λ s. t.1 (same_list xs ys l s))
+
+pub marks_equal : (xs ys : List Bool) (r : Bool) → r ≡ pointwise beq xs ys → (r ≡ true) ↔ (xs ≡ ys)
+marks_equal xs ys r e = slice_eq-Decides booleans_Decides xs ys r e
 
 -- A sum over fewer kinds is at most the sum over all.
 pub weigh_fewer : (k n : ℕ) (w : ℕ → ℕ) (a : Field) → k ≤ n → weigh k w a ≤ weigh n w a
@@ -178,9 +171,9 @@ pub record Formed (counts rows old out : List ℕ) (k : ℕ) : Type 0 where
   pub kept : length out ≡ length old
   pub total : at out ≡ form_in k rows (at counts)
 
-pub formed_none : {counts rows out : List ℕ} → length counts * most_kinds ≤ length rows → most_kinds ≤ length out → at out ≡ none → Formed counts rows out out 0
+pub formed_none : (n : ℕ) {counts rows out : List ℕ} → length counts * most_kinds ≤ length rows → most_kinds ≤ length out → out ≡ replicate n 0 → Formed counts rows out out 0
 unfolding form_in weigh
-formed_none f r e = record { fits = f; room = r; within = omega arith; kept = refl; total = e }
+formed_none n f r e = record { fits = f; room = r; within = omega arith; kept = refl; total = fun_ext (λ j. rw e (zero_counts n j)) }
 
 module _ {counts rows old out : List ℕ} {k : ℕ} (h : Formed counts rows old out k) where
   pub formed_fits : k < length counts → k * most_kinds + most_kinds ≤ length rows
@@ -204,9 +197,6 @@ module _ {counts rows old out : List ℕ} {k : ℕ} (h : Formed counts rows old 
       → Formed counts rows old new (k + 1)
   formed_more r x e l s t =
       record { fits = h.fits; room = h.room; within = omega arith; kept = s ∙ h.kept; total = t ∙ fun_ext (formed_next r x e) }
-
-  pub formed_all : length counts ≤ k → at out ≡ form_in (length counts) rows (at counts)
-  formed_all l = let e : k ≡ length counts = omega (arith, h.within) in rw e at h.total
 
 -- Two fields agree on the kinds below i.
 pub record Agree (a b : Field) (i : ℕ) : Type 0 where
@@ -247,21 +237,9 @@ given_some a t = ((λ e _. t.0 e), λ f. t.1 (f a))
 pub differ : {a b : Field} (i : ℕ) → (a i ≡ b i → ⊥) → (false ≡ true) ↔ (a ≡ b)
 differ i h = tells_other (λ e. h (at_kind e i))
 
--- Past its end a list has no counts.
-pub past : (xs : List ℕ) (j : ℕ) → length xs ≤ j → at xs j ≡ 0
-past xs j l = get_or-eq_default xs 0 l
-
 -- One token of a kind has one of that kind.
 pub unit_here : (k j : ℕ) → j ≡ k → unit k j ≡ 1
 unit_here k j e = rw e (unit_same k)
-
--- No count is set.
-pub zero_counts : (n j : ℕ) → at (replicate n 0) j ≡ 0
-zero_counts n j = go (dec_lt j n)
-  where
-    go : Dec (j < n) → at (replicate n 0) j ≡ 0
-    go (yes l) = get_or-replicate n j 0 0 l
-    go (no l) = past (replicate n 0) j (omega (arith, length-replicate {A = ℕ} n 0))
 
 pub zero_under : {bound : ℕ} (n : ℕ) → 0 < bound → Under bound (replicate n 0)
 zero_under n p j = rw (zero_counts n j) p

@@ -61,6 +61,16 @@ pub record MatchTables (lines rows forms : List ℕ) : Type 0 where
 abbrev pub MatchIn : List ℕ → List ℕ → List ℕ → ℕ → ℕ → Type 0
 MatchIn lines rows forms = Match (kind_in lines) (code_in lines) (row_in rows) (row_in forms)
 
+-- What the lines do, as one value: the lines, a row for each kind, and for each line the form of what it leaves.
+pub record LineEffects : Type 0 where
+  pub lines : List ℕ
+  pub rows : List ℕ
+  pub forms : List ℕ
+
+-- Two lines match by what the lines do.
+abbrev pub MatchBy : LineEffects → ℕ → ℕ → Type 0
+MatchBy e = MatchIn e.lines e.rows e.forms
+
 -- A line of the table that lowers the norm and that the field may use.
 abbrev pub UsableIn : List ℕ → Field → ℕ → Type 0
 UsableIn lines = Usable (LoweringIn lines) (kind_in lines)

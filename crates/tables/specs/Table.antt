@@ -1,5 +1,5 @@
 -- Flat tables of counts, 32 to a row, read as fields: the rows of a base, and the forms of what the lines leave.
-use Rattle.std.specs.Prelude.{Bool, true, false, List, ◌++◌, ◌↔◌, ◌≡◌, ℕ, ◌+◌, ◌*◌, ◌^◌, ◌≤◌, ◌<◌, length, get_or, take, drop, replicate}
+use Rattle.std.specs.Prelude.{Bool, true, false, List, ◌++◌, ◌↔◌, ◌≡◌, ℕ, ◌+◌, ◌*◌, ◌^◌, ◌≤◌, ◌<◌, length, get_or, take, drop, replicate, Option, Some, None}
 use Rattle.model.specs.Field.{Field, ◌⊕◌, unit, at, weigh}
 use Rattle.model.specs.Limits.{most_kinds}
 use Rattle.model.specs.Base.{earlier}
@@ -9,7 +9,7 @@ abbrev pub Under : ℕ → List ℕ → Type 0
 Under bound xs = (j : ℕ) → at xs j < bound
 
 -- Row k of a flat table, as a list and as a field: "rows at kind times 32".
-abbrev pub row_part : List ℕ → ℕ → List ℕ
+abbrev pub row_part : {A : Type 0} → List A → ℕ → List A
 row_part t k = take most_kinds (drop (k * most_kinds) t)
 
 unfoldable pub row_in : List ℕ → ℕ → Field
@@ -34,6 +34,11 @@ pub record IsCandidate (l m : Field) (kind : ℕ) (found : Bool) (counts : List 
   pub only : (b : Field) → ((j : ℕ) → b j < 2 ^ 32) → b ⊕ m ≡ unit kind ⊕ l → (found ≡ true) × (b ≡ at counts)
   pub empty : found ≡ false → counts ≡ replicate most_kinds 0
 
+-- What is told of a candidate: its counts, where there is one.
+abbrev pub CandidateIs : Field → Field → ℕ → Option (List ℕ) → Type 0
+CandidateIs l m kind (Some counts) = IsCandidate l m kind true counts
+CandidateIs l m kind None = IsCandidate l m kind false (replicate most_kinds 0)
+
 -- Whether a kind is done.
 abbrev pub is_done : List Bool → ℕ → Bool
 is_done done k = get_or done k false
@@ -49,3 +54,8 @@ pub record Earliest (w : Field) (done : List Bool) (n m r : ℕ) : Type 0 where
   pub all_done : r ≡ n → (k : ℕ) → k < m → is_done done k ≡ true
   pub here : r < n → (r < m) × (is_done done r ≡ false)
   pub first : r < n → (k : ℕ) → k < m → earlier w k r ≡ true → is_done done k ≡ true
+
+-- What is told of the earliest of the kinds below m that are not done, of n kinds: none where all of them are done.
+abbrev pub EarliestIs : Field → List Bool → ℕ → ℕ → Option ℕ → Type 0
+EarliestIs w done n m (Some r) = (r < n) × Earliest w done n m r
+EarliestIs w done n m None = Earliest w done n m n

@@ -14,5 +14,5 @@ pub mod sense;
 pub mod order;
 // Tables of marks: which classes of lines a field may use.
 pub mod marks;
-// Which lines match, and the classes of the lines.
-pub mod class;
+// What the lines do: which of them match, and the classes of the lines.
+pub mod effects;

@@ -7,7 +7,7 @@ pub fn kind_of(lines: &[u8], line: usize) -> usize
     requires { line < lines_in lines.now }
     ensures { result ≡ kind_in lines.now line }
 {
-    lines[line] as usize
+    usize::from(lines[line])
 }
 
 // The code of a line.
@@ -16,7 +16,7 @@ pub fn code_of(lines: &[u8], line: usize) -> usize
     ensures { result ≡ code_in lines.now line }
 {
     let codes = lines.len() / 3;
-    lines[codes + line] as usize
+    usize::from(lines[codes + line])
 }
 
 // Whether a line lowers the norm.

@@ -5,6 +5,7 @@ ghost use Rattle.tables.specs.Lines.{lines_in, kind_in, LineTable};
 ghost use Rattle.tables.specs.Class.{MarksTell, marks_part, KindMarks};
 
 use crate::lines::kind_of;
+use crate::table::part_of;
 
 // Marks for each kind the classes of its lines, in a table that has no marks.
 pub fn kind_marks(lines: &[u8], classes: &[u8], marks: &mut [bool])
@@ -13,12 +14,9 @@ pub fn kind_marks(lines: &[u8], classes: &[u8], marks: &mut [bool])
     ensures { KindMarks lines.now classes.now marks.new }
 {
     let count = lines.len() / 3;
-    let mut line = 0;
-    while line < count {
+    for line in 0..count {
         let start = kind_of(lines, line) * 256;
-        let class = classes[line] as usize;
-        marks[start + class] = true;
-        line += 1;
+        marks[start + usize::from(classes[line])] = true;
     }
 }
 
@@ -27,9 +25,7 @@ pub fn marks_of_kind(marks: &[bool], kind: usize) -> &[bool]
     requires { kind * 256 + 256 ≤ length marks.now }
     ensures { result.now ≡ marks_part marks.now kind }
 {
-    let start = kind * 256;
-    let end = start + 256;
-    &marks[start..end]
+    part_of::<bool, 256>(marks, kind)
 }
 
 // Adds marks to others.
@@ -37,14 +33,8 @@ fn add_marks(sum: &mut [bool], more: &[bool])
     requires { length more.now ≤ length sum.old }
     ensures { (x : ℕ) → (get_or sum.new x false ≡ true) ↔ ((get_or sum.old x false ≡ true) ⊎ (get_or more.now x false ≡ true)) }
 {
-    let mut i = 0;
-    while i < more.len() {
-        let mut mark = sum[i];
-        if more[i] {
-            mark = true;
-        }
-        sum[i] = mark;
-        i += 1;
+    for (x, mark) in more.iter().enumerate() {
+        sum[x] |= *mark;
     }
 }
 
@@ -54,31 +44,10 @@ pub fn marks_of_field(marks: &[bool], field: &[u32]) -> [bool; 256]
     ensures { (lines classes : List ℕ) → KindMarks lines classes marks.now → MarksTell (kind_in lines) (at classes) (at field.now) (lines_in lines) result }
 {
     let mut sum = [false; 256];
-    let mut kind = 0;
-    while kind < field.len() {
-        let count = field[kind];
-        if 0 < count {
+    for (kind, count) in field.iter().enumerate() {
+        if 0 < *count {
             add_marks(&mut sum, marks_of_kind(marks, kind));
         }
-        kind += 1;
     }
     sum
-}
-
-// Whether the same classes are marked.
-pub fn same_marks(own: &[bool], other: &[bool]) -> bool
-    ensures { (result ≡ true) ↔ (own.now ≡ other.now) }
-{
-    if own.len() != other.len() {
-        return false;
-    }
-    let mut same = true;
-    let mut i = 0;
-    while i < own.len() {
-        if own[i] != other[i] {
-            same = false;
-        }
-        i += 1;
-    }
-    same
 }

@@ -1,22 +1,8 @@
 // Tables of rows, and the decomposition of counts by them.
-ghost use Rattle.std.specs.Prelude.{◌≡◌, true, ◌↔◌, ℕ, ◌+◌, ◌*◌, ◌^◌, ◌≤◌, ◌<◌, length, replicate};
+ghost use Rattle.std.specs.Prelude.{◌≡◌, true, ◌↔◌, ℕ, ◌+◌, ◌*◌, ◌^◌, ◌≤◌, ◌<◌, length, take, drop, replicate};
 ghost use Rattle.model.specs.Field.{none, ◌⊕◌, times, unit, at};
 ghost use Rattle.model.specs.Limits.{most_kinds};
 ghost use Rattle.tables.specs.Table.{row_part, row_in, Atoms, form_in, with_row};
-
-// A count of 32 bits as one of 64.
-pub fn wide(count: u32) -> u64
-    ensures { (result ≡ count) × (result < 2 ^ 32) }
-{
-    count as u64
-}
-
-// A count byte as a count of 64 bits.
-fn wide_byte(count: u8) -> u64
-    ensures { result ≡ count }
-{
-    count as u64
-}
 
 // Adds count times the row to the sum.
 pub fn add_times(sum: &mut [u64], row: &[u32], count: u64)
@@ -27,23 +13,26 @@ pub fn add_times(sum: &mut [u64], row: &[u32], count: u64)
     if count == 0 {
         return;
     }
-    let mut i = 0;
-    while i < row.len() {
-        let more = count * wide(row[i]);
-        let old = sum[i];
-        sum[i] = old + more;
-        i += 1;
+    for (i, each) in row.iter().enumerate() {
+        sum[i] += count * u64::from(*each);
     }
 }
 
-// The row of a kind in a table of counts of 32 bits, as a part of it.
-pub fn row_of(rows: &[u32], kind: usize) -> &[u32]
-    requires { kind * 32 + 32 ≤ length rows.now }
-    ensures { result.now ≡ row_part rows.now kind }
+// A row of a flat table whose rows are WIDTH long, as a part of it.
+pub(crate) fn part_of<T, const WIDTH: usize>(table: &[T], row: usize) -> &[T]
+    requires { row * WIDTH + WIDTH ≤ length table.now }
+    ensures { result.now ≡ take WIDTH (drop (row * WIDTH) table.now) }
 {
-    let start = kind * 32;
-    let end = start + 32;
-    &rows[start..end]
+    let start = row * WIDTH;
+    &table[start..start + WIDTH]
+}
+
+// A row of a table whose rows are 32 long: the row of a kind, or the form of what a line leaves.
+pub fn row_of<T>(table: &[T], row: usize) -> &[T]
+    requires { row * 32 + 32 ≤ length table.now }
+    ensures { result.now ≡ row_part table.now row }
+{
+    part_of::<T, 32>(table, row)
 }
 
 // Whether a kind's own count in its row is 1: whether the kind is an atom.
@@ -51,9 +40,7 @@ pub fn is_atom(rows: &[u32], kind: usize) -> bool
     requires { (kind < most_kinds) × (length rows.now ≡ 1024) }
     ensures { (result ≡ true) ↔ (row_in rows.now kind kind ≡ 1) }
 {
-    let own = kind * 32 + kind;
-    let count = rows[own];
-    count == 1
+    rows[kind * 32 + kind] == 1
 }
 
 // Adds count times the row of a kind in a table to the sum. The row of an atom is the kind itself.
@@ -67,8 +54,7 @@ fn add_row(sum: &mut [u64], rows: &[u32], kind: usize, count: u64)
         return;
     }
     if is_atom(rows, kind) {
-        let old = sum[kind];
-        sum[kind] = old + count;
+        sum[kind] += count;
         return;
     }
     add_times(sum, row_of(rows, kind), count);
@@ -80,81 +66,19 @@ pub fn set_row(rows: &mut [u32], kind: usize, row: &[u32])
     ensures { rows.new ≡ with_row rows.old kind row.now }
 {
     let start = kind * 32;
-    let mut i = 0;
-    while i < row.len() {
-        rows[start + i] = row[i];
-        i += 1;
-    }
+    rows[start..start + 32].copy_from_slice(row);
 }
 
-// A row of a table of counts of 64 bits, as a part of it: the form of what a line leaves.
-pub fn form_of(forms: &[u64], line: usize) -> &[u64]
-    requires { line * 32 + 32 ≤ length forms.now }
-    ensures { result.now ≡ row_part forms.now line }
-{
-    let start = line * 32;
-    let end = start + 32;
-    &forms[start..end]
-}
-
-// Whether two lists of counts are the same.
-pub fn same_counts(first: &[u64], second: &[u64]) -> bool
-    requires { length second.now ≡ length first.now }
-    ensures { (result ≡ true) ↔ (at first.now ≡ at second.now) }
-{
-    let mut i = 0;
-    while i < first.len() {
-        let here = first[i];
-        let there = second[i];
-        if here != there {
-            return false;
-        }
-        i += 1;
-    }
-    true
-}
-
-// Whether two rows are the same.
-pub fn same_row(first: &[u32], second: &[u32]) -> bool
-    requires { length second.now ≡ length first.now }
-    ensures { (result ≡ true) ↔ (at first.now ≡ at second.now) }
-{
-    let mut i = 0;
-    while i < first.len() {
-        let here = first[i];
-        let there = second[i];
-        if here != there {
-            return false;
-        }
-        i += 1;
-    }
-    true
-}
-
-// Sets every count to 0.
-pub fn clear(out: &mut [u64])
-    ensures { at out.new ≡ none }
-{
-    let mut i = 0;
-    while i < out.len() {
-        out[i] = 0;
-        i += 1;
-    }
-}
-
-// The decomposition of the counts of a line, by the rows of a table.
+// The decomposition of the counts of a line, by the rows of a table. Not one generic function with `form_of_field`: this one takes the short cut of the atoms, which asks more of the rows.
 pub fn form_of_counts(counts: &[u8], rows: &[u32], out: &mut [u64])
     requires counts_len_bound { (length counts.now ≤ most_kinds) × (length rows.now ≡ 1024) × (32 ≤ length out.old) }
     requires atoms { Atoms rows.now (length counts.now) }
     requires by_index { (j : ℕ) → form_in (length counts.now) rows.now (at counts.now) j < 2 ^ 64 }
     ensures { at out.new ≡ form_in (length counts.now) rows.now (at counts.now) }
 {
-    clear(out);
-    let mut k = 0;
-    while k < counts.len() {
-        let count = wide_byte(counts[k]);
-        add_row(out, rows, k, count);
-        k += 1;
+    out.fill(0);
+    for (k, count) in counts.iter().enumerate() {
+        add_row(out, rows, k, u64::from(*count));
     }
 }
 
@@ -164,12 +88,9 @@ pub fn form_of_field(field: &[u32], rows: &[u32], out: &mut [u64])
     requires by_index { (j : ℕ) → form_in (length field.now) rows.now (at field.now) j < 2 ^ 64 }
     ensures { at out.new ≡ form_in (length field.now) rows.now (at field.now) }
 {
-    clear(out);
-    let mut k = 0;
-    while k < field.len() {
-        let count = wide(field[k]);
-        add_times(out, row_of(rows, k), count);
-        k += 1;
+    out.fill(0);
+    for (k, count) in field.iter().enumerate() {
+        add_times(out, row_of(rows, k), u64::from(*count));
     }
 }
 

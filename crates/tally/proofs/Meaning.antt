@@ -1,5 +1,6 @@
 -- What a judgement says of the game.
 use mathlib.Core.Bool.{Bool, true, false}
+use Rattle.std.proofs.Common.{cond}
 use mathlib.Core.List.{List}
 use mathlib.Core.Path.{◌≡◌, refl}
 use Prim.Native.Nat.{ℕ, ◌≤◌, ◌<◌}
@@ -17,7 +18,7 @@ use Rattle.test_player.proofs.Meaning.{parting_means}
 use Rattle.tally.specs.declared.tally.Called.{Called}
 use Rattle.tally.specs.declared.tally.Called.TheVariants.{Same, Different}
 use Rattle.tally.specs.declared.tally.Judgement.TheVariants.{Agrees, Open, Wrong}
-use Rattle.tally.specs.Judged.{choose, held_of, judgement_of}
+use Rattle.tally.specs.Judged.{held_of, judgement_of}
 use Rattle.tally.specs.Meaning.{Right}
 
 module _ (m : Sense) (s : List ℕ) (first second limit : ℕ) where
@@ -26,17 +27,17 @@ module _ (m : Sense) (s : List ℕ) (first second limit : ℕ) where
   unfolding Right
   held_right stage rounds r h = go (ltb r rounds) refl
     where
-      go : (b : Bool) → ltb r rounds ≡ b → Right m s first second limit (Different stage rounds) (choose b Open Wrong)
+      go : (b : Bool) → ltb r rounds ≡ b → Right m s first second limit (Different stage rounds) (cond b Open Wrong)
       go true e = tt
       go false e = h rounds (ltb-false r rounds e)
 
   -- Fields called different that part at r rounds, and at none below.
   parted_right : (stage rounds r : ℕ) → (¬ HoldsAt m s first second r) → ((q : ℕ) → q < r → HoldsAt m s first second q)
-      → Right m s first second limit (Different stage rounds) (choose (leb r rounds) Agrees Wrong)
+      → Right m s first second limit (Different stage rounds) (cond (leb r rounds) Agrees Wrong)
   unfolding Right
   parted_right stage rounds r n h = go (leb r rounds) refl
     where
-      go : (b : Bool) → leb r rounds ≡ b → Right m s first second limit (Different stage rounds) (choose b Agrees Wrong)
+      go : (b : Bool) → leb r rounds ≡ b → Right m s first second limit (Different stage rounds) (cond b Agrees Wrong)
       go true e = λ p. n (holds_less (card_of s) m r rounds (field_of s first) (field_of s second) (leb-true r rounds e) p)
       go false e = h rounds (leb-false r rounds e)
 

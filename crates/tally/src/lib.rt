@@ -3,4 +3,4 @@
 
 pub mod tally; // what each comes to, counted
 
-pub use tally::{Called, Played, Tally, look_unlike, same_counts};
+pub use tally::{Called, Played, Tally, look_unlike};

@@ -1,7 +1,6 @@
 // Verdicts held against what was played, and counted.
-ghost use Rattle.std.specs.Prelude.{◌≡◌, ltb, leb};
-ghost use Rattle.model.specs.Finite as model;
-ghost use Rattle.tally.specs.Judged.{Tests, Unlike, held_of, judgement_of, stopped_of, extent_of, part_of, mark_of, misfiled_of, counted_of, none, played_of, empty, tallied};
+ghost use Rattle.std.specs.Prelude.{◌≡◌};
+ghost use Rattle.tally.specs.Judged.{Tests, Unlike, held_of, judgement_of, stopped_of, extent_of, stage_of, counted_of, played_of, empty, tallied};
 
 use second_reader::{field_count, fields, kinds};
 use test_player::Tried;
@@ -14,7 +13,7 @@ pub enum Called {
 }
 
 // What was played agrees with the verdict, leaves it open, or contradicts it.
-#[derive(Drop)]
+#[derive(Clone, Copy, Debug, PartialEq, Eq)]
 pub enum Judgement {
     Agrees,
     Open,
@@ -30,7 +29,7 @@ pub enum Extent {
 }
 
 // How many pairs were played in full, in part and not at all.
-#[derive(Drop)]
+#[derive(Default, Drop)]
 pub struct Played {
     pub full: u64,
     pub part: u64,
@@ -41,7 +40,7 @@ pub struct Played {
 // stage 0, 1, 2, 3 and later, and how many `early`, at a stage from 1 up and below the settled one; how far the pairs called same and those
 // called different were played; how many verdicts the game leaves `undecided`, not having been played in full; how many it contradicts; and how
 // many pairs are `misfiled`, with prime forms equal and called different, or the reverse.
-#[derive(Drop)]
+#[derive(Default, Drop)]
 pub struct Tally {
     pub same: u64,
     pub unlike: u64,
@@ -118,46 +117,14 @@ fn extent_of(tried: Tried) -> Extent
     }
 }
 
-// 0 for same, 1 more than the stage for different; a stage past 1,000 is none that the filer gives, and is taken as 1,000.
-fn part_of(called: Called) -> usize
-    ensures { result ≡ part_of called }
+// The stage at which a pair was called different, none for same; a stage past 1,000 is none that the filer gives, and is taken as 1,000.
+fn stage_of(called: Called) -> Option<usize>
+    ensures { result ≡ stage_of called }
 {
     match called {
-        Called::Same => 0,
-        Called::Different { stage, rounds: _ } => if stage < 1000 { stage + 1 } else { 1001 },
+        Called::Same => None,
+        Called::Different { stage, .. } => Some(stage.min(1000)),
     }
-}
-
-// 0, 1, 2 for agrees, open, wrong.
-fn mark_of(judged: Judgement) -> usize
-    ensures { result ≡ mark_of judged }
-{
-    match judged {
-        Judgement::Agrees => 0,
-        Judgement::Open => 1,
-        Judgement::Wrong => 2,
-    }
-}
-
-// Prime forms are to be equal exactly for those called same.
-fn misfiled(same: bool, equal: bool) -> bool
-    ensures { result ≡ misfiled_of same equal }
-{
-    if same { !equal } else { equal }
-}
-
-// Both tests are passed.
-fn both(first: bool, second: bool) -> bool
-    ensures { result ≡ model.both first second }
-{
-    if first { second } else { false }
-}
-
-// Whether a number lies above another and not above a third.
-fn between(low: usize, number: usize, high: usize) -> bool
-    ensures { result ≡ model.both (ltb low number) (leb number high) }
-{
-    both(low < number, number <= high)
 }
 
 // One more where the test is passed; the greatest number stays.
@@ -165,44 +132,29 @@ fn counted(test: bool, number: u64) -> u64
     ensures { result ≡ counted_of test number }
 {
     if test {
-        if number < 18446744073709551615 {
-            return number + 1;
-        }
+        number.saturating_add(1)
+    } else {
+        number
     }
-    number
 }
 
 impl Played {
-    // Nothing counted yet.
-    fn new() -> Played
-        ensures { result ≡ none }
-    {
-        Played {
-            full: 0,
-            part: 0,
-            none: 0,
-        }
-    }
-
-    // One pair more, where the test is passed.
-    fn with_extent(self, test: bool, extent: Extent) -> Played
-        ensures { result ≡ played_of test extent self }
+    // One pair more.
+    fn with_extent(self, extent: Extent) -> Played
+        ensures { result ≡ played_of extent self }
     {
         match extent {
             Extent::InFull => Played {
-                full: counted(test, self.full),
-                part: self.part,
-                none: self.none,
+                full: self.full.saturating_add(1),
+                ..self
             },
             Extent::InPart => Played {
-                full: self.full,
-                part: counted(test, self.part),
-                none: self.none,
+                part: self.part.saturating_add(1),
+                ..self
             },
             Extent::NotAtAll => Played {
-                full: self.full,
-                part: self.part,
-                none: counted(test, self.none),
+                none: self.none.saturating_add(1),
+                ..self
             },
         }
     }
@@ -213,58 +165,48 @@ impl Tally {
     pub fn new() -> Tally
         ensures { result ≡ empty }
     {
-        let sames = Played::new();
-        let differents = Played::new();
-        Tally {
-            same: 0,
-            unlike: 0,
-            different: 0,
-            zero: 0,
-            one: 0,
-            two: 0,
-            three: 0,
-            later: 0,
-            early: 0,
-            sames,
-            differents,
-            undecided: 0,
-            wrong: 0,
-            misfiled: 0,
-        }
+        Tally::default()
     }
 
-    // One pair more: its part, its judgement's mark, how far it was played, the card's settled stage, whether its prime forms are equal, and whether
-    // its fields look unlike.
-    fn with_numbers(
+    // One pair more: the stage at which it was called different, its judgement, how far it was played, the card's settled stage, whether its prime
+    // forms are equal, and whether its fields look unlike.
+    fn with_judged(
         self,
-        part: usize,
-        mark: usize,
+        stage: Option<usize>,
+        judged: Judgement,
         extent: Extent,
         settled: usize,
         equal: bool,
         unlike: bool,
     ) -> Tally
-        ensures { result ≡ tallied self part mark extent settled equal unlike }
+        ensures { result ≡ tallied self stage judged extent settled equal unlike }
     {
-        let sames = self.sames;
-        let differents = self.differents;
-        let same_played = sames.with_extent(part == 0, extent);
-        let different_played = differents.with_extent(0 < part, extent);
-        Tally {
-            same: counted(part == 0, self.same),
-            unlike: counted(both(part == 0, unlike), self.unlike),
-            different: counted(0 < part, self.different),
-            zero: counted(part == 1, self.zero),
-            one: counted(part == 2, self.one),
-            two: counted(part == 3, self.two),
-            three: counted(part == 4, self.three),
-            later: counted(4 < part, self.later),
-            early: counted(between(1, part, settled), self.early),
-            sames: same_played,
-            differents: different_played,
-            undecided: counted(mark == 1, self.undecided),
-            wrong: counted(mark == 2, self.wrong),
-            misfiled: counted(misfiled(part == 0, equal), self.misfiled),
+        let undecided = counted(judged == Judgement::Open, self.undecided);
+        let wrong = counted(judged == Judgement::Wrong, self.wrong);
+        match stage {
+            None => Tally {
+                same: self.same.saturating_add(1),
+                unlike: counted(unlike, self.unlike),
+                sames: self.sames.with_extent(extent),
+                undecided,
+                wrong,
+                misfiled: counted(!equal, self.misfiled),
+                ..self
+            },
+            Some(stage) => Tally {
+                different: self.different.saturating_add(1),
+                zero: counted(stage == 0, self.zero),
+                one: counted(stage == 1, self.one),
+                two: counted(stage == 2, self.two),
+                three: counted(stage == 3, self.three),
+                later: counted(3 < stage, self.later),
+                early: counted(0 < stage && stage < settled, self.early),
+                differents: self.differents.with_extent(extent),
+                undecided,
+                wrong,
+                misfiled: counted(equal, self.misfiled),
+                ..self
+            },
         }
     }
 
@@ -277,34 +219,17 @@ impl Tally {
         unlike: bool,
         tried: Tried,
     ) -> Tally
-        ensures { result ≡ tallied self (part_of called) (mark_of (judgement_of called tried)) (extent_of tried) settled equal unlike }
+        ensures { result ≡ tallied self (stage_of called) (judgement_of called tried) (extent_of tried) settled equal unlike }
     {
-        self.with_numbers(
-            part_of(called),
-            mark_of(judge(called, tried)),
+        self.with_judged(
+            stage_of(called),
+            judge(called, tried),
             extent_of(tried),
             settled,
             equal,
             unlike,
         )
     }
-}
-
-// Whether two prime forms are equal, count by count.
-pub fn same_counts(first: &[u64], second: &[u64]) -> bool
-    ensures { Tests result (first.now ≡ second.now) }
-{
-    if first.len() != second.len() {
-        return false;
-    }
-    let mut kind = 0;
-    while kind < first.len() {
-        if first[kind] != second[kind] {
-            return false;
-        }
-        kind += 1;
-    }
-    true
 }
 
 // Whether two fields look unlike: they have other counts of some kind.
@@ -320,13 +245,10 @@ pub fn look_unlike(sheet: &[u8], first: usize, second: usize) -> bool
     if fields(sheet) <= second {
         return false;
     }
-    let count = kinds(sheet);
-    let mut kind = 0;
-    while kind < count {
+    for kind in 0..kinds(sheet) {
         if field_count(sheet, first, kind) != field_count(sheet, second, kind) {
             return true;
         }
-        kind += 1;
     }
     false
 }

@@ -34,8 +34,8 @@ module _ (m : Sense) (c : Card) (a b : Field) (v r : ℕ) where
 
   -- The numbers of rounds after r up to a limit; what all of them come to is `whole`.
   module _ {limit : ℕ} {whole : Tried} (from : tried m c a b v r (limit - r) ≡ whole) where
-    pub rounds_end : limit ≤ r → Held r ≡ whole
-    rounds_end h = sym (tried_none (limit - r) (omega arith)) ∙ from
+    pub rounds_end : r ≡ limit → Held limit ≡ whole
+    rounds_end e = ap Held (sym e) ∙ sym (tried_none (limit - r) (omega arith)) ∙ from
 
     pub rounds_bound : r < limit → most_rounds_played ≤ r → OutOfBounds r ≡ whole
     rounds_bound h l = let e : limit - r ≡ suc (limit - (r + 1)) = omega arith in sym (tried_bound (limit - (r + 1)) l) ∙ ap (tried m c a b v r) (sym e) ∙ from

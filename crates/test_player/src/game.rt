@@ -11,7 +11,8 @@ ghost use Rattle.test_player.specs.Played.{counted_of, challenger, sense_of, exa
 use crate::totals::shares_total;
 use second_reader::{field, field_after, fields, kinds, lines, may_reply, may_use};
 
-// A part of the game: whether it holds, with what is left of the budget, or spent where it has more pairs than the budget.
+// A part of the game: whether it holds, with what is left of the budget, or spent where it has more pairs than the budget. Three cases, two with a value:
+// neither an Option nor a Result has them.
 #[derive(Drop)]
 pub enum Play {
     Holds(usize),
@@ -40,7 +41,7 @@ struct Turn {
 
 // The line as the only reply of `other` to the challenge by the line `challenge`, which left `used`: the pair that it leaves. "The first side stays first":
 // where the second side challenged, `used` is the second side.
-#[cycle(challenge_holds_every_challenge_pair_holds_reply_holds_some_reply)]
+#[cycle(pair)]
 fn reply_holds(
     sheet: &[u8],
     turn: Turn,
@@ -68,7 +69,7 @@ fn reply_holds(
 }
 
 // "replies in line order up to the first that holds"
-#[cycle(challenge_holds_every_challenge_pair_holds_reply_holds_some_reply)]
+#[cycle(pair)]
 fn some_reply(
     sheet: &[u8],
     turn: Turn,
@@ -82,10 +83,8 @@ fn some_reply(
     ensures { counted_of result ≡ cut budget (try_replies (leaves_in (sense_of turn.totals) (challenger turn.second) (card_of sheet.now) turn.rounds) (line_of sheet.now challenge)
         (at used.now) (at other.now) (card_of sheet.now).lines) }
 {
-    let count = lines(sheet);
     let mut left = budget;
-    let mut line = 0;
-    while line < count {
+    for line in 0..lines(sheet) {
         match reply_holds(sheet, turn, challenge, line, used, other, left) {
             Play::Holds(rest) => {
                 return Play::Holds(rest);
@@ -97,13 +96,12 @@ fn some_reply(
                 return Play::Spent;
             }
         }
-        line += 1;
     }
     Play::Fails(left)
 }
 
 // The line as the only challenge of `field`, if it may use it, against every reply of `other`.
-#[cycle(challenge_holds_every_challenge_pair_holds_reply_holds_some_reply)]
+#[cycle(pair)]
 fn challenge_holds(
     sheet: &[u8],
     turn: Turn,
@@ -126,7 +124,7 @@ fn challenge_holds(
 }
 
 // "the first challenge with no such reply ends the pair": the challenges of `field` in line order.
-#[cycle(challenge_holds_every_challenge_pair_holds_reply_holds_some_reply)]
+#[cycle(pair)]
 fn every_challenge(
     sheet: &[u8],
     turn: Turn,
@@ -139,10 +137,8 @@ fn every_challenge(
     ensures { counted_of result ≡ cut budget (try_challenges (leaves_in (sense_of turn.totals) (challenger turn.second) (card_of sheet.now) turn.rounds) (card_of sheet.now).lines
         (at field.now) (at other.now) (card_of sheet.now).lines) }
 {
-    let count = lines(sheet);
     let mut left = budget;
-    let mut line = 0;
-    while line < count {
+    for line in 0..lines(sheet) {
         match challenge_holds(sheet, turn, line, field, other, left) {
             Play::Holds(rest) => {
                 left = rest;
@@ -154,14 +150,13 @@ fn every_challenge(
                 return Play::Spent;
             }
         }
-        line += 1;
     }
     Play::Holds(left)
 }
 
 // "A pair examined at r rounds counts 1. At 0 rounds it holds. Otherwise a challenge at r rounds is tried against replies at r - 1: lines of the first
 // side in line order, then of the second." In the finer game "a challenger also wins as soon as the totals differ".
-#[cycle(challenge_holds_every_challenge_pair_holds_reply_holds_some_reply)]
+#[cycle(pair)]
 fn pair_holds(
     sheet: &[u8],
     totals: bool,
@@ -217,8 +212,7 @@ fn try_rounds(
     ensures { result ≡ tried (sense_of totals) (card_of sheet.now) (at first.now) (at second.now) budget 0 limit }
 {
     let mut left = budget;
-    let mut rounds: u64 = 0;
-    while rounds < limit {
+    for rounds in 0..limit {
         if ROUNDS <= rounds {
             return Tried::OutOfBounds(rounds);
         }
@@ -233,9 +227,8 @@ fn try_rounds(
                 return Tried::OutOfBudget(rounds);
             }
         }
-        rounds += 1;
     }
-    Tried::Held(rounds)
+    Tried::Held(limit)
 }
 
 // Two fields of the sheet at 1, 2, .. rounds, up to a limit, with so many pairs at most in all. Where the totals are looked at, so they are at the start. No

@@ -15,12 +15,9 @@ fn total(sheet: &[u8], field: &[usize; 32]) -> usize
     requires fits { Fits sheet.now 0 field.now }
     ensures { result ≡ sense.total (card_of sheet.now) (at field.now) }
 {
-    let count = kinds(sheet);
     let mut tokens = 0;
-    let mut kind = 0;
-    while kind < count {
+    for kind in 0..kinds(sheet) {
         tokens += field[kind];
-        kind += 1;
     }
     tokens
 }
@@ -31,9 +28,5 @@ pub fn shares_total(sheet: &[u8], totals: bool, first: &[usize; 32], second: &[u
     requires fits { Fits sheet.now 0 first.now × Fits sheet.now 0 second.now }
     ensures { result ≡ played.shares_total (sense_of totals) (card_of sheet.now) (at first.now) (at second.now) }
 {
-    if totals {
-        total(sheet, first) == total(sheet, second)
-    } else {
-        true
-    }
+    !totals || total(sheet, first) == total(sheet, second)
 }

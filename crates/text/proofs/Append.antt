@@ -4,8 +4,10 @@ use mathlib.Core.Path.{◌≡◌, refl, sym, ◌∙◌, ap}
 use Prim.Native.Nat.{ℕ, ◌+◌, ◌≤◌, ◌<◌}
 use native.Mathlib.Numerals.{add-one}
 use native.Mathlib.Omega.{arith}
-use lib.ListN.{length, take, drop, set, get_or, length-append, length-set, take-append-drop}
-use lib.Seq.{take_all, take-suc, take-suc-set, drop-set-lt, drop-drop}
+use lib.ListN.{length, take, drop, set, length-append, length-set, length-take, length-drop, take-append-drop}
+use lib.Seq.{take-suc-set, drop-set-lt, drop-drop}
+use borrow.Rule.Slice.PartMut.{put_mid, same_len_mid}
+use Rattle.std.proofs.lemmas.Slice.{take-put_mid, drop-put_mid}
 use Rattle.model.specs.Answer.{written}
 use Rattle.text.specs.Appended.{Appended}
 
@@ -41,14 +43,17 @@ one b i x h =
       within = omega arith;
     }
 
--- The bytes of a text up to one of them, then that one.
-pub one_more : {i j k start : ℕ} {b c d : List ℕ} (s : List ℕ) → i < length s → Appended i b start (take i s) c j → Appended 1 c j (get_or s i 0 ∷ []) d k
-    → Appended (i + 1) b start (take (i + 1) s) d k
-one_more {i} s h p q = reads_as (i + 1) (take (i + 1) s) (then p q) (omega arith) (sym (take-suc s i 0 h) ∙ ap (λ (n : ℕ). take n s) (sym (add-one i)))
-
--- All bytes of a text.
-pub all_taken : {i k start : ℕ} {b d : List ℕ} (s : List ℕ) → i ≡ length s → Appended i b start (take i s) d k → Appended (length s) b start s d k
-all_taken {i} s e p = reads_as (length s) s p (omega arith) (take_all i s (omega arith))
+-- The bytes of a text stored at a place that has room for them.
+pub stored : (b s t : List ℕ) (i k : ℕ) → i + length s ≤ length b → k ≡ length s → t ≡ s → Appended (length s) b i s (put_mid i k b t) (i + length s)
+stored b s t i k room count same =
+    let long = ap length same in
+    record {
+      ends = refl;
+      written = take-put_mid i k b t (i + length s) (omega arith) (omega arith) ∙ ap (λ (l : List ℕ). take i b ++ l) same;
+      rest = drop-put_mid i k b t (i + length s) (omega arith) (omega arith) (omega arith);
+      size = same_len_mid i k b t (omega (arith, length-take k (drop i b), length-drop i b));
+      within = omega arith;
+    }
 
 -- A text appended from the start of a buffer: what the model says of a lent buffer.
 pub from_start : {m k : ℕ} {b d s : List ℕ} → Appended m b 0 s d k → d ≡ written s b

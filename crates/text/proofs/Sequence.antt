@@ -43,19 +43,20 @@ module _ (f : ℕ → List ℕ) where
       let e : j + 1 - 1 ≡ j - 1 + 1 = omega arith in
       rw e (next_text 1 (j - 1) p q (omega arith))
 
--- The texts of a list's counts, by their numbers in it.
-abbrev pub count_at : List ℕ → ℕ → List ℕ
-count_at xs k = count_text (get_or xs k 0)
-
 shifted : (f : ℕ → List ℕ) (a i : ℕ) → list_from f (suc a) i ≡ list_from (λ k. f (suc k)) a i
 unfolding list_from
 shifted f a zero = refl
 shifted f a (suc i) = ap (λ (l : List (List ℕ)). f (suc a) ∷ l) (shifted f (suc a) i)
 
-by_number : (xs : List ℕ) → list_from (count_at xs) 0 (length xs) ≡ map count_text xs
+-- The texts of a list's elements are those by the numbers of the elements in it.
+pub by_number : (f : ℕ → List ℕ) (xs : List ℕ) → list_from (λ k. f (get_or xs k 0)) 0 (length xs) ≡ map f xs
 unfolding list_from
-by_number [] = refl
-by_number (x ∷ xs) = ap (λ (l : List (List ℕ)). count_text x ∷ l) (shifted (count_at (x ∷ xs)) 0 (length xs) ∙ by_number xs)
+by_number f [] = refl
+by_number f (x ∷ xs) = ap (λ (l : List (List ℕ)). f x ∷ l) (shifted (λ k. f (get_or (x ∷ xs) k 0)) 0 (length xs) ∙ by_number f xs)
+
+-- The texts of a list's counts, by their numbers in it.
+abbrev pub count_at : List ℕ → ℕ → List ℕ
+count_at xs k = count_text (get_or xs k 0)
 
 -- All counts of a list.
 pub counts_all : {i k start : ℕ} {b d : List ℕ} (xs : List ℕ) → i ≡ length xs → Appended (most_counts i) b start (concat (list_from (count_at xs) 0 i)) d k
@@ -63,7 +64,7 @@ pub counts_all : {i k start : ℕ} {b d : List ℕ} (xs : List ℕ) → i ≡ le
 unfolding count_texts
 counts_all {i} xs e p =
     reads_as (most_counts (length xs)) (count_texts xs) p (omega arith)
-    (ap (λ (n : ℕ). concat (list_from (count_at xs) 0 n)) e ∙ ap concat (by_number xs))
+    (ap (λ (n : ℕ). concat (list_from (count_at xs) 0 n)) e ∙ ap concat (by_number count_text xs))
 
 -- The page has "=" before them.
 pub marked : {i j k : ℕ} {b c d : List ℕ} (xs : List ℕ) → Appended 1 b i (61 ∷ []) c j → Appended (most_counts (length xs)) c j (count_texts xs) d k

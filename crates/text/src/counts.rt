@@ -21,10 +21,8 @@ fn put_each_count(out: &mut [u8], at: usize, counts: &[u64]) -> usize
     ensures { Appended (most_counts (length counts.now)) out.old at (count_texts counts.now) out.new result }
 {
     let mut next = at;
-    let mut i = 0;
-    while i < counts.len() {
-        next = put_count(out, next, counts[i]);
-        i += 1;
+    for count in counts {
+        next = put_count(out, next, *count);
     }
     next
 }
@@ -60,10 +58,10 @@ pub fn put_counts_line(out: &mut [u8], at: usize, counts: &[u64]) -> usize
     requires { at + (letters "\n" + most_counts (length counts.now)) ≤ length out.old }
     ensures { Appended (letters "\n" + most_counts (length counts.now)) out.old at (counts_line counts.now) out.new result }
 {
-    if counts.len() == 0 {
+    let [first, others @ ..] = counts else {
         return put_byte(out, at, b'\n');
-    }
-    let first = put_number(out, at, counts[0]);
-    let last = put_each_count(out, first, &counts[1..]);
+    };
+    let next = put_number(out, at, *first);
+    let last = put_each_count(out, next, others);
     put_byte(out, last, b'\n')
 }

@@ -11,25 +11,25 @@ use Rattle.theory.proofs.Exec.{Tells, tells_lt, tells_eq}
 use Rattle.theory.proofs.Sheets.{not_small, not_less, clear_nil}
 use Rattle.theory.proofs.Checks.{not_differ, all_clear, first_left, first_right, first_here, first_later, first_of_all}
 use Rattle.sheet.specs.declared.reader.Card.{Card}
-use Rattle.validation.specs.declared.checks.Checked.TheVariants.{Passed, Refused}
+use Rattle.model.specs.Answer.{refused, given}
 use Rattle.sheet.specs.Reader.{header_of, Reads, number_checks, layout_checks}
 use Rattle.validation.specs.Outcome.{outcome, checked_of}
 
 -- The enum for what was found.
-pub refuses : (d : Card) (f : Finding) (k p : ℕ) → f ≡ refusal k p → Refused k p ≡ outcome d f
+pub refuses : (d : Card) (f : Finding) (k p : ℕ) → f ≡ refusal k p → refused k p ≡ outcome d f
 unfolding outcome
 refuses d f k p e = rw e refl
 
-pub passes : (c d : Card) (f : Finding) → c ≡ d → f ≡ clear → Passed c ≡ outcome d f
+pub passes : (c d : Card) (f : Finding) → c ≡ d → f ≡ clear → given c ≡ outcome d f
 unfolding outcome
 passes c d f e h = rw (e, h) refl
 
-pub refused_found : (d : Card) (f : Finding) (k p : ℕ) → outcome d f ≡ Refused k p → f ≡ refusal k p
+pub refused_found : (d : Card) (f : Finding) (k p : ℕ) → outcome d f ≡ refused k p → f ≡ refusal k p
 unfolding outcome
 refused_found d clear k p e = let z : ◌≡◌ {A = ℕ} 0 1 = cc in absurd (omega arith)
 refused_found d (refusal i q) k p e = cc
 
-pub passed_found : (d : Card) (f : Finding) (c : Card) → outcome d f ≡ Passed c → (c ≡ d) × (f ≡ clear)
+pub passed_found : (d : Card) (f : Finding) (c : Card) → outcome d f ≡ given c → (c ≡ d) × (f ≡ clear)
 unfolding outcome
 passed_found d clear c e = (cc, refl)
 passed_found d (refusal i q) c e = let z : ◌≡◌ {A = ℕ} 0 1 = cc in absurd (omega arith)
@@ -96,14 +96,14 @@ lines_pass s n = all_clear (of_line s) 0 (line_count s) (λ q l. let y : 0 + q �
 
 -- 1 to 8 from their three parts: the numbers, the layout, the lines.
 module _ (s : List ℕ) where
-  pub numbers_refuse : (k p : ℕ) → first_of (number_checks s) ≡ refusal k p → Refused k p ≡ checked_of s
+  pub numbers_refuse : (k p : ℕ) → first_of (number_checks s) ≡ refusal k p → refused k p ≡ checked_of s
   unfolding checked_of sheet_checks header_checks
   numbers_refuse k p e =
       refuses _ _ k p
       (first_left (header_checks s) (line_checks s) k p (first_left (number_checks s) (layout_checks s) k p e))
 
   module _ (n : first_of (number_checks s) ≡ clear) where
-    pub layout_refuse : (k p : ℕ) → first_of (layout_checks s) ≡ refusal k p → Refused k p ≡ checked_of s
+    pub layout_refuse : (k p : ℕ) → first_of (layout_checks s) ≡ refusal k p → refused k p ≡ checked_of s
     unfolding checked_of sheet_checks header_checks
     layout_refuse k p e =
         refuses _ _ k p
@@ -113,15 +113,20 @@ module _ (s : List ℕ) where
     unfolding header_checks
     header_passes e = first_right (number_checks s) (layout_checks s) n ∙ e
 
-    pub lines_decide : (c : Card) → c ≡ header_of s → first_of (layout_checks s) ≡ clear → outcome c (first_of (line_checks s)) ≡ checked_of s
-    unfolding checked_of sheet_checks
-    lines_decide c h e = rw (h, first_right (header_checks s) (line_checks s) (header_passes e)) refl
+    module _ (l : first_of (layout_checks s) ≡ clear) where
+      pub lines_refuse : (k p : ℕ) → first_of (line_checks s) ≡ refusal k p → refused k p ≡ checked_of s
+      unfolding checked_of sheet_checks
+      lines_refuse k p e = refuses _ _ k p (first_right (header_checks s) (line_checks s) (header_passes l) ∙ e)
+
+      pub lines_decide : (c : Card) → c ≡ header_of s → first_of (line_checks s) ≡ clear → given c ≡ checked_of s
+      unfolding checked_of sheet_checks
+      lines_decide c h e = passes _ _ _ h (first_right (header_checks s) (line_checks s) (header_passes l) ∙ e)
 
 -- What the answer of the check of a sheet's bytes tells: the card was read, or a refusal comes first.
-pub checked_reads : (s : List ℕ) (c : Card) → checked_of s ≡ Passed c → Reads s c
+pub checked_reads : (s : List ℕ) (c : Card) → checked_of s ≡ given c → Reads s c
 unfolding checked_of
 checked_reads s c e = let t = passed_found (header_of s) (first_of (sheet_checks s)) c e in record { header = t.0; passed = t.1 }
 
-pub checked_refused : (s : List ℕ) (k p : ℕ) → checked_of s ≡ Refused k p → first_of (sheet_checks s) ≡ refusal k p
+pub checked_refused : (s : List ℕ) (k p : ℕ) → checked_of s ≡ refused k p → first_of (sheet_checks s) ≡ refusal k p
 unfolding checked_of
 checked_refused s k p e = refused_found (header_of s) (first_of (sheet_checks s)) k p e

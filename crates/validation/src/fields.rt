@@ -1,30 +1,21 @@
 // The check of two field numbers, which Compare, Walk and Squads have in common.
 ghost use Rattle.std.specs.Prelude.{◌≡◌};
-ghost use Rattle.validation.specs.Fields.{with_fields};
+ghost use Rattle.model.specs.Refusal.{first_of};
+ghost use Rattle.refusals.specs.Refusals.{finding_of};
+ghost use Rattle.validation.specs.Fields.{field_checks};
 
-use crate::checks::Checked;
+use refusals::Refusal;
+use sheet::Card;
 
-// 11 at place 0 or 1, of a sheet that passed the checks before; a sheet that did not stays refused as it was.
-pub fn check_fields(checked: Checked, first: usize, second: usize) -> Checked
-    ensures { result ≡ with_fields first second checked }
+// 11 at place 0 or 1, of a card.
+pub fn check_fields(card: Card, first: usize, second: usize) -> Result<(), Refusal>
+    ensures { finding_of result ≡ first_of (field_checks card.fields first second) }
 {
-    match checked {
-        Checked::Refused { number, place } => Checked::Refused { number, place },
-        Checked::Passed(card) => {
-            let fields = card.fields;
-            if fields <= first {
-                return Checked::Refused {
-                    number: 11,
-                    place: 0,
-                };
-            }
-            if fields <= second {
-                return Checked::Refused {
-                    number: 11,
-                    place: 1,
-                };
-            }
-            Checked::Passed(card)
-        }
+    if card.fields <= first {
+        return Err(Refusal::FirstNumber);
     }
+    if card.fields <= second {
+        return Err(Refusal::SecondNumber);
+    }
+    Ok(())
 }

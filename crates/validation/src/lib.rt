@@ -4,4 +4,5 @@
 pub mod checks; // the checks, in the order of the table
 pub mod fields; // two field numbers
 
-pub use checks::{Checked, check_sheet};
+pub use checks::check_sheet;
+pub use fields::check_fields;

@@ -9,7 +9,8 @@ ghost use Rattle.verbs.specs.Calls.{compare_told_in, compare_told, finer_told};
 
 use filer::Verdict;
 use filer::compare::compare_in;
-use replies::reply::{Outcome, Reply, no_call, refuse};
+use replies::Reply;
+use replies::reply::refuse_as;
 use tables::sense::Sense;
 use verdicts::{put_different, put_same};
 
@@ -21,19 +22,13 @@ fn put_verdict(out: &mut [u8], verdict: Verdict) -> Reply
     match verdict {
         Verdict::Same => {
             let length = put_same(out, 0);
-            Reply {
-                outcome: Outcome::Answered,
-                length,
-            }
+            Reply::answered(length)
         }
         Verdict::Different { stage, rounds } => {
             let length = put_different(out, 0, stage, rounds);
-            Reply {
-                outcome: Outcome::Answered,
-                length,
-            }
+            Reply::answered(length)
         }
-        Verdict::Refused { number, place } => refuse(out, number, place),
+        Verdict::Refused { number, place } => refuse_as(out, number, place),
     }
 }
 
@@ -43,7 +38,7 @@ fn tell_verdict(sense: Sense, sheet: &[u8], numbers: &[u64], out: &mut [u8]) -> 
     ensures { Tells (compare_told_in (sense_of sense) sheet.now numbers.now) out.old out.new result }
 {
     if numbers.len() != 2 {
-        return no_call();
+        return Reply::no_call();
     }
     let verdict = compare_in(sense, sheet, numbers[0] as usize, numbers[1] as usize);
     put_verdict(out, verdict)

@@ -1,24 +1,16 @@
 // form I and finer-form I.
-ghost use Rattle.std.specs.Prelude.{◌≡◌, ◌≤◌, length};
+ghost use Rattle.std.specs.Prelude.{◌≤◌, length};
 ghost use Rattle.tables.specs.Senses.{sense_of};
 ghost use Rattle.replies.specs.Told.{Tells};
-ghost use Rattle.verbs.specs.Texts.{form_room};
 ghost use Rattle.replies.specs.Texts.{most_text};
 ghost use Rattle.verbs.specs.Calls.{form_told_in, form_told, finer_form_told};
 
-use filer::Forming;
 use filer::form::form_in;
-use replies::reply::{Outcome, Reply, no_call, refuse};
+use replies::Reply;
+use replies::reply::refuse;
 use sheet::Card;
 use tables::sense::Sense;
 use text::put_counts_line;
-
-// Room for the prime form of any card's field.
-fn form_room() -> [u64; 32]
-    ensures { result ≡ form_room }
-{
-    [0u64; 32]
-}
 
 // The counts of a field's prime form of a sense.
 fn tell_form(sense: Sense, sheet: &[u8], numbers: &[u64], out: &mut [u8]) -> Reply
@@ -26,20 +18,17 @@ fn tell_form(sense: Sense, sheet: &[u8], numbers: &[u64], out: &mut [u8]) -> Rep
     ensures { Tells (form_told_in (sense_of sense) sheet.now numbers.now) out.old out.new result }
 {
     if numbers.len() != 1 {
-        return no_call();
+        return Reply::no_call();
     }
-    let mut form = form_room();
+    let mut form = [0u64; 32];
     match form_in(sense, sheet, numbers[0] as usize, &mut form) {
-        Forming::Written => {
+        Ok(()) => {
             let card = Card::of_header(sheet);
             let n = card.kinds;
             let length = put_counts_line(out, 0, &form[..n]);
-            Reply {
-                outcome: Outcome::Answered,
-                length,
-            }
+            Reply::answered(length)
         }
-        Forming::Refused { number, place } => refuse(out, number, place),
+        Err(refusal) => refuse(out, refusal),
     }
 }
 

@@ -1,29 +1,22 @@
 // settle and row K.
-ghost use Rattle.std.specs.Prelude.{◌++◌, ◌≡◌, ◌+◌, ◌*◌, ◌≤◌, length};
+ghost use Rattle.std.specs.Prelude.{◌++◌, ◌+◌, ◌*◌, ◌≤◌, length};
 ghost use Rattle.model.specs.Limits.{most_kinds};
 ghost use Rattle.model.specs.Sheet.{kind_count};
 ghost use Rattle.model.specs.Answer.{given, row_of, row_check_of};
 ghost use Rattle.text.specs.Appended.{Appended};
 ghost use Rattle.text.specs.Count.{counts_line};
 ghost use Rattle.replies.specs.Told.{told, Tells};
-ghost use Rattle.verbs.specs.Texts.{table_room, most_stages, most_row, stages_line, row_lines, row_in};
+ghost use Rattle.verbs.specs.Texts.{most_stages, most_row, stages_line, row_lines, row_in};
 ghost use Rattle.replies.specs.Texts.{most_text};
 ghost use Rattle.verbs.specs.Calls.{settle_told, row_told};
 
-use copies::bits32::widen_u32;
+use copies::widen;
 use filer::row::{row, row_check};
 use filer::settle::settle_sheet;
-use filer::{RowCheck, Settling};
-use replies::reply::{Outcome, Reply, no_call, refuse};
+use replies::Reply;
+use replies::reply::refuse;
 use sheet::Card;
 use text::{put_byte, put_counts_line, put_labelled};
-
-// Room for the table of any card.
-fn table_room() -> [u32; 1024]
-    ensures { result ≡ table_room }
-{
-    [0u32; 1024]
-}
 
 // `stages S`.
 fn put_stages(out: &mut [u8], at: usize, stage: usize) -> usize
@@ -40,7 +33,7 @@ fn put_row(out: &mut [u8], at: usize, table: &[u32], kinds: usize, kind: usize) 
     ensures { Appended most_row out.old at (counts_line (row_of kinds kind table.now)) out.new result }
 {
     let part = row(table, kinds, kind);
-    let counts = widen_u32(part);
+    let counts: [u64; 32] = widen(part);
     put_counts_line(out, at, &counts[..part.len()])
 }
 
@@ -50,10 +43,8 @@ fn put_rows(out: &mut [u8], at: usize, table: &[u32], kinds: usize) -> usize
     ensures { Appended (most_row * kinds) out.old at (row_lines kinds table.now) out.new result }
 {
     let mut next = at;
-    let mut kind = 0;
-    while kind < kinds {
+    for kind in 0..kinds {
         next = put_row(out, next, table, kinds, kind);
-        kind += 1;
     }
     next
 }
@@ -67,10 +58,7 @@ fn put_settled(out: &mut [u8], sheet: &[u8], stage: usize, table: &[u32]) -> Rep
     let card = Card::of_header(sheet);
     let at_rows = put_stages(out, 0, stage);
     let length = put_rows(out, at_rows, table, card.kinds);
-    Reply {
-        outcome: Outcome::Answered,
-        length,
-    }
+    Reply::answered(length)
 }
 
 // settle.
@@ -79,12 +67,12 @@ pub fn settle(sheet: &[u8], numbers: &[u64], out: &mut [u8]) -> Reply
     ensures { Tells (settle_told sheet.now numbers.now) out.old out.new result }
 {
     if numbers.len() != 0 {
-        return no_call();
+        return Reply::no_call();
     }
-    let mut table = table_room();
+    let mut table = [0u32; 1024];
     match settle_sheet(sheet, &mut table) {
-        Settling::Settled { stage } => put_settled(out, sheet, stage, &table),
-        Settling::Refused { number, place } => refuse(out, number, place),
+        Ok(stage) => put_settled(out, sheet, stage, &table),
+        Err(refusal) => refuse(out, refusal),
     }
 }
 
@@ -94,14 +82,11 @@ fn put_row_of(out: &mut [u8], table: &[u32], kinds: usize, kind: usize) -> Reply
     ensures { Tells (told (row_in kinds kind table.now (row_check_of kinds kind table.now))) out.old out.new result }
 {
     match row_check(table, kinds, kind) {
-        RowCheck::Clear => {
+        Ok(()) => {
             let length = put_row(out, 0, table, kinds, kind);
-            Reply {
-                outcome: Outcome::Answered,
-                length,
-            }
+            Reply::answered(length)
         }
-        RowCheck::Refused { number, place } => refuse(out, number, place),
+        Err(refusal) => refuse(out, refusal),
     }
 }
 
@@ -111,15 +96,15 @@ pub fn settled_row(sheet: &[u8], numbers: &[u64], out: &mut [u8]) -> Reply
     ensures { Tells (row_told sheet.now numbers.now) out.old out.new result }
 {
     if numbers.len() != 1 {
-        return no_call();
+        return Reply::no_call();
     }
     let kind = numbers[0] as usize;
-    let mut table = table_room();
+    let mut table = [0u32; 1024];
     match settle_sheet(sheet, &mut table) {
-        Settling::Settled { stage: _ } => {
+        Ok(_) => {
             let card = Card::of_header(sheet);
             put_row_of(out, &table, card.kinds, kind)
         }
-        Settling::Refused { number, place } => refuse(out, number, place),
+        Err(refusal) => refuse(out, refusal),
     }
 }

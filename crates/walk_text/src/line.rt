@@ -13,7 +13,7 @@ fn put_drawn(out: &mut [u8], at: usize, drawn: u32) -> usize
     requires { at + most_drawn ≤ length out.old }
     ensures { Appended most_drawn out.old at (drawn_text drawn) out.new result }
 {
-    let next = put_labelled(out, at, b" drawn ", drawn as u64);
+    let next = put_labelled(out, at, b" drawn ", u64::from(drawn));
     put_bytes(out, next, b"\n")
 }
 
@@ -22,9 +22,8 @@ pub fn put_walk(out: &mut [u8], at: usize, walked: Walked) -> usize
     requires { at + most_walk ≤ length out.old }
     ensures { Appended most_walk out.old at (walk_line (walked_of walked)) out.new result }
 {
-    let answer = walked.answer;
     let drawn = walked.drawn;
-    match answer {
+    match walked.answer {
         Answer::Apart { rounds } => {
             let next = put_labelled(out, at, b"apart ", rounds);
             put_drawn(out, next, drawn)

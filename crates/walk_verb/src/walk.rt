@@ -6,7 +6,7 @@ ghost use Rattle.replies.specs.Texts.{most_text};
 ghost use Rattle.walk_verb.specs.Texts.{given_to};
 ghost use Rattle.walk_verb.specs.Calls.{walk_told};
 
-use replies::reply::{Outcome, Reply, no_call};
+use replies::{Outcome, Reply};
 use walk_text::put_walk;
 use walker::{Answer, DESKS, Session, walk};
 
@@ -29,10 +29,7 @@ fn outcome_of(answer: Answer) -> Outcome
 fn desk_of(numbers: &[u64]) -> usize
     ensures { result ≡ get_or numbers.now 4 0 }
 {
-    if numbers.len() <= 4 {
-        return 0;
-    }
-    numbers[4] as usize
+    numbers.get(4).copied().unwrap_or(0) as usize
 }
 
 // A session in which this desk has the allowance and the others have none.
@@ -40,10 +37,9 @@ fn session_of(desk: usize, allowance: u32) -> Session
     ensures { result.left ≡ given_to desk allowance }
 {
     let mut allowances = [0u32; DESKS];
-    if DESKS <= desk {
-        return Session::open(allowances);
+    if desk < DESKS {
+        allowances[desk] = allowance;
     }
-    allowances[desk] = allowance;
     Session::open(allowances)
 }
 
@@ -53,14 +49,14 @@ pub fn walk_fields(sheet: &[u8], numbers: &[u64], out: &mut [u8]) -> Reply
     ensures { Tells (walk_told sheet.now numbers.now) out.old out.new result }
 {
     if numbers.len() < 4 {
-        return no_call();
+        return Reply::no_call();
     }
     if 5 < numbers.len() {
-        return no_call();
+        return Reply::no_call();
     }
     let allowance = numbers[3];
     if NARROW < allowance {
-        return no_call();
+        return Reply::no_call();
     }
     let desk = desk_of(numbers);
     let session = session_of(desk, allowance as u32);
@@ -72,8 +68,7 @@ pub fn walk_fields(sheet: &[u8], numbers: &[u64], out: &mut [u8]) -> Reply
         desk,
         session,
     );
-    let answer = walked.answer;
-    let outcome = outcome_of(answer);
+    let outcome = outcome_of(walked.answer);
     let length = put_walk(out, 0, walked);
     Reply { outcome, length }
 }

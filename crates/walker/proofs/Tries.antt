@@ -53,7 +53,7 @@ module _ (xs : List Line) (a b : Field) where
   walk_from allowance left r many = within allowance (walk_on (allowance - left) (walk xs a b r many))
 
   module _ (allowance left r many : ℕ) (fits : left ≤ allowance) where
-    pub none_left : many ≡ 0 → record { found = together; count = allowance - left } ≡ walk_from allowance left r many
+    none_left : many ≡ 0 → record { found = together; count = allowance - left } ≡ walk_from allowance left r many
     unfolding walk
     none_left e =
         let d : allowance - left + 0 ≡ allowance - left = omega arith in
@@ -65,12 +65,12 @@ module _ (xs : List Line) (a b : Field) where
 
     -- The rounds r are tried.
     module _ (n : ℕ) (some : many ≡ suc n) where
-      pub tries_spent : cut left (examine xs r a b) ≡ counted.spent → record { found = spent; count = allowance } ≡ walk_from allowance left r many
+      tries_spent : cut left (examine xs r a b) ≡ counted.spent → record { found = spent; count = allowance } ≡ walk_from allowance left r many
       tries_spent e =
           let l : left < (examine xs r a b).count = when_spent left (examine xs r a b) e in
           rw some (sym (spends allowance (walk_on (allowance - left) (walk xs a b r (suc n))) (omega (arith, walk_counts r n))))
 
-      pub tries_apart : (u : ℕ) → cut left (examine xs r a b) ≡ counted.fails u → record { found = apart r; count = allowance - u } ≡ walk_from allowance left r many
+      tries_apart : (u : ℕ) → cut left (examine xs r a b) ≡ counted.fails u → record { found = apart r; count = allowance - u } ≡ walk_from allowance left r many
       tries_apart u e =
           let t = when_known left (examine xs r a b) false u e in
           let d : allowance - u ≡ allowance - left + (examine xs r a b).count = omega (arith, t.1, t.2) in
@@ -79,7 +79,7 @@ module _ (xs : List Line) (a b : Field) where
           ∙ ap (λ (w : Walk). within allowance (walk_on (allowance - left) w)) (sym (walk_parts xs a b r n t.0))
           ∙ ap (λ (m : ℕ). walk_from allowance left r m) (sym some)
 
-      pub tries_on : (u : ℕ) → cut left (examine xs r a b) ≡ counted.holds u → walk_from allowance u (r + 1) n ≡ walk_from allowance left r many
+      tries_on : (u : ℕ) → cut left (examine xs r a b) ≡ counted.holds u → walk_from allowance u (r + 1) n ≡ walk_from allowance left r many
       tries_on u e =
           let t = when_known left (examine xs r a b) true u e in
           let q : r + 1 ≡ suc r = omega arith in
@@ -94,3 +94,30 @@ module _ (xs : List Line) (a b : Field) where
   starts allowance r many =
       let d : allowance - allowance + (walk xs a b r many).count ≡ (walk xs a b r many).count = omega arith in
       ap (λ (k : ℕ). within allowance (record { found = (walk xs a b r many).found; count = k })) d
+
+  -- What the loop keeps: what is drawn so far and what the rounds still to be tried come to is what the walk comes to.
+  abbrev pub Trying : (allowance limit left r : ℕ) → Type 0
+  Trying allowance limit left r = (left ≤ allowance) × (walk_from allowance left r (limit + 1 - r) ≡ within allowance (walk xs a b 1 limit))
+
+  module _ (allowance limit left r : ℕ) (trying : Trying allowance limit left r) where
+    -- The rounds are tried up to the limit.
+    pub tried_all : limit < r → record { found = together; count = allowance - left } ≡ within allowance (walk xs a b 1 limit)
+    tried_all h = none_left allowance left r (limit + 1 - r) trying.0 (omega arith) ∙ trying.1
+
+    -- The rounds r are tried next.
+    module _ (next : r ≤ limit) where
+      some : limit + 1 - r ≡ suc (limit - r)
+      some = omega arith
+
+      pub tried_spent : cut left (examine xs r a b) ≡ counted.spent → record { found = spent; count = allowance } ≡ within allowance (walk xs a b 1 limit)
+      tried_spent e = tries_spent allowance left r (limit + 1 - r) trying.0 (limit - r) some e ∙ trying.1
+
+      pub tried_apart : (u : ℕ) → cut left (examine xs r a b) ≡ counted.fails u → record { found = apart r; count = allowance - u } ≡ within allowance (walk xs a b 1 limit)
+      tried_apart u e = tries_apart allowance left r (limit + 1 - r) trying.0 (limit - r) some u e ∙ trying.1
+
+      pub tried_on : (u : ℕ) → cut left (examine xs r a b) ≡ counted.holds u → Trying allowance limit u (r + 1)
+      tried_on u e =
+          let z : limit + 1 - (r + 1) ≡ limit - r = omega arith in (
+            tries_within allowance left r (limit + 1 - r) trying.0 true u e,
+            ap (walk_from allowance u (r + 1)) z ∙ tries_on allowance left r (limit + 1 - r) trying.0 (limit - r) some u e ∙ trying.1,
+          )

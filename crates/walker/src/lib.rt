@@ -3,4 +3,4 @@
 
 pub mod entry; // the session, the answer and the call itself
 
-pub use entry::{Answer, DESKS, Session, Walked, walk};
+pub use entry::{Answer, DESKS, Session, Walked, check_walk, walk};

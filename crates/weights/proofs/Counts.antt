@@ -28,9 +28,8 @@ weigh_prefix i (suc n) w a h = go (dec_lt n i) (weigh_prefix i n w a)
 pub weigh_step : (i n : ℕ) (w : ℕ → ℕ) (a : Field) → i < n → weigh i w a + a i * w i ≤ weigh n w a
 weigh_step i n w a h = rw (← weigh_next i w a) (weigh_prefix (i + 1) n w a (omega arith))
 
--- One turn of a loop that sums: the product and the sum fit where the whole does, and the sum is over one kind more.
+-- One turn of a loop that sums: the sum fits where the whole does, and is over one kind more.
 pub record SumMore (i : ℕ) (w : ℕ → ℕ) (a : Field) (sum product bound : ℕ) : Type 0 where
-  pub product_fits : product < bound
   pub sum_fits : sum + product < bound
   pub sum_is : sum + product ≡ weigh (i + 1) w a
 
@@ -39,7 +38,7 @@ pub sum_more : (i n : ℕ) (w : ℕ → ℕ) (a : Field) (bound sum x y : ℕ) �
 sum_more i n w a bound sum x y h fits e p q =
     let z : x * y ≡ a i * w i = rw (p, q) in
     let u = weigh_step i n w a h in
-    record { product_fits = omega arith; sum_fits = omega arith; sum_is = omega (arith, weigh_next i w a) }
+    record { sum_fits = omega arith; sum_is = omega (arith, weigh_next i w a) }
 
 -- A kind without tokens adds nothing.
 pub sum_same : (i : ℕ) (w : ℕ → ℕ) (a : Field) → a i ≡ 0 → weigh i w a ≡ weigh (i + 1) w a

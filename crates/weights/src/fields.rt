@@ -3,8 +3,6 @@ ghost use Rattle.std.specs.Prelude.{◌≡◌, ◌≤◌, ◌<◌, ◌^◌};
 ghost use Rattle.model.specs.Field.{weigh, at, tokens};
 ghost use Rattle.model.specs.Limits.{most_kinds};
 
-use crate::value::wide32;
-
 // "The norm of a field is the fewest reads to the empty field", for a field of this many kinds whose norm fits 64 bits.
 pub fn field_norm(kinds: usize, norms: [u32; 32], field: [u32; 32]) -> u64
     requires kinds_le_most_kinds { kinds ≤ most_kinds }
@@ -12,12 +10,10 @@ pub fn field_norm(kinds: usize, norms: [u32; 32], field: [u32; 32]) -> u64
     ensures { result ≡ weigh kinds (at norms) (at field) }
 {
     let mut sum: u64 = 0;
-    let mut kind = 0;
-    while kind < kinds {
+    for kind in 0..kinds {
         let tokens = field[kind];
         let norm = norms[kind];
-        sum += wide32(tokens) * wide32(norm);
-        kind += 1;
+        sum += u64::from(tokens) * u64::from(norm);
     }
     sum
 }

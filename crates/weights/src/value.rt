@@ -13,11 +13,9 @@ pub fn weight(values: &[u32; 32], counts: &[u8]) -> u64
     ensures { result ≡ weigh (length counts.now) (at values.now) (at counts.now) }
 {
     let mut sum: u64 = 0;
-    let mut i = 0;
-    while i < counts.len() {
+    for (i, count) in counts.iter().enumerate() {
         let value = values[i];
-        sum += wide8(counts[i]) * wide32(value);
-        i += 1;
+        sum += u64::from(*count) * u64::from(value);
     }
     sum
 }
@@ -29,25 +27,22 @@ pub fn read_value(values: &[u32; 32], counts: &[u8]) -> u32
     ensures { result ≡ min (read_value (length counts.now) (at values.now) (at counts.now)) (suc norm_limit) }
 {
     let mut sum: u64 = 0;
-    let mut i = 0;
-    while i < counts.len() {
-        let count = counts[i];
-        if 0 < count {
+    for (i, count) in counts.iter().enumerate() {
+        if 0 < *count {
             let value = values[i];
             if value == 0 {
                 return 0;
             }
-            sum += wide8(count) * wide32(value);
+            sum += u64::from(*count) * u64::from(value);
         }
-        i += 1;
     }
-    if sum < Card::NORM as u64 {
+    if sum < u64::from(Card::NORM) {
         return (sum + 1) as u32;
     }
     Card::NORM + 1
 }
 
-// The lesser of two values, where 0 is none.
+// The lesser of two values, where 0 is none: no Option, since an array of values holds 32 of them and is read in every turn.
 pub fn lesser(first: u32, second: u32) -> u32
     ensures { result ≡ lesser_of first second }
 {
@@ -58,18 +53,4 @@ pub fn lesser(first: u32, second: u32) -> u32
         return first;
     }
     if first < second { first } else { second }
-}
-
-// A byte as a number of 64 bits.
-fn wide8(value: u8) -> u64
-    ensures { result ≡ value }
-{
-    value as u64
-}
-
-// A count or a norm as a number of 64 bits.
-pub fn wide32(value: u32) -> u64
-    ensures { result ≡ value }
-{
-    value as u64
 }

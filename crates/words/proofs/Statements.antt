@@ -7,15 +7,15 @@ use native.Mathlib.Decide.{dec_lt}
 use native.Mathlib.Omega.{arith}
 use lib.Dec.{eqb}
 use borrow.Author.Tests.{lt-ltb, le-leb, eq-eqb}
+use Rattle.std.specs.Prelude.{Some}
 use Rattle.model.specs.Finite.{all}
 use Rattle.model.specs.Page.{number}
 use Rattle.theory.proofs.Decimals.{decimals}
 use Rattle.words.specs.Word.{digit_of, is_digit, value_from, some, number_of}
 use Rattle.words.specs.Words.{started_by, words_of}
 use Rattle.words.specs.Statements.{ended, Statements}
-use Rattle.words.specs.declared.decimal.Word.TheVariants.{Number}
 use Rattle.words.proofs.Decimals.{digit_is}
-use Rattle.words.proofs.Texts.{zero_first, byte_first}
+use Rattle.words.proofs.Texts.{zero_first, byte_first, first_end}
 
 abbrev NoZero : List ℕ → Type 0
 NoZero w = all (λ c. not (eqb c 0)) w ≡ true
@@ -103,9 +103,9 @@ decimal_below (suc bound) x h = go (dec_lt x 10) (λ l. decimal_below bound (x /
     go (yes l) before = one_digit x l
     go (no l) before = more_digits x (omega arith) (before (omega arith))
 
-number_back : (most x : ℕ) → x ≤ most → number_of most (number x) ≡ Number x
+number_back : (most x : ℕ) → x ≤ most → number_of most (number x) ≡ Some x
 unfolding number_of
-number_back most x h = let d = decimal_below (suc x) x (omega arith) in rw (d.any, number_of, d.digits, d.value, le-leb x most h) (ap Number d.value)
+number_back most x h = let d = decimal_below (suc x) x (omega arith) in rw (d.any, number_of, d.digits, d.value, le-leb x most h) (ap Some d.value)
 
 pub statements : Statements
-statements = record { words = words_back; number = number_back }
+statements = record { words = words_back; ends = λ text. first_end text _ refl; number = number_back }

@@ -1,8 +1,6 @@
 -- Numbers in decimal, as words of bytes.
-use Rattle.std.specs.Prelude.{Bool, true, false, List, [], ◌∷◌, ℕ, ◌+◌, ◌-◌, ◌*◌, ltb, leb}
+use Rattle.std.specs.Prelude.{Bool, true, false, List, [], ◌∷◌, Option, Some, None, ℕ, ◌+◌, ◌-◌, ◌*◌, ltb, leb}
 use Rattle.model.specs.Finite.{both, all}
-use Rattle.words.specs.declared.decimal.Word.{Word}
-use Rattle.words.specs.declared.decimal.Word.TheVariants.{Number, Other}
 
 -- The digit that a byte is, 10 where it is none.
 unfoldable pub digit_of : ℕ → ℕ
@@ -21,6 +19,6 @@ some [] = false
 some (c ∷ cs) = true
 
 -- "A number that is no number or too large for its type": the number that a word of digits says, where it is at most `most`.
-unfoldable pub number_of : ℕ → List ℕ → Word
+unfoldable pub number_of : ℕ → List ℕ → Option ℕ
 number_of most word =
-    elim (both (some word) (both (all is_digit word) (leb (value_from 0 word) most))) [ true ↦ Number (value_from 0 word) | false ↦ Other ]
+    elim (both (some word) (both (all is_digit word) (leb (value_from 0 word) most))) [ true ↦ Some (value_from 0 word) | false ↦ None ]

@@ -1,11 +1,7 @@
 -- Words one after another, each ended by a byte 0, and the numbers that they say.
-use Rattle.std.specs.Prelude.{Bool, true, false, List, [], ◌∷◌, ℕ, zero, suc, ◌≤◌, eqb, take}
+use Rattle.std.specs.Prelude.{Bool, true, false, List, [], ◌∷◌, Option, Some, None, ℕ, zero, suc, ◌≤◌, eqb, take}
 use Rattle.model.specs.Finite.{both}
 use Rattle.words.specs.Word.{number_of}
-use Rattle.words.specs.declared.decimal.Word.{Word}
-use Rattle.words.specs.declared.decimal.Word.TheVariants.{Number, Other}
-use Rattle.words.specs.declared.list.Count.{Count}
-use Rattle.words.specs.declared.list.Count.TheVariants.{Numbers, Other as NoNumbers}
 
 -- The bytes of a text before its first 0.
 unfoldable pub first_word : List ℕ → List ℕ
@@ -33,29 +29,24 @@ same_word (x ∷ xs) (y ∷ ys) = both (eqb x y) (same_word xs ys)
 abbrev pub most_wide : ℕ
 most_wide = 18446744073709551615
 
--- The numbers that words say, or that they say none.
-pub data Said : Type 0 where
-  numbers : List ℕ → Said
-  nothing : Said
-
 -- A word before others.
-unfoldable pub said_after : Word → Said → Said
-said_after (Number x) (numbers xs) = numbers (x ∷ xs)
-said_after (Number x) nothing = nothing
-said_after Other said = nothing
+unfoldable pub said_after : Option ℕ → Option (List ℕ) → Option (List ℕ)
+said_after (Some x) (Some xs) = Some (x ∷ xs)
+said_after (Some x) None = None
+said_after None said = None
 
--- Each word is a number of 64 bits, and there are at most `most` of them; otherwise they say nothing.
-unfoldable pub numbers_of : ℕ → List (List ℕ) → Said
-numbers_of most [] = numbers []
-numbers_of zero (w ∷ ws) = nothing
+-- Each word is a number of 64 bits, and there are at most `most` of them; otherwise they say none.
+unfoldable pub numbers_of : ℕ → List (List ℕ) → Option (List ℕ)
+numbers_of most [] = Some []
+numbers_of zero (w ∷ ws) = None
 numbers_of (suc most) (w ∷ ws) = said_after (number_of most_wide w) (numbers_of most ws)
 
 -- The first of an array's numbers, as many as a count says.
-abbrev pub count_of : Count → List ℕ → Said
-count_of (Numbers n) values = numbers (take n values)
-count_of NoNumbers values = nothing
+abbrev pub count_of : Option ℕ → List ℕ → Option (List ℕ)
+count_of (Some n) values = Some (take n values)
+count_of None values = None
 
 -- A count is at most the length of the array.
-abbrev pub CountWithin : Count → ℕ → Type 0
-CountWithin (Numbers n) most = n ≤ most
-CountWithin NoNumbers most = Unit {0}
+abbrev pub CountWithin : Option ℕ → ℕ → Type 0
+CountWithin (Some n) most = n ≤ most
+CountWithin None most = Unit {0}

@@ -1,47 +1,33 @@
 // Numbers in decimal.
-ghost use Rattle.std.specs.Prelude.{◌≡◌, ◌+◌, ◌*◌, ◌-◌, ◌≤◌, ◌<◌};
+ghost use Rattle.std.specs.Prelude.{◌≡◌, ◌+◌, ◌*◌, ◌-◌, ◌≤◌, ◌<◌, MatchOption};
 ghost use Rattle.words.specs.Word.{number_of, digit_of};
 
-// What a word says: a number, or none that is wanted.
-#[derive(Drop)]
-pub enum Word {
-    Number(u64),
-    Other,
-}
-
-// The digit that a byte is, 10 where it is none.
-fn digit(byte: u8) -> u64
-    ensures { result ≡ digit_of byte }
+// The digit that a byte is.
+#[tactic(auto, using(crate::proofs::Decimals::digits))]
+fn digit(byte: u8) -> Option<u64>
+    ensures { MatchOption result (digit_of byte ≡ 10) (λ d. (d ≡ digit_of byte) × (d < 10)) }
 {
-    if byte < 48 {
-        return 10;
+    match byte {
+        b'0'..=b'9' => Some(u64::from(byte - b'0')),
+        _ => None,
     }
-    if 57 < byte {
-        return 10;
-    }
-    (byte - 48) as u64
 }
 
 // The number that a word of decimal digits says, where it is at most `most`.
-pub fn number(word: &[u8], most: u64) -> Word
+pub fn number(word: &[u8], most: u64) -> Option<u64>
     requires { 9 ≤ most }
     ensures { result ≡ number_of most word.now }
 {
-    if word.len() == 0 {
-        return Word::Other;
+    if word.is_empty() {
+        return None;
     }
-    let mut value: u64 = 0;
-    let mut i = 0;
-    while i < word.len() {
-        let next = digit(word[i]);
-        if 9 < next {
-            return Word::Other;
-        }
+    let mut value = 0;
+    for byte in word {
+        let next = digit(*byte)?;
         if (most - next) / 10 < value {
-            return Word::Other;
+            return None;
         }
         value = 10 * value + next;
-        i += 1;
     }
-    Word::Number(value)
+    Some(value)
 }

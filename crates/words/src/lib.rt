@@ -4,5 +4,5 @@
 pub mod decimal; // a number in decimal, of at most a given size
 pub mod list; // words one after another
 
-pub use decimal::{Word, number};
-pub use list::{Count, numbers_in, same_word, word_end};
+pub use decimal::number;
+pub use list::{numbers_in, word_end};

@@ -20,6 +20,6 @@ loop-bytes-preserved g c =
     let from = c.loop-bytes.bytes in
     let room = length c.loop-bytes.buffer - from in
     let before = c.loop-bytes.invariant in
-    let read = c.in-Ok.ensures in
-    let joined = take-put_mid from room c.in-Ok.more c.loop-bytes.buffer c.read.new.buf before.0 read.bound.0 in
+    let read = c.in_ok-more.ensures in
+    let joined = take-put_mid from room c.in_ok-more.more c.loop-bytes.buffer c.read.new.buf before.0 read.bound.0 in
     (search rules, search rules, subst (Consumes _ _) joined (Consumes-trans _ _ _ _ _ before.2 read.bytes.0))

@@ -1,15 +1,15 @@
 -- Each case by its number.
 use mathlib.Core.Path.{◌∙◌, sym, ap}
-use Rattle.filer.specs.Answers.{forming_of}
-use Rattle.filer.specs.declared.answers.Forming.{Forming}
+use Rattle.std.proofs.lemmas.Result.{IfErr-at_err}
+use Rattle.refusals.specs.Refusals.{answer_of}
 use Rattle.exports.specs.Calls.{written_code}
 use Rattle.exports.proofs.form.forming_code.Goals as goal
 
-pub refusal_code-requires : goal.refusal_code-requires
-refusal_code-requires c = c.requires _ _ c.in-Refused.is
+pub refused-requires : goal.refused-requires
+refused-requires c = IfErr-at_err _ c.in-Err.is c.requires
 
-pub returns-in-Written : goal.returns-in-Written
-returns-in-Written c = sym (ap (λ (f : Forming). written_code (forming_of f)) c.in-Written.is)
+pub returns-in-Ok : goal.returns-in-Ok
+returns-in-Ok c = sym (ap (λ f. written_code (answer_of (λ x. tt) f)) c.in-Ok.is)
 
-pub returns-in-Refused : goal.returns-in-Refused
-returns-in-Refused c = c.refusal_code.ensures ∙ sym (ap (λ (f : Forming). written_code (forming_of f)) c.in-Refused.is)
+pub returns-in-Err : goal.returns-in-Err
+returns-in-Err c = c.refused.ensures ∙ sym (ap (λ f. written_code (answer_of (λ x. tt) f)) c.in-Err.is)

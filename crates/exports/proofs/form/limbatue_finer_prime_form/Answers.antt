@@ -1,16 +1,15 @@
 -- The buffer is as the filer left it, and its refusal fits.
-use mathlib.Core.Path.{sym, ◌∙◌, ap}
+use mathlib.Core.Path.{sym, ◌∙◌}
 use native.Mathlib.Omega.{arith}
 use Rattle.model.specs.Sense.{finer}
-use Rattle.filer.specs.Answers.{forming_of}
 use Rattle.arrays.proofs.Codes.{form_fits}
-use Rattle.exports.proofs.Outcomes.{form_called}
+use Rattle.exports.proofs.Outcomes.{form_called, refused_fits}
 use Rattle.exports.proofs.form.limbatue_finer_prime_form.Goals as goal
 
 pub forming_code-requires : goal.forming_code-requires
 forming_code-requires c =
     let args = c.args in
-    λ number place e. form_fits args.sheet.now (λ i. omega (arith, c.type_inv.sheet i)) number place finer args.field args.counts.now (sym c.finer_prime_form.ensures.result_value ∙ ap forming_of e)
+    refused_fits c.finer_prime_form.result (λ number place e. form_fits args.sheet.now (λ i. omega (arith, c.type_inv.sheet i)) number place finer args.field args.counts.now (sym c.finer_prime_form.ensures.result_value ∙ e))
 
 pub returns : goal.returns
 returns c =

@@ -7,19 +7,19 @@ use Rattle.arrays.proofs.Replies.{code_is, values_are}
 use Rattle.exports.proofs.Outcomes.{numbers_gives, numbers_refuses}
 use Rattle.exports.proofs.numbers.limbatue_numbers.Goals as goal
 
-pub refusal_code-requires : goal.refusal_code-requires
-refusal_code-requires c =
+pub refused-requires : goal.refused-requires
+refused-requires c =
     let args = c.args in
-    found_fits _ (sheet_small args.sheet.now (λ i. omega (arith, c.type_inv.sheet i))) _ _ (checked_refused args.sheet.now _ _ (sym c.in-Refused.ensures))
+    found_fits _ (sheet_small args.sheet.now (λ i. omega (arith, c.type_inv.sheet i))) _ _ (checked_refused args.sheet.now _ _ (sym c.in-Err.ensures))
 
-pub returns-in-Passed : goal.returns-in-Passed
-returns-in-Passed c =
+pub returns-in-Ok : goal.returns-in-Ok
+returns-in-Ok c =
     let args = c.args in
-    let e = numbers_gives args.sheet.now args.answer.now _ (checked_reads args.sheet.now _ (sym c.in-Passed.ensures)) in
+    let e = numbers_gives args.sheet.now args.answer.now _ (checked_reads args.sheet.now _ (sym c.in-Ok.ensures)) in
     record { value = c.reply_card.ensures.value ∙ code_is e; answer_after = c.reply_card.ensures.answer_after ∙ values_are e }
 
-pub returns-in-Refused : goal.returns-in-Refused
-returns-in-Refused c =
+pub returns-in-Err : goal.returns-in-Err
+returns-in-Err c =
     let args = c.args in
-    let e = numbers_refuses args.sheet.now args.answer.now _ _ (checked_refused args.sheet.now _ _ (sym c.in-Refused.ensures)) in
-    record { value = c.refusal_code.ensures ∙ code_is e; answer_after = values_are e }
+    let e = numbers_refuses args.sheet.now args.answer.now _ _ (checked_refused args.sheet.now _ _ (sym c.in-Err.ensures)) in
+    record { value = c.refused.ensures ∙ code_is e; answer_after = values_are e }

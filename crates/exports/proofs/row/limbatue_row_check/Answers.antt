@@ -10,22 +10,22 @@ use Rattle.exports.proofs.row.limbatue_row_check.Goals as goal
 pub reply_row-requires : goal.reply_row-requires
 reply_row-requires c =
     let args = c.args in
-    let inside : _ = row_inside args.kinds args.kind args.table.now (whole args.kinds args.kind args.table.now (sym c.in-Clear.ensures)) in
+    let inside : _ = row_inside args.kinds args.kind args.table.now (whole args.kinds args.kind args.table.now (sym c.in-Ok.ensures)) in
     omega arith
 
-pub refusal_code-requires : goal.refusal_code-requires
-refusal_code-requires c =
+pub refused-requires : goal.refused-requires
+refused-requires c =
     let args = c.args in
-    row_fits args.kinds args.kind args.table.now _ _ (sym c.in-Refused.ensures)
+    row_fits args.kinds args.kind args.table.now _ _ (sym c.in-Err.ensures)
 
-pub returns-in-Clear : goal.returns-in-Clear
-returns-in-Clear c =
+pub returns-in-Ok : goal.returns-in-Ok
+returns-in-Ok c =
     let args = c.args in
-    let e = row_gives args.kinds args.kind args.table.now args.answer.now (sym c.in-Clear.ensures) in
+    let e = row_gives args.kinds args.kind args.table.now args.answer.now (sym c.in-Ok.ensures) in
     record { value = c.reply_row.ensures.value ∙ code_is e; answer_after = c.reply_row.ensures.answer_after ∙ values_are e }
 
-pub returns-in-Refused : goal.returns-in-Refused
-returns-in-Refused c =
+pub returns-in-Err : goal.returns-in-Err
+returns-in-Err c =
     let args = c.args in
-    let e = row_refuses args.kinds args.kind args.table.now args.answer.now _ _ (sym c.in-Refused.ensures) in
-    record { value = c.refusal_code.ensures ∙ code_is e; answer_after = values_are e }
+    let e = row_refuses args.kinds args.kind args.table.now args.answer.now _ _ (sym c.in-Err.ensures) in
+    record { value = c.refused.ensures ∙ code_is e; answer_after = values_are e }

@@ -5,17 +5,17 @@ use Rattle.arrays.proofs.Codes.{squads_fits}
 use Rattle.exports.proofs.SquadsOutcomes.{short_refused, short_given}
 use Rattle.exports.proofs.squad_count.short_squads.Goals as goal
 
-pub refusal_code-requires : goal.refusal_code-requires
-refusal_code-requires c =
+pub refused-requires : goal.refused-requires
+refused-requires c =
     let args = c.args in
-    squads_fits args.sheet.now (λ i. omega (arith, c.type_inv.sheet i)) _ _ args.whole args.squad _ (sym c.in-Refused.ensures.result_value)
+    squads_fits args.sheet.now (λ i. omega (arith, c.type_inv.sheet i)) _ _ args.whole args.squad _ (sym c.in-Err.ensures.result_value)
 
-pub returns-in-Counted : goal.returns-in-Counted
-returns-in-Counted c =
+pub returns-in-Ok : goal.returns-in-Ok
+returns-in-Ok c =
     let args = c.args in
-    short_given args.sheet.now args.whole args.squad _ _ (sym c.in-Counted.ensures.result_value)
+    short_given args.sheet.now args.whole args.squad _ _ (sym c.in-Ok.ensures.result_value)
 
-pub returns-in-Refused : goal.returns-in-Refused
-returns-in-Refused c =
+pub returns-in-Err : goal.returns-in-Err
+returns-in-Err c =
     let args = c.args in
-    c.refusal_code.ensures ∙ short_refused args.sheet.now args.whole args.squad _ _ _ (sym c.in-Refused.ensures.result_value)
+    c.refused.ensures ∙ short_refused args.sheet.now args.whole args.squad _ _ _ (sym c.in-Err.ensures.result_value)

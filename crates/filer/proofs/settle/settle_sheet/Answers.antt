@@ -1,50 +1,42 @@
 -- The settlement tells what each return answers, and what is written.
 use borrow.Author.Rules.{rules}
 use native.Mathlib.Omega.{arith}
-use lib.ListN.{length}
-use mathlib.Core.Path.{◌≡◌}
+use Rattle.std.proofs.lemmas.Result.{err_from_is_err_and}
 use Rattle.model.specs.Sense.{plain}
-use Rattle.sheet.specs.Reader.{Reads}
-use Rattle.validation.specs.declared.checks.Checked.TheVariants.{Passed}
 use Rattle.sheet.proofs.Laws.{kinds_most}
+use Rattle.acceptance.proofs.Acceptances.{accepts, found_refused}
 use Rattle.filer.specs.Settlement.{IsSettlement}
 use Rattle.filer.proofs.Rows.{square_most}
-use Rattle.filer.proofs.Settlements.{was_accepted, settle_refuses, settle_short, settle_writes}
+use Rattle.filer.proofs.Settlements.{settle_refuses_sheet, settle_short, settle_writes}
 use Rattle.filer.proofs.settle.settle_sheet.Goals as goal
-use Rattle.filer.proofs.settle.settle_sheet.Goals.{In-Passed}
+use Rattle.filer.proofs.settle.settle_sheet.Goals.{After-settle_accepted-settlement}
 
-settled : (c : In-Passed) → IsSettlement plain c.args.sheet.now c.settle_once-settlement.result
-settled c = c.settle_once-settlement.ensures
+settled : (c : After-settle_accepted-settlement) → IsSettlement plain c.args.sheet.now c.settle_accepted-settlement.result
+settled c = c.settle_accepted-settlement.ensures
 
-passed : (c : In-Passed) → c.settle_once-settlement.result.checked ≡ Passed c.in-Passed.card
-passed c = c.in-Passed.is
-
-read : (c : In-Passed) → Reads c.args.sheet.now c.in-Passed.card
-read c = (was_accepted (settled c) c.in-Passed.card (passed c)).reads
-
-rows_all : (c : In-Passed) → length c.settle_once-settlement.result.settled.base.rows ≡ 1024
-rows_all c = search rules
+pub settle_accepted-settlement-requires : goal.settle_accepted-settlement-requires
+settle_accepted-settlement-requires c = accepts _ c.in_ok-acceptance.acceptance c.in_ok-acceptance.ensures
 
 pub overflow_mul-n : goal.overflow_mul-n
-overflow_mul-n c = omega (arith, square_most (goal.at.overflow_mul-n c).In-Passed.in-Passed.card.kinds (kinds_most (read (goal.at.overflow_mul-n c).In-Passed)))
+overflow_mul-n c = let X = settled (goal.at.overflow_mul-n c).After-settle_accepted-settlement in omega (arith, square_most c.settle_accepted-settlement.result.card.kinds (kinds_most X.accepts.reads))
 
 pub returns-then-table-n : goal.returns-then-table-n
 returns-then-table-n c =
-    let g = settle_short (settled (goal.at.returns-then-table-n c).In-Passed) c.args.table.now _ (passed (goal.at.returns-then-table-n c).In-Passed) c.if-table-n.true in
+    let g = settle_short (settled (goal.at.returns-then-table-n c).After-settle_accepted-settlement) c.args.table.now c.if-table-n.true in
     record { result_value = g.0; table_after = g.1 }
 
 pub write_table-requires : goal.write_table-requires
 write_table-requires c =
-    let room = c.if-table-n.false in
-    record { rows_len = (rows_all (goal.at.write_table-requires c).In-Passed, kinds_most (read (goal.at.write_table-requires c).In-Passed)); kinds_in_bounds = room }
+    let X = settled (goal.at.write_table-requires c).After-settle_accepted-settlement in
+    record { rows_len = (search rules, kinds_most X.accepts.reads); kinds_in_bounds = c.if-table-n.false }
 
-pub returns-in-Refused : goal.returns-in-Refused
-returns-in-Refused c =
-    let g = settle_refuses c.settle_once-settlement.ensures c.args.table.now _ _ c.in-Refused.is in
-    record { result_value = g.0; table_after = g.1 }
+pub returns-in_err-acceptance : goal.returns-in_err-acceptance
+returns-in_err-acceptance c =
+    let p = err_from_is_err_and c.from_residual.result c.from_residual.ensures.1 in
+    let g = settle_refuses_sheet _ _ _ (found_refused _ _ _ c.in_err-acceptance.ensures) c.args.table.now in
+    record { result_value = rw (p.1, p.2) g.0; table_after = g.1 }
 
-pub returns-else-table-n : goal.returns-else-table-n
-returns-else-table-n c =
-    let room = c.if-table-n.false in
-    let g = settle_writes (settled (goal.at.returns-else-table-n c).In-Passed) c.args.table.now _ (passed (goal.at.returns-else-table-n c).In-Passed) _ room c.write_table.ensures in
+pub returns : goal.returns
+returns c =
+    let g = settle_writes (settled (goal.at.returns c).After-settle_accepted-settlement) c.args.table.now _ c.if-table-n.false c.write_table.ensures in
     record { result_value = g.0; table_after = g.1 }

@@ -7,6 +7,7 @@ use lib.ListN.{length}
 use Rattle.filer.proofs.Rows.{square_most}
 use Rattle.theory.proofs.Writing.{begun_none, begun_length, begun_all}
 use Rattle.filer.proofs.Writing.{table_long, row_fits, part_long, row_long, row_written, begun_part}
+use Rattle.filer.proofs.Settlements.{copied}
 use Rattle.filer.proofs.settle.write_table.Goals as goal
 use Rattle.filer.proofs.settle.write_table.Goals.{In-loop-row}
 
@@ -35,14 +36,14 @@ overflow_add-place c = omega (arith, fits (goal.at.overflow_add-place c).In-loop
 pub offset_bounds-table-place : goal.offset_bounds-table-place
 offset_bounds-table-place c = omega (arith, fits (goal.at.offset_bounds-table-place c).In-loop-row)
 
-pub slice_bounds-write_u32-end-in-loop-row : goal.slice_bounds-write_u32-end-in-loop-row
-slice_bounds-write_u32-end-in-loop-row c = omega (arith, place_fits (goal.at.slice_bounds-write_u32-end-in-loop-row c).In-loop-row)
+pub slice_bounds-write-end-in-loop-row : goal.slice_bounds-write-end-in-loop-row
+slice_bounds-write-end-in-loop-row c = omega (arith, place_fits (goal.at.slice_bounds-write-end-in-loop-row c).In-loop-row)
 
-pub write_u32-requires : goal.write_u32-requires
-write_u32-requires c =
+pub write-requires : goal.write-requires
+write-requires c =
     let n = c.args.kinds in
     let row = c.loop-row.row in
-    omega (arith, row_long n row c.args.rows.now c.loop-row-test.true c.requires.rows_len.1 c.requires.rows_len.0, part_long c.loop-row.table (row * n) n (place_fits (goal.at.write_u32-requires c).In-loop-row))
+    omega (arith, row_long n row c.args.rows.now c.loop-row-test.true c.requires.rows_len.1 c.requires.rows_len.0, part_long c.loop-row.table (row * n) n (place_fits (goal.at.write-requires c).In-loop-row))
 
 pub loop-row-preserved : goal.loop-row-preserved
 loop-row-preserved c =
@@ -51,7 +52,7 @@ loop-row-preserved c =
     let row = c.loop-row.row in
     let k = c.loop-row-test.true in
     let next : (row + 1) * n ≡ row * n + n = rw add-one (suc-mul row n) in
-    let part_is = c.write_u32.ensures ∙ row_written n row rows k c.requires.rows_len.1 c.requires.rows_len.0 _ (part_long c.loop-row.table (row * n) n (place_fits (goal.at.loop-row-preserved c).In-loop-row)) in
+    let part_is = copied _ _ _ c.write.ensures ∙ row_written n row rows k c.requires.rows_len.1 c.requires.rows_len.0 _ (part_long c.loop-row.table (row * n) n (place_fits (goal.at.loop-row-preserved c).In-loop-row)) in
     rw next (begun_part c.loop-row.invariant n (omega (arith, table_long n rows, row_fits n row rows k)) _ part_is)
 
 pub shape_of-table : goal.shape_of-table

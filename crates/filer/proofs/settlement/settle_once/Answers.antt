@@ -1,19 +1,15 @@
 -- What the checks come to, and what the settle loop gives where they pass.
-use Rattle.acceptance.proofs.Acceptances.{acceptance_accepts}
-use Rattle.filer.proofs.Settlements.{settlement_refused, settlement_passed}
+use Rattle.std.proofs.lemmas.Result.{err_from_is_err_and}
+use Rattle.acceptance.proofs.Acceptances.{accepts, found_refused}
 use Rattle.filer.proofs.settlement.settle_once.Goals as goal
 
-pub settle_reached-settled-requires : goal.settle_reached-settled-requires
-settle_reached-settled-requires c =
-    let accept = c.accept-acceptance in
-    acceptance_accepts _ _ accept.ensures _ c.in-Passed.is
+pub settle_accepted-requires : goal.settle_accepted-requires
+settle_accepted-requires c = accepts _ c.in_ok-acceptance.acceptance c.in_ok-acceptance.ensures
 
-pub returns-in-Refused : goal.returns-in-Refused
-returns-in-Refused c =
-    let accept = c.accept-acceptance in
-    settlement_refused _ _ _ accept.ensures _ _ _ c.in-Refused.is
+pub returns-in_err-acceptance : goal.returns-in_err-acceptance
+returns-in_err-acceptance c =
+    let p = err_from_is_err_and c.from_residual.result c.from_residual.ensures.1 in
+    rw (p.1, p.2) (found_refused _ _ _ c.in_err-acceptance.ensures)
 
-pub returns-in-Passed : goal.returns-in-Passed
-returns-in-Passed c =
-    let accept = c.accept-acceptance in
-    settlement_passed _ _ _ accept.ensures _ _ c.in-Passed.is c.settle_reached-settled.ensures
+pub returns : goal.returns
+returns c = c.settle_accepted.ensures

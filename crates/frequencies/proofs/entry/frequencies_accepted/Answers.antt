@@ -1,30 +1,26 @@
 -- What each return answers, by the tests on the way, and what is written.
-use borrow.Author.Rules.{rules}
+use mathlib.Core.List.{List}
 use mathlib.Core.Path.{◌≡◌, ap}
 use Prim.Native.Nat.{ℕ, ◌≤◌}
 use native.Mathlib.Omega.{arith}
-use lib.ListN.{length, take}
+use lib.ListN.{length}
 use Rattle.model.specs.Shelf.{entry}
 use Rattle.numbering.specs.Kinds.{normed_kinds}
-use Rattle.numbering.specs.declared.kinds.Listed.{Listed}
 use Rattle.model.specs.Card.{reached_count}
 use Rattle.model.specs.Sheet.{card_of}
 use Rattle.sheet.proofs.Laws.{kinds_are, kinds_most, fields_are}
-use Rattle.numbering.proofs.Listed.{listed_few, listed_count, listed_are, listed_order, first_long}
+use Rattle.numbering.proofs.Listed.{listed_few, listed_count, listed_are, listed_order}
 use Rattle.frequencies.proofs.Calls.{no_field, size_over, too_many, buffer_short, counts_written}
 use Rattle.frequencies.proofs.entry.frequencies_accepted.Goals as goal
 use Rattle.frequencies.proofs.entry.frequencies_accepted.Goals.{Start}
 
-abbrev Lists : Start → Listed → Type 0
-Lists start r =
-    (r.count ≡ length (normed_kinds start.args.card.kinds start.args.norms)) × (take r.count r.kinds ≡ normed_kinds start.args.card.kinds start.args.norms)
-
 -- The kinds that were listed.
-few : (start : Start) (r : Listed) → Lists start r → r.count ≤ start.args.card.kinds
-few start r lists = listed_few start.requires r lists
+few : (start : Start) (listed : List ℕ) → listed ≡ normed_kinds start.args.card.kinds start.args.norms → length listed ≤ start.args.card.kinds
+few start listed lists = listed_few start.requires listed lists
 
-entry_count : (start : Start) (r : Listed) → Lists start r → entry r.count start.args.size ≡ entry (reached_count (card_of start.args.sheet.now)) start.args.size
-entry_count start r lists = ap (λ (k : ℕ). entry k start.args.size) (listed_count start.requires r lists)
+entry_count : (start : Start) (listed : List ℕ) → listed ≡ normed_kinds start.args.card.kinds start.args.norms
+    → entry (length listed) start.args.size ≡ entry (reached_count (card_of start.args.sheet.now)) start.args.size
+entry_count start listed lists = ap (λ (k : ℕ). entry k start.args.size) (listed_count start.requires listed lists)
 
 pub returns-then-fields-field : goal.returns-then-fields-field
 returns-then-fields-field c =
@@ -36,17 +32,17 @@ returns-then-size-gt-TOKENS c =
     let g = size_over _ _ _ _ c.requires.accepted (omega (arith, c.if-fields-field.false, fields_are c.requires.reads)) (omega (arith, c.if-size-gt-TOKENS.true)) in
     record { result_value = g.0; buffer_after = g.1 }
 
-pub listed_kinds-listed-requires : goal.listed_kinds-listed-requires
-listed_kinds-listed-requires c = kinds_most c.requires.reads
+pub listed_kinds-kinds-requires : goal.listed_kinds-kinds-requires
+listed_kinds-kinds-requires c = kinds_most c.requires.reads
 
 pub entry_of-requires : goal.entry_of-requires
 entry_of-requires c =
-    (omega (arith, few (goal.at.entry_of-requires c).Start c.listed_kinds-listed.result (c.listed_kinds-listed.ensures.count_value, c.listed_kinds-listed.ensures.kinds_value), kinds_most c.requires.reads), c.if-size-gt-TOKENS.false)
+    (omega (arith, few (goal.at.entry_of-requires c).Start _ c.listed_kinds-kinds.ensures, kinds_most c.requires.reads), c.if-size-gt-TOKENS.false)
 
 pub returns-then-entry_of-gt-LISTED : goal.returns-then-entry_of-gt-LISTED
 returns-then-entry_of-gt-LISTED c =
     let g = too_many _ _ _ _ c.requires.accepted (omega (arith, c.if-fields-field.false, fields_are c.requires.reads)) c.if-size-gt-TOKENS.false
-    (omega (arith, c.if-entry_of-gt-LISTED.true, c.entry_of.ensures, entry_count (goal.at.returns-then-entry_of-gt-LISTED c).Start c.listed_kinds-listed.result (c.listed_kinds-listed.ensures.count_value, c.listed_kinds-listed.ensures.kinds_value))) in
+    (omega (arith, c.if-entry_of-gt-LISTED.true, c.entry_of.ensures, entry_count (goal.at.returns-then-entry_of-gt-LISTED c).Start _ c.listed_kinds-kinds.ensures)) in
     record { result_value = g.0; buffer_after = g.1 }
 
 pub overflow_add-n : goal.overflow_add-n
@@ -55,29 +51,18 @@ overflow_add-n c = omega (arith, kinds_most c.requires.reads)
 pub returns-then-buffer-n : goal.returns-then-buffer-n
 returns-then-buffer-n c =
     let g = buffer_short _ _ _ _ c.requires.accepted (omega (arith, c.if-fields-field.false, fields_are c.requires.reads)) c.if-size-gt-TOKENS.false
-    (omega (arith, c.if-entry_of-gt-LISTED.false, c.entry_of.ensures, entry_count (goal.at.returns-then-buffer-n c).Start c.listed_kinds-listed.result (c.listed_kinds-listed.ensures.count_value, c.listed_kinds-listed.ensures.kinds_value)))
+    (omega (arith, c.if-entry_of-gt-LISTED.false, c.entry_of.ensures, entry_count (goal.at.returns-then-buffer-n c).Start _ c.listed_kinds-kinds.ensures))
     (omega (arith, c.if-buffer-n.true, kinds_are c.requires.reads)) in
     record { result_value = g.0; buffer_after = g.1 }
 
-pub slice_bounds-kinds-end : goal.slice_bounds-kinds-end
-slice_bounds-kinds-end c =
-    let listed = c.listed_kinds-listed in
-    let long : length listed.result.kinds ≡ 32 = search rules in
-    omega (arith, few (goal.at.slice_bounds-kinds-end c).Start listed.result (listed.ensures.count_value, listed.ensures.kinds_value), kinds_most c.requires.reads)
-
-pub slice_bounds-count_answers-end : goal.slice_bounds-count_answers-end
-slice_bounds-count_answers-end c =
-    let listed = c.listed_kinds-listed in
-    first_long listed.result.kinds _ (omega (arith, few (goal.at.slice_bounds-count_answers-end c).Start listed.result (listed.ensures.count_value, listed.ensures.kinds_value), kinds_most c.requires.reads)) (search rules)
-
 pub count_answers-requires : goal.count_answers-requires
 count_answers-requires c =
-    let listed = c.listed_kinds-listed in record { accepts = c.requires; kinds_value = (listed_are c.requires listed.result (listed.ensures.count_value, listed.ensures.kinds_value), listed_order c.requires listed.result (listed.ensures.count_value, listed.ensures.kinds_value)); field_lt_fields = (omega (arith, c.if-fields-field.false), c.if-size-gt-TOKENS.false); size_bound = omega (arith, c.if-entry_of-gt-LISTED.false, c.entry_of.ensures, entry_count (goal.at.count_answers-requires c).Start listed.result (listed.ensures.count_value, listed.ensures.kinds_value)); sheet_in_bounds = omega (arith, c.if-buffer-n.false, kinds_are c.requires.reads) }
+    let listed = c.listed_kinds-kinds in record { accepts = c.requires; kinds_value = (listed_are c.requires _ listed.ensures, listed_order c.requires _ listed.ensures); field_lt_fields = (omega (arith, c.if-fields-field.false), c.if-size-gt-TOKENS.false); size_bound = omega (arith, c.if-entry_of-gt-LISTED.false, c.entry_of.ensures, entry_count (goal.at.count_answers-requires c).Start _ listed.ensures); sheet_in_bounds = omega (arith, c.if-buffer-n.false, kinds_are c.requires.reads) }
 
 pub returns : goal.returns
 returns c =
-    let listed = c.listed_kinds-listed in
+    let listed = c.listed_kinds-kinds in
     let g = counts_written _ _ _ _ c.requires.accepted (omega (arith, c.if-fields-field.false, fields_are c.requires.reads)) c.if-size-gt-TOKENS.false
-    (omega (arith, c.if-entry_of-gt-LISTED.false, c.entry_of.ensures, entry_count (goal.at.returns c).Start listed.result (listed.ensures.count_value, listed.ensures.kinds_value))) _
+    (omega (arith, c.if-entry_of-gt-LISTED.false, c.entry_of.ensures, entry_count (goal.at.returns c).Start _ listed.ensures)) _
     (omega (arith, c.if-buffer-n.false, kinds_are c.requires.reads)) c.count_answers.ensures in
     record { result_value = g.0; buffer_after = g.1 }

@@ -1,10 +1,6 @@
 -- The counts of the places up to this stage are set.
-use Prim.Native.Nat.{◌+◌, ◌-◌}
 use Rattle.frequencies.proofs.Places.{PlacedTo}
 use Rattle.frequencies.proofs.entry.write_places.Given as goal
 
 abbrev pub invariant-loop-stage : goal.invariant-loop-stage
 invariant-loop-stage l = PlacedTo l.all l.related l.kinds l.counts l.before l.stage
-
-abbrev pub decreases-loop-stage : goal.decreases-loop-stage
-decreases-loop-stage l = l.kinds + 1 - l.stage

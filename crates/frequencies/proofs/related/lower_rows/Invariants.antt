@@ -1,11 +1,6 @@
 -- The rows of the first i kinds are those of the stage before.
-use Prim.Native.Nat.{◌-◌}
-use lib.ListN.{length}
 use Rattle.frequencies.proofs.Rows.{LoweredTo}
 use Rattle.frequencies.proofs.related.lower_rows.Given as goal
 
 abbrev pub invariant-loop-i : goal.invariant-loop-i
 invariant-loop-i l = LoweredTo l.kinds l.since l.before l.stage l.initial.rows l.rows l.i
-
-abbrev pub decreases-loop-i : goal.decreases-loop-i
-decreases-loop-i l = length l.kinds - l.i

@@ -1,10 +1,6 @@
 -- The rows of the kinds below this one are set.
-use Prim.Native.Nat.{◌-◌}
 use Rattle.frequencies.proofs.Rows.{NormRows}
 use Rattle.frequencies.proofs.related.norm_rows.Given as goal
 
 abbrev pub invariant-loop-kind : goal.invariant-loop-kind
 invariant-loop-kind l = NormRows l.norms l.table l.kind
-
-abbrev pub decreases-loop-kind : goal.decreases-loop-kind
-decreases-loop-kind l = 32 - l.kind

@@ -1,4 +1,5 @@
-use mathlib.Core.Path.{sym, ◌∙◌}
+use mathlib.Core.Path.{◌≡◌, sym, ◌∙◌}
+use native.Mathlib.Omega.{arith}
 use Rattle.moves.proofs.Searches.{searching_starts, searching_on, searching_found, searching_ends}
 use Rattle.game.proofs.challenges.next_challenge.Goals as goal
 
@@ -12,4 +13,6 @@ pub loop-number-preserved : goal.loop-number-preserved
 loop-number-preserved c = searching_on _ _ _ _ c.loop-number.invariant c.loop-number-test.true (sym c.may_challenge.ensures ∙ c.if-may_challenge.false)
 
 pub returns : goal.returns
-returns c = searching_ends _ _ _ _ c.loop-number.invariant c.loop-number-test.false
+returns c =
+    let e : c.args.to ≡ c.loop-number.number = omega (arith, c.loop-number.invariant.within, c.loop-number-test.false) in
+    e ∙ searching_ends _ _ _ _ c.loop-number.invariant c.loop-number-test.false

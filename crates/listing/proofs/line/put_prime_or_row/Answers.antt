@@ -11,10 +11,10 @@ use Rattle.listing.proofs.Lines.{prime_is, counts_is}
 use Rattle.listing.proofs.line.put_prime_or_row.Goals as goal
 
 pub slice_bounds-put_counts-end : goal.slice_bounds-put_counts-end
-slice_bounds-put_counts-end c = sym (ap length c.widen_u32-counts.ensures)
+slice_bounds-put_counts-end c = sym (ap length c.widen-counts.ensures)
 
 pub put_counts-requires : goal.put_counts-requires
-put_counts-requires c = omega (arith, ap length c.widen_u32-counts.ensures)
+put_counts-requires c = omega (arith, ap length c.widen-counts.ensures)
 
 pub returns-then-row-kind-eq1 : goal.returns-then-row-kind-eq1
 unfolding bytes
@@ -25,5 +25,5 @@ returns-then-row-kind-eq1 c =
 
 pub returns-else-row-kind-eq1 : goal.returns-else-row-kind-eq1
 returns-else-row-kind-eq1 c =
-    reads_as (letters "prime" + most_counts (length c.args.row.now)) (row_text c.args.kind c.args.row.now) c.put_counts.ensures (omega (arith, ap length c.widen_u32-counts.ensures))
-    (ap counts_of c.widen_u32-counts.ensures ∙ counts_is c.args.kind c.args.row.now c.if-row-kind-eq1.false)
+    reads_as (letters "prime" + most_counts (length c.args.row.now)) (row_text c.args.kind c.args.row.now) c.put_counts.ensures (omega (arith, ap length c.widen-counts.ensures))
+    (ap counts_of c.widen-counts.ensures ∙ counts_is c.args.kind c.args.row.now c.if-row-kind-eq1.false)

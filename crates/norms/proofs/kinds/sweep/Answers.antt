@@ -1,4 +1,3 @@
-use borrow.Author.Rules.{rules}
 use mathlib.Core.Bool.{Bool, true, false}
 use mathlib.Core.Path.{◌≡◌, sym, ◌∙◌, ap}
 use Prim.Native.Nat.{suc, ◌-◌, ◌<◌, min}
@@ -19,7 +18,7 @@ pub loop-j-init : goal.loop-j-init
 loop-j-init c =
     let args = c.args in
     let s = args.sheet.now in
-    (search rules, found_start args.card.kinds (at args.values.now) (in_reach s) (line_of s) args.card.lines)
+    found_start args.card.kinds (at args.values.now) (in_reach s) (line_of s) args.card.lines
 
 -- The line's kind is one of the card's.
 own_kind : (c : After-line_kind-kind) → c.line_kind-kind.result < most_kinds
@@ -35,22 +34,8 @@ line_in_reach c b e =
 pub bounds-reached-kind : goal.bounds-reached-kind
 bounds-reached-kind c = omega (arith, own_kind (goal.at.bounds-reached-kind c).After-line_kind-kind)
 
-pub read_value-value-requires : goal.read_value-value-requires
-read_value-value-requires c =
-    let loop = c.loop-j in
-    record { counts_len_bound = part_short c.requires.reads (loop.j - 1) _ c.line_counts.ensures; at_most = c.requires.at_most }
-
-pub offset_bounds-next-kind : goal.offset_bounds-next-kind
-offset_bounds-next-kind c = omega (arith, own_kind (goal.at.offset_bounds-next-kind c).After-line_kind-kind)
-
-pub bounds-next-kind : goal.bounds-next-kind
-bounds-next-kind c = own_kind (goal.at.bounds-next-kind c).After-line_kind-kind
-
-pub offset_bounds-next-kind-then-reached-kind : goal.offset_bounds-next-kind-then-reached-kind
-offset_bounds-next-kind-then-reached-kind c = omega (arith, own_kind (goal.at.offset_bounds-next-kind-then-reached-kind c).After-line_kind-kind)
-
-pub bounds-next-kind-then-reached-kind : goal.bounds-next-kind-then-reached-kind
-bounds-next-kind-then-reached-kind c = own_kind (goal.at.bounds-next-kind-then-reached-kind c).After-line_kind-kind
+pub read_value-value-requires-clause-counts_len_bound : goal.read_value-value-requires-clause-counts_len_bound
+read_value-value-requires-clause-counts_len_bound c = part_short c.requires.reads (c.loop-j.j - 1) _ c.line_counts.ensures
 
 pub loop-j-preserved-then-reached-kind : goal.loop-j-preserved-then-reached-kind
 loop-j-preserved-then-reached-kind c =
@@ -59,22 +44,18 @@ loop-j-preserved-then-reached-kind c =
     let a = c.args in
     let R = c.requires.reads in
     let value = c.read_value-value.ensures
-    ∙ ap (λ x. min x (suc norm_limit)) (part_left R (loop.j - 1) _ c.line_counts.ensures (λ n f. read_value n (at a.values.now) f)) in (
-      search rules,
-      found_more a.card.kinds (at a.values.now) (in_reach a.sheet.now) (line_of a.sheet.now) a.card.lines loop.j
-          c.loop-j-test.true loop.invariant.0 loop.next loop.invariant.1 _ _ _ (kinds_most R) (kind_under R (loop.j - 1) (omega arith))
-          (line_in_reach (goal.at.loop-j-preserved-then-reached-kind c).After-line_kind-kind true c.if-reached-kind.true) kind.ensures value c.lesser.ensures,
-    )
+    ∙ ap (λ x. min x (suc norm_limit)) (part_left R (loop.j - 1) _ c.line_counts.ensures (λ n f. read_value n (at a.values.now) f)) in
+    found_more a.card.kinds (at a.values.now) (in_reach a.sheet.now) (line_of a.sheet.now) a.card.lines loop.j
+    (omega arith) (omega arith) loop.next loop.invariant _ _ _ (kinds_most R) (kind_under R (loop.j - 1) (omega arith))
+    (line_in_reach (goal.at.loop-j-preserved-then-reached-kind c).After-line_kind-kind true c.if-reached-kind.true) kind.ensures value c.lesser.ensures
 
 pub loop-j-preserved : goal.loop-j-preserved
 loop-j-preserved c =
     let a = c.args in
-    let loop = c.loop-j in (
-      search rules,
-      found_skip a.card.kinds (at a.values.now) (in_reach a.sheet.now) (line_of a.sheet.now) a.card.lines loop.j c.loop-j-test.true loop.invariant.0
-          loop.next loop.invariant.1 (line_in_reach (goal.at.loop-j-preserved c).After-line_kind-kind false c.if-reached-kind.false),
-    )
+    let loop = c.loop-j in
+    found_skip a.card.kinds (at a.values.now) (in_reach a.sheet.now) (line_of a.sheet.now) a.card.lines loop.j (omega arith) (omega arith)
+    loop.next loop.invariant (line_in_reach (goal.at.loop-j-preserved c).After-line_kind-kind false c.if-reached-kind.false)
 
 pub returns : goal.returns
 returns c =
-    found_end c.requires.reads (at c.args.values.now) c.loop-j.j _ (omega arith) c.loop-j.invariant.1
+    found_end c.requires.reads (at c.args.values.now) c.loop-j.j _ (omega arith) c.loop-j.invariant

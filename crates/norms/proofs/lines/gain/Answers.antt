@@ -1,22 +1,17 @@
-use borrow.Author.Rules.{rules}
 use native.Mathlib.Omega.{arith}
 use Rattle.norms.proofs.Gains.{gain_start, gain_more, gain_end}
 use Rattle.norms.proofs.lines.gain.Goals as goal
 
 pub loop-j-init : goal.loop-j-init
-loop-j-init c =
-    let args = c.args in
-    (search rules, gain_start args.sheet.now args.card.lines)
+loop-j-init c = gain_start c.args.sheet.now c.args.card.lines
 
 pub loop-j-preserved : goal.loop-j-preserved
 loop-j-preserved c =
     let args = c.args in
-    let loop = c.loop-j in (
-      search rules,
-      gain_more args.sheet.now args.card.lines loop.j loop.most c.line_gain.result c.greater-most.result c.loop-j-test.true loop.invariant.0 loop.invariant.1
-          c.line_gain.ensures c.greater-most.ensures,
-    )
+    let loop = c.loop-j in
+    gain_more args.sheet.now args.card.lines loop.j loop.most c.line_gain.result c.max-most.result (omega arith) (omega arith) loop.invariant
+    c.line_gain.ensures c.max-most.ensures
 
 pub returns : goal.returns
 returns c =
-    gain_end c.requires.reads c.loop-j.j c.loop-j.most (omega arith) c.loop-j.invariant.1
+    gain_end c.requires.reads c.loop-j.j c.loop-j.most (omega arith) c.loop-j.invariant

@@ -14,4 +14,4 @@ bounds-norms-kind c = omega (arith, kind_most c.requires.accepts.reads c.args.li
 
 pub returns : goal.returns
 returns c =
-    c.wide32.ensures ∙ norm_at c.requires.accepts c.line_kind-kind.result ∙ ap (kind_norm (card_of c.args.sheet.now)) c.line_kind-kind.ensures
+    c.from.ensures ∙ norm_at c.requires.accepts c.line_kind-kind.result ∙ ap (kind_norm (card_of c.args.sheet.now)) c.line_kind-kind.ensures

@@ -1,13 +1,11 @@
 -- What each return answers, by the tests on the way.
-use borrow.Author.Rules.{rules}
 use mathlib.Core.Path.{◌≡◌, sym, ◌∙◌, ap}
 use native.Mathlib.Omega.{arith}
-use lib.ListN.{length}
 use Rattle.model.specs.Field.{Field, at, tokens}
 use Rattle.model.specs.Sheet.{kind_count, field_of}
 use Rattle.sheet.proofs.Laws.{kinds_are, fields_are, kinds_most, field_counts_at, field_under}
 use Rattle.weights.proofs.Bounds.{counts_fit}
-use Rattle.numbering.proofs.Listed.{listed_few, listed_are, listed_order, first_long}
+use Rattle.numbering.proofs.Listed.{listed_are, listed_order}
 use Rattle.numbering.proofs.Calls.{number_no_field, number_over, listed_by, number_by}
 use Rattle.numbering.proofs.number.number_accepted.Goals as goal
 use Rattle.numbering.proofs.number.number_accepted.Goals.{After-field-counts, After-field_tokens-size}
@@ -37,27 +35,15 @@ pub returns-then-size-gt-TOKENS : goal.returns-then-size-gt-TOKENS
 returns-then-size-gt-TOKENS c =
     sym (number_over c.args.sheet.now c.requires.accepted c.args.field (rw (fields_are c.requires.reads) at c.if-fields-field.false) (omega (arith, rw (size_is (goal.at.returns-then-size-gt-TOKENS c).After-field_tokens-size) at c.if-size-gt-TOKENS.true)))
 
-pub listed_kinds-listed-requires : goal.listed_kinds-listed-requires
-listed_kinds-listed-requires c =
-    kinds_most c.requires.reads
-
-pub slice_bounds-kinds-end : goal.slice_bounds-kinds-end
-slice_bounds-kinds-end c =
-    let listed = c.listed_kinds-listed in
-    let long : length listed.result.kinds ≡ 32 = search rules in
-    omega (arith, listed_few c.requires listed.result (listed.ensures.count_value, listed.ensures.kinds_value), kinds_most c.requires.reads)
-
-pub slice_bounds-number_of-end : goal.slice_bounds-number_of-end
-slice_bounds-number_of-end c =
-    let listed = c.listed_kinds-listed in
-    first_long listed.result.kinds _ (omega (arith, listed_few c.requires listed.result (listed.ensures.count_value, listed.ensures.kinds_value), kinds_most c.requires.reads)) (search rules)
+pub listed_kinds-kinds-requires : goal.listed_kinds-kinds-requires
+listed_kinds-kinds-requires c = kinds_most c.requires.reads
 
 pub number_of-number-requires : goal.number_of-number-requires
 number_of-number-requires c =
-    let listed = c.listed_kinds-listed in record { in_order = listed_order c.requires listed.result (listed.ensures.count_value, listed.ensures.kinds_value); size_le_most_tokens = c.if-size-gt-TOKENS.false; fact = listed_by c.args.sheet.now c.requires.accepted c.args.field (listed_are c.requires listed.result (listed.ensures.count_value, listed.ensures.kinds_value)) (counts_are (goal.at.number_of-number-requires c).After-field-counts) (size_is (goal.at.number_of-number-requires c).After-field_tokens-size) }
+    let listed = c.listed_kinds-kinds.ensures in
+    record { in_order = listed_order c.requires _ listed; size_le_most_tokens = c.if-size-gt-TOKENS.false; fact = listed_by c.args.sheet.now c.requires.accepted c.args.field (listed_are c.requires _ listed) (counts_are (goal.at.number_of-number-requires c).After-field-counts) (size_is (goal.at.number_of-number-requires c).After-field_tokens-size) }
 
 pub returns : goal.returns
 returns c =
-    let listed = c.listed_kinds-listed in
-    sym (number_by c.args.sheet.now c.requires.accepted c.args.field (listed_are c.requires listed.result (listed.ensures.count_value, listed.ensures.kinds_value)) (counts_are (goal.at.returns c).After-field-counts) (size_is (goal.at.returns c).After-field_tokens-size)
+    sym (number_by c.args.sheet.now c.requires.accepted c.args.field (listed_are c.requires _ c.listed_kinds-kinds.ensures) (counts_are (goal.at.returns c).After-field-counts) (size_is (goal.at.returns c).After-field_tokens-size)
     (rw (fields_are c.requires.reads) at c.if-fields-field.false) c.if-size-gt-TOKENS.false c.number_of-number.ensures)

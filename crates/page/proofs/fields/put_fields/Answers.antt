@@ -9,24 +9,24 @@ use Rattle.text.proofs.Sequence.{no_text, next_text}
 use Rattle.page.proofs.fields.put_fields.Goals as goal
 
 pub loop-i-init : goal.loop-i-init
-loop-i-init c = (omega arith, no_text (field_at c.args.sheet.now) most_field 0 c.args.out.now c.args.at)
+loop-i-init c = no_text (field_at c.args.sheet.now) most_field 0 c.args.out.now c.args.at
 
 pub put_settled_field-next-requires : goal.put_settled_field-next-requires
 put_settled_field-next-requires c =
-    let so_far = c.loop-i.invariant.1 in
-    record { settlement = c.requires.settlement; accepts = c.requires.accepts; field_lt_fields = omega arith; most_field_in_bounds = omega (arith, so_far.ends, so_far.size, so_far.within, c.requires.fields_in_bounds) }
+    let so_far = c.loop-i.invariant in
+    record { settlement = c.requires.settlement; field_lt_fields = omega arith; most_field_in_bounds = omega (arith, so_far.ends, so_far.size, so_far.within, c.requires.fields_in_bounds) }
 
 pub loop-i-preserved : goal.loop-i-preserved
 loop-i-preserved c =
     let loop = c.loop-i in
-    (omega arith, next_text (field_at c.args.sheet.now) 0 loop.i loop.invariant.1 c.put_settled_field-next.ensures (omega arith))
+    next_text (field_at c.args.sheet.now) 0 loop.i loop.invariant c.put_settled_field-next.ensures (omega arith)
 
 pub shape_of-out : goal.shape_of-out
-shape_of-out c = c.loop-i.invariant.1.size
+shape_of-out c = c.loop-i.invariant.size
 
 pub returns : goal.returns
 unfolding fields_text
 returns c =
-    let all : c.loop-i.i ≡ c.args.card.fields = omega arith in
-    reads_as (most_field * c.args.card.fields) (fields_text c.args.sheet.now c.args.card.fields) c.loop-i.invariant.1 (omega arith)
+    let all : c.loop-i.i ≡ c.args.settlement.card.fields = omega arith in
+    reads_as (most_field * c.args.settlement.card.fields) (fields_text c.args.sheet.now c.args.settlement.card.fields) c.loop-i.invariant (omega arith)
     (ap (λ (i : ℕ). concat (list_from (field_at c.args.sheet.now) 0 i)) all)

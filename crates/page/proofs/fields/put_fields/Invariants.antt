@@ -1,5 +1,5 @@
 -- `put_fields`: after i turns the lines of the first i fields are appended.
-use Prim.Native.Nat.{◌-◌, ◌*◌, ◌≤◌}
+use Prim.Native.Nat.{◌*◌}
 use Rattle.model.specs.Finite.{concat, list_from}
 use Rattle.text.specs.Appended.{Appended}
 use Rattle.listing.specs.Line.{field_at}
@@ -7,7 +7,4 @@ use Rattle.page.specs.Lengths.{most_field}
 use Rattle.page.proofs.fields.put_fields.Given as goal
 
 abbrev pub invariant-loop-i : goal.invariant-loop-i
-invariant-loop-i l = (l.i ≤ l.fields) × Appended (most_field * l.i) l.initial.out l.initial.next (concat (list_from (field_at l.sheet) 0 l.i)) l.out l.next
-
-abbrev pub decreases-loop-i : goal.decreases-loop-i
-decreases-loop-i l = l.fields - l.i
+invariant-loop-i l = Appended (most_field * l.i) l.initial.out l.initial.next (concat (list_from (field_at l.sheet) 0 l.i)) l.out l.next

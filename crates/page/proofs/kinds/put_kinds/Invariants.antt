@@ -1,5 +1,5 @@
 -- `put_kinds`: after so many turns the lines of as many kinds are appended.
-use Prim.Native.Nat.{◌-◌, ◌*◌, ◌≤◌}
+use Prim.Native.Nat.{◌*◌}
 use Rattle.model.specs.Finite.{concat, list_from}
 use Rattle.text.specs.Appended.{Appended}
 use Rattle.listing.specs.Line.{kind_at}
@@ -7,7 +7,4 @@ use Rattle.page.specs.Lengths.{most_kind}
 use Rattle.page.proofs.kinds.put_kinds.Given as goal
 
 abbrev pub invariant-loop-kind : goal.invariant-loop-kind
-invariant-loop-kind l = (l.kind ≤ l.kinds) × Appended (most_kind * l.kind) l.initial.out l.initial.next (concat (list_from (kind_at l.kinds l.norms l.since l.table) 0 l.kind)) l.out l.next
-
-abbrev pub decreases-loop-kind : goal.decreases-loop-kind
-decreases-loop-kind l = l.kinds - l.kind
+invariant-loop-kind l = Appended (most_kind * l.kind) l.initial.out l.initial.next (concat (list_from (kind_at l.kinds l.norms l.since l.table) 0 l.kind)) l.out l.next

@@ -9,7 +9,7 @@ use Rattle.text.proofs.Sequence.{no_text, later_text}
 use Rattle.page.proofs.pairs.put_pairs.Goals as goal
 
 pub loop-later-init : goal.loop-later-init
-loop-later-init c = (omega arith, omega arith, no_text (pair_at c.args.sheet.now) most_pair 1 c.args.out.now c.args.at)
+loop-later-init c = (omega arith, no_text (pair_at c.args.sheet.now) most_pair 1 c.args.out.now c.args.at)
 
 pub compare_settled-verdict-requires : goal.compare_settled-verdict-requires
 compare_settled-verdict-requires c =
@@ -17,7 +17,7 @@ compare_settled-verdict-requires c =
 
 pub put_pair-next-requires : goal.put_pair-next-requires
 put_pair-next-requires c =
-    let so_far = c.loop-later.invariant.2 in
+    let so_far = c.loop-later.invariant.1 in
     omega (arith, so_far.ends, so_far.size, so_far.within, c.requires.fields_in_bounds)
 
 pub loop-later-preserved : goal.loop-later-preserved
@@ -27,17 +27,16 @@ loop-later-preserved c =
     let s = c.args.sheet.now in
     let verdict = compare-settled.ensures in (
       omega arith,
-      omega arith,
-      later_text (pair_at s) loop.later (omega arith) loop.invariant.2
+      later_text (pair_at s) loop.later (omega arith) loop.invariant.1
           (reads_as most_pair (pair_at s loop.later) c.put_pair-next.ensures (omega arith) (ap (pair_text loop.later) verdict)),
     )
 
 pub shape_of-out : goal.shape_of-out
-shape_of-out c = c.loop-later.invariant.2.size
+shape_of-out c = c.loop-later.invariant.1.size
 
 pub returns : goal.returns
 unfolding pairs_text
 returns c =
     let all : c.loop-later.later - 1 ≡ c.args.fields - 1 = omega arith in
-    reads_as (most_pair * (c.args.fields - 1)) (pairs_text c.args.sheet.now c.args.fields) c.loop-later.invariant.2 (omega arith)
+    reads_as (most_pair * (c.args.fields - 1)) (pairs_text c.args.sheet.now c.args.fields) c.loop-later.invariant.1 (omega arith)
     (ap (λ (i : ℕ). concat (list_from (pair_at c.args.sheet.now) 1 i)) all)

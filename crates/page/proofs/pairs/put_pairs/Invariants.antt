@@ -7,7 +7,4 @@ use Rattle.page.specs.Lengths.{most_pair}
 use Rattle.page.proofs.pairs.put_pairs.Given as goal
 
 abbrev pub invariant-loop-later : goal.invariant-loop-later
-invariant-loop-later l = (1 ≤ l.later) × (l.later - 1 ≤ l.fields - 1) × Appended (most_pair * (l.later - 1)) l.initial.out l.initial.next (concat (list_from (pair_at l.sheet) 1 (l.later - 1))) l.out l.next
-
-abbrev pub decreases-loop-later : goal.decreases-loop-later
-decreases-loop-later l = l.fields - l.later
+invariant-loop-later l = (l.later - 1 ≤ l.fields - 1) × Appended (most_pair * (l.later - 1)) l.initial.out l.initial.next (concat (list_from (pair_at l.sheet) 1 (l.later - 1))) l.out l.next

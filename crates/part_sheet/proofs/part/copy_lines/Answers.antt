@@ -16,7 +16,7 @@ overflow_add-width c =
     omega (arith, kinds_most c.requires.accepts.reads)
 
 pub loop-line-init : goal.loop-line-init
-loop-line-init c = (omega arith, taken_none _ _)
+loop-line-init c = taken_none _ _
 
 -- The line's kind is one of the card's.
 own_kind : (c : After-line_kind-kind) → c.line_kind-kind.result < most_kinds
@@ -37,7 +37,7 @@ line_start-requires c =
 pub line_start-requires-then-norm-gt0 : goal.line_start-requires-then-norm-gt0
 line_start-requires-then-norm-gt0 c =
     let loop = c.loop-line in
-    (kinds_most c.requires.accepts.reads, omega (arith, lines_most c.requires.accepts.reads, loop.invariant.1.few))
+    (kinds_most c.requires.accepts.reads, omega (arith, lines_most c.requires.accepts.reads, loop.invariant.few))
 
 pub copy_bytes-requires : goal.copy_bytes-requires
 copy_bytes-requires c =
@@ -46,25 +46,23 @@ copy_bytes-requires c =
     let l : loop.line < c.args.card.lines = omega (arith, c.loop-line-test.true) in
     let here = line_room R loop.line loop.line (omega arith) l in (
       omega (arith, c.line_start.ensures.0, here),
-      omega (arith, c.line_start-then-norm-gt0.ensures.0, here, line_room R loop.count loop.line loop.invariant.1.few l, c.requires.sheet_in_bounds, loop.invariant.1.long),
+      omega (arith, c.line_start-then-norm-gt0.ensures.0, here, line_room R loop.count loop.line loop.invariant.few l, c.requires.sheet_in_bounds, loop.invariant.long),
     )
 
 pub loop-line-preserved : goal.loop-line-preserved
 loop-line-preserved c =
     let loop = c.loop-line in
     let read = sym c.line_kind-kind.ensures in
-    let reached_kind : ℕ → Bool = reached (card_of c.args.sheet.now) in (
-      omega arith,
-      elim c.if-norm-gt0.branch [
-        | then-norm-gt0 w ↦ rw (w.part-is, w.count-is) (taken_copied _ _ c.requires.accepts.reads loop.invariant.1 (ap reached_kind read ∙ reached_yes c.requires.accepts _ w.if-norm-gt0.true) w.line_start.ensures.0 w.line_start-then-norm-gt0.ensures.0 w.copy_bytes.ensures)
-        | else-norm-gt0 w ↦ rw (w.part-is, w.count-is) (taken_out _ _ loop.invariant.1 (ap reached_kind read ∙ reached_no c.requires.accepts _ w.if-norm-gt0.false))
-      ],
-    )
+    let reached_kind : ℕ → Bool = reached (card_of c.args.sheet.now) in
+    elim c.if-norm-gt0.branch [
+      | then-norm-gt0 w ↦ rw (w.part-is, w.count-is) (taken_copied _ _ c.requires.accepts.reads loop.invariant (ap reached_kind read ∙ reached_yes c.requires.accepts _ w.if-norm-gt0.true) w.line_start.ensures.0 w.line_start-then-norm-gt0.ensures.0 w.copy_bytes.ensures)
+      | else-norm-gt0 w ↦ rw (w.part-is, w.count-is) (taken_out _ _ loop.invariant (ap reached_kind read ∙ reached_no c.requires.accepts _ w.if-norm-gt0.false))
+    ]
 
 pub shape_of-part : goal.shape_of-part
-shape_of-part c = c.loop-line.invariant.1.long
+shape_of-part c = c.loop-line.invariant.long
 
 pub returns : goal.returns
 returns c =
     let R = c.requires.accepts.reads in
-    taken_all _ _ c.loop-line.invariant.1 (omega (arith, lines_are R, c.loop-line-test.false))
+    taken_all _ _ c.loop-line.invariant (omega (arith, lines_are R, c.loop-line-test.false))

@@ -1,46 +1,34 @@
 -- `answer`: the first word is the verb, those after it say the numbers.
-use mathlib.Core.Path.{sym}
-use Prim.Native.Nat.{◌≤◌}
+use mathlib.Core.Path.{refl}
 use native.Mathlib.Omega.{arith}
-use lib.ListN.{length}
-use lib.Seq.{length-take-le}
-use Rattle.words.specs.Words.{nothing}
+use Rattle.std.specs.Prelude.{Some, None}
+use Rattle.words.proofs.Texts.{first_end}
 use Rattle.queries.specs.Query.{said_told}
 use Rattle.queries.proofs.Words.{query_none, query_verb}
 use Rattle.replies.proofs.Replies.{tells_nothing, told_as}
 use Rattle.queries.proofs.query.answer.Goals as goal
-use Rattle.queries.proofs.query.answer.Goals.{In-Numbers}
-
--- The numbers that were said fit their array.
-few : (c : In-Numbers) → c.in-Numbers.count ≤ length c.numbers_in.new.values
-few c = omega (arith, c.in-Numbers.ensures.count_within)
-
-pub returns-then-words-end : goal.returns-then-words-end
-returns-then-words-end c =
-    told_as _ (tells_nothing c.args.out.now c.no_call.result c.no_call.ensures)
-    (query_none c.args.sheet.now c.args.words.now c.word_end-end.result c.word_end-end.ensures c.if-words-end.true)
-
-pub slice_bounds-verb_of-end : goal.slice_bounds-verb_of-end
-slice_bounds-verb_of-end c = sym (length-take-le _ _ (omega (arith, c.if-words-end.false)))
 
 pub returns-in_default : goal.returns-in_default
-unfolding said_told
 returns-in_default c =
-    let word-end = c.word_end-end in
-    let verb-of = c.verb_of-verb in
-    told_as _ (tells_nothing c.args.out.now c.no_call-in_default.result c.no_call-in_default.ensures)
-    (query_verb c.args.sheet.now c.args.words.now word-end.result word-end.ensures (omega (arith, c.if-words-end.false)) verb-of.result nothing verb-of.ensures c.in_default.ensures.values_after)
+    told_as _ (tells_nothing c.args.out.now c.no_call.result c.no_call.ensures) (query_none c.args.sheet.now c.args.words.now (first_end c.args.words.now _ c.in_default.ensures))
 
-pub slice_bounds-values-end : goal.slice_bounds-values-end
-slice_bounds-values-end c = few (goal.at.slice_bounds-values-end c).In-Numbers
+pub split_at-requires : goal.split_at-requires
+split_at-requires c = let ends = first_end c.args.words.now _ c.in-Some.ensures in omega (arith, ends.1)
 
-pub slice_bounds-call-end : goal.slice_bounds-call-end
-slice_bounds-call-end c = sym (length-take-le _ _ (few (goal.at.slice_bounds-call-end c).In-Numbers))
+pub returns-in_default-verb_of : goal.returns-in_default-verb_of
+unfolding said_told
+returns-in_default-verb_of c =
+    told_as _ (tells_nothing c.args.out.now c.no_call-in_default-verb_of.result c.no_call-in_default-verb_of.ensures)
+    (query_verb c.args.sheet.now c.args.words.now None _ (first_end c.args.words.now _ c.in-Some.ensures) c.split_at.ensures.front c.split_at.ensures.back c.in_default-verb_of.ensures refl)
+
+pub returns-in_default-numbers_in : goal.returns-in_default-numbers_in
+unfolding said_told
+returns-in_default-numbers_in c =
+    told_as _ (tells_nothing c.args.out.now c.no_call-in_default-numbers_in.result c.no_call-in_default-numbers_in.ensures)
+    (query_verb c.args.sheet.now c.args.words.now (Some c.in-Some-verb_of.verb) None (first_end c.args.words.now _ c.in-Some.ensures) c.split_at.ensures.front c.split_at.ensures.back c.in-Some-verb_of.ensures c.in_default-numbers_in.ensures.values_after)
 
 pub returns : goal.returns
 unfolding said_told
 returns c =
-    let word-end = c.word_end-end in
-    let verb-of = c.verb_of-verb in
     told_as _ c.call.ensures
-    (query_verb c.args.sheet.now c.args.words.now word-end.result word-end.ensures (omega (arith, c.if-words-end.false)) verb-of.result _ verb-of.ensures c.in-Numbers.ensures.values_after)
+    (query_verb c.args.sheet.now c.args.words.now (Some c.in-Some-verb_of.verb) _ (first_end c.args.words.now _ c.in-Some.ensures) c.split_at.ensures.front c.split_at.ensures.back c.in-Some-verb_of.ensures c.in-Some-numbers_in.ensures.values_after)

@@ -1,7 +1,7 @@
 -- `call`: by the verb.
 use mathlib.Core.Path.{sym, ap}
 use Rattle.queries.specs.Query.{verb_told}
-use Rattle.replies.proofs.Replies.{tells_nothing, told_as}
+use Rattle.replies.proofs.Replies.{told_as}
 use Rattle.queries.proofs.query.call.Goals as goal
 
 pub returns-in-Settle : goal.returns-in-Settle
@@ -58,8 +58,3 @@ pub returns-in-Common : goal.returns-in-Common
 unfolding verb_told
 returns-in-Common c =
     told_as _ c.common_answers.ensures (ap (λ v. verb_told c.args.sheet.now v c.args.numbers.now) (sym c.in-Common.is))
-
-pub returns-in-Other : goal.returns-in-Other
-unfolding verb_told
-returns-in-Other c =
-    told_as _ (tells_nothing c.args.out.now c.no_call.result c.no_call.ensures) (ap (λ v. verb_told c.args.sheet.now v c.args.numbers.now) (sym c.in-Other.is))

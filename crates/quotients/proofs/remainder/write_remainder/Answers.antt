@@ -9,32 +9,24 @@ use Rattle.theory.proofs.Lists.{length_from}
 use Rattle.theory.proofs.Writing.{begun_none, begun_more, begun_length, begun_all}
 use Rattle.quotients.proofs.Loops.{left_at, left_fits}
 use Rattle.quotients.proofs.remainder.write_remainder.Goals as goal
-use Rattle.quotients.proofs.remainder.write_remainder.Goals.{After-shared_slice_known-in-loop-kind-1, Start}
+use Rattle.quotients.proofs.remainder.write_remainder.Goals.{In-loop-kind, Start}
 
 -- There is a count for each of the whole's.
 long : (s : Start) → length (list_from (remainder (length s.args.whole.now) (at s.args.whole.now) (at s.args.squad.now)) 0 (length s.args.whole.now)) ≡ length s.args.whole.now
 long s = length_from _ 0 _
 
 -- What is taken away is no more than there is.
-fits : (c : After-shared_slice_known-in-loop-kind-1)
-    → let args = c.args in
-    let loop-kind = c.loop-kind.kind in
-    args.times * at args.squad.now loop-kind ≤ at args.whole.now loop-kind
-fits c =
-    left_fits _ _ _ _ c.requires.times_value _ c.loop-kind-test.true
+fits : (c : In-loop-kind) → c.args.times * at c.args.squad.now c.loop-kind.kind ≤ at c.args.whole.now c.loop-kind.kind
+fits c = left_fits _ _ _ _ c.requires.times_value _ c.loop-kind-test.true
 
 pub loop-kind-init : goal.loop-kind-init
 loop-kind-init c = begun_none _ _ (omega (arith, long (goal.at.loop-kind-init c).Start, c.requires.whole_in_bounds))
 
-pub bounds-squad-kind : goal.bounds-squad-kind
-bounds-squad-kind c =
-    omega (arith, c.requires.whole_len, c.loop-kind-test.true)
-
 pub overflow_mul-buffer : goal.overflow_mul-buffer
-overflow_mul-buffer c = record { fits = omega (arith, fits (goal.at.overflow_mul-buffer c).After-shared_slice_known-in-loop-kind-1, c.shared_slice_known-1.given c.loop-kind.kind, c.shared_slice_known-in-loop-kind-1.given c.loop-kind.kind) }
+overflow_mul-buffer c = record { fits = omega (arith, fits (goal.at.overflow_mul-buffer c).In-loop-kind, c.type_inv.whole c.loop-kind.kind) }
 
 pub overflow_sub-buffer : goal.overflow_sub-buffer
-overflow_sub-buffer c = omega (arith, fits (goal.at.overflow_sub-buffer c).After-shared_slice_known-in-loop-kind-1)
+overflow_sub-buffer c = fits (goal.at.overflow_sub-buffer c).In-loop-kind
 
 pub bounds-buffer-kind : goal.bounds-buffer-kind
 bounds-buffer-kind c =
@@ -45,9 +37,6 @@ pub loop-kind-preserved : goal.loop-kind-preserved
 loop-kind-preserved c =
     let loop-test = c.loop-kind-test.true in
     begun_more c.loop-kind.invariant _ (omega (arith, long (goal.at.loop-kind-preserved c).Start)) (left_at _ _ _ _ c.requires.times_value _ loop-test)
-
-pub shape_of-buffer : goal.shape_of-buffer
-shape_of-buffer c = begun_length c.loop-kind.invariant
 
 pub returns : goal.returns
 returns c = begun_all c.loop-kind.invariant (omega (arith, long (goal.at.returns c).Start, c.loop-kind-test.false))

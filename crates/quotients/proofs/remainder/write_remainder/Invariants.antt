@@ -1,5 +1,4 @@
 -- After each turn what is left of the kinds passed is stored.
-use Prim.Native.Nat.{◌-◌}
 use lib.ListN.{length}
 use Rattle.model.specs.Finite.{list_from}
 use Rattle.model.specs.Field.{at}
@@ -9,6 +8,3 @@ use Rattle.quotients.proofs.remainder.write_remainder.Given as goal
 
 abbrev pub invariant-loop-kind : goal.invariant-loop-kind
 invariant-loop-kind l = Begun (list_from (remainder (length l.whole) (at l.whole) (at l.squad)) 0 (length l.whole)) l.initial.buffer l.kind l.buffer
-
-abbrev pub decreases-loop-kind : goal.decreases-loop-kind
-decreases-loop-kind l = length l.whole - l.kind

@@ -9,24 +9,20 @@ use Rattle.ranks.proofs.classes.class_at.Goals as goal
 pub returns-then-place-eq0 : goal.returns-then-place-eq0
 returns-then-place-eq0 c =
     let a = c.args in
-    class_first (line_order a.lines.now a.rows.now a.forms.now) c.requires.firsts c.requires.place c.if-place-eq0.true
+    class_first (line_order a.effects.now) c.requires.firsts c.requires.place c.if-place-eq0.true
 
-pub overflow_cast-other : goal.overflow_cast-other
-overflow_cast-other c =
-    omega (arith, c.type_inv.list (c.args.place - 1))
-
-pub lines_match-requires : goal.lines_match-requires
-lines_match-requires c =
+pub matches-requires : goal.matches-requires
+matches-requires c =
     let within = c.requires.place.within in
-    record { cases = c.requires.cases; line_bound = (firsts_lines c.requires.firsts c.requires.line_bound _ (c.args.place - 1, omega (arith, within, c.if-place-eq0.false), refl), c.requires.line_bound) }
+    record { line_bound = (rw c.from-other.ensures (firsts_lines c.requires.firsts c.requires.line_bound _ (c.args.place - 1, omega (arith, within, c.if-place-eq0.false), refl)), c.requires.line_bound) }
 
-pub returns-then-lines_match : goal.returns-then-lines_match
-returns-then-lines_match c =
+pub returns-then-matches : goal.returns-then-matches
+returns-then-matches c =
     let a = c.args in
     let within = c.requires.place.within in
-    class_entry (line_order a.lines.now a.rows.now a.forms.now) c.requires.firsts c.requires.place (a.place - 1) (omega (arith, within, c.if-place-eq0.false)) c.lines_match.ensures c.if-lines_match.true
+    rw (← c.from-other.ensures) at (class_entry (line_order a.effects.now) c.requires.firsts c.requires.place (a.place - 1) (omega (arith, within, c.if-place-eq0.false)) (rw c.from-other.ensures at c.matches.ensures) c.if-matches.true)
 
 pub returns : goal.returns
 returns c =
     let a = c.args in
-    class_between (line_order a.lines.now a.rows.now a.forms.now) c.requires.firsts c.requires.place (omega (arith, c.if-place-eq0.false)) c.lines_match.ensures c.if-lines_match.false
+    class_between (line_order a.effects.now) c.requires.firsts c.requires.place (omega (arith, c.if-place-eq0.false)) (rw c.from-other.ensures at c.matches.ensures) c.if-matches.false

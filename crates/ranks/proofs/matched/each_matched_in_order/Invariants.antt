@@ -1,13 +1,8 @@
 -- The lines of the list before the place at hand have matches; the lines of the other list before the place reached come before those that are left.
-use Prim.Native.Nat.{◌-◌}
-use lib.ListN.{length}
-use Rattle.tables.specs.Match.{MatchIn}
-use Rattle.ranks.specs.Order.{PrecedesIn}
+use Rattle.tables.specs.Match.{MatchBy}
+use Rattle.ranks.specs.Order.{PrecedesBy}
 use Rattle.ranks.proofs.Merging.{Passing}
 use Rattle.ranks.proofs.matched.each_matched_in_order.Given as goal
 
 abbrev pub invariant-loop-place : goal.invariant-loop-place
-invariant-loop-place l = Passing (MatchIn l.lines l.rows l.forms) (PrecedesIn l.lines l.rows l.forms) l.list l.others l.reached l.place
-
-abbrev pub decreases-loop-place : goal.decreases-loop-place
-decreases-loop-place l = length l.list - l.place
+invariant-loop-place l = Passing (MatchBy l.effects) (PrecedesBy l.effects) l.list l.others l.reached l.place

@@ -1,9 +1,6 @@
--- No more lines are kept than passed. The measure is what is left of the lines.
-use Prim.Native.Nat.{◌-◌, ◌≤◌}
+-- No more lines are kept than passed.
+use Prim.Native.Nat.{◌≤◌}
 use Rattle.reached_part.proofs.part.put_lines.Given as goal
 
 abbrev pub invariant-loop-line : goal.invariant-loop-line
-invariant-loop-line l = (l.line ≤ l.count) × (l.kept ≤ l.line)
-
-abbrev pub decreases-loop-line : goal.decreases-loop-line
-decreases-loop-line l = l.count - l.line
+invariant-loop-line l = l.kept ≤ l.line

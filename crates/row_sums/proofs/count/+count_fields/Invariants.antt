@@ -1,6 +1,4 @@
 -- `count_fields`, which calls itself: the size falls. Of the fields over the first i kinds, so many have rows that add up to the counts.
-use Prim.Native.Nat.{◌-◌}
-use lib.ListN.{length}
 use Rattle.row_sums.proofs.Loops.{Counted}
 use Rattle.row_sums.proofs.count.+count_fields.Given as goal
 
@@ -9,6 +7,3 @@ decreases-count_fields l = l.size
 
 abbrev pub invariant-loop-i : goal.invariant-loop-i
 invariant-loop-i l = Counted l.rows l.kinds l.size l.counts l.found l.i
-
-abbrev pub decreases-loop-i : goal.decreases-loop-i
-decreases-loop-i l = length l.kinds - l.i

@@ -1,31 +1,20 @@
-use borrow.Author.Count.{below_more}
-use Prim.Native.Nat.{ℕ}
-use mathlib.Core.Path.{refl}
-use native.Mathlib.Omega.{arith}
-use Rattle.model.specs.Field.{at}
-use Rattle.tables.specs.Match.{Among, MatchIn}
-use Rattle.tables.proofs.Tables.{tells_same, tells_other, told_not}
-use Rattle.tables.proofs.LineLists.{among_all}
+-- Each line of the lists is one of the table's.
+use Rattle.std.proofs.Common.{rules, sym, ◌∙◌, ℕ, ◌<◌}
+use Rattle.std.proofs.lemmas.Iterator.{YieldsList-from_slice, cases_from_all}
+use Rattle.std.proofs.lemmas.Iterator.Adapters.{serves_from_places}
+use Rattle.std.proofs.lemmas.Grind.{get_or_default_zero}
+use Rattle.tables.specs.Lines.{lines_in}
+use Rattle.tables.specs.Match.{Among, MatchBy}
+use Rattle.row_tests.proofs.Tried.{entries_tried}
 use Rattle.row_tests.proofs.norm_reducing.each_matched.Goals as goal
 
-pub loop-place-init : goal.loop-place-init
-loop-place-init c = (omega arith, λ x h. absurd (omega arith))
-
-pub overflow_cast-line : goal.overflow_cast-line
-overflow_cast-line c = omega (arith, c.shared_slice_known-in-loop-place-1.given c.loop-place.place)
-
-pub some_match-requires : goal.some_match-requires
-some_match-requires c = record { cases = c.requires.cases; by_index = c.requires.by_index_2; line_bound = c.requires.by_index (at c.args.list.now c.loop-place.place) (c.loop-place.place, c.loop-place-test.true, refl) }
-
-pub loop-place-preserved : goal.loop-place-preserved
-loop-place-preserved c =
-    (omega arith, below_more _ _ c.loop-place.invariant.1 (c.some_match.ensures.0 c.if-some_match.true))
-
-pub returns-else-some_match : goal.returns-else-some_match
-returns-else-some_match c =
-    tells_other (λ w. told_not c.some_match.ensures c.if-some_match.false (w (at c.args.list.now c.loop-place.place) (c.loop-place.place, c.loop-place-test.true, refl)))
+pub all-requires-clause-callable : goal.all-requires-clause-callable
+all-requires-clause-callable c =
+    let list = c.args.list.now in
+    serves_from_places (YieldsList-from_slice list cc) (λ x q k. search rules) (λ x k l e. let within : x.now < lines_in c.args.effects.now.lines = c.requires.list_within x.now (k, l, sym (e ∙ get_or_default_zero list k x.now l)) in search rules)
 
 pub returns : goal.returns
 returns c =
-    let lines = c.args.lines.now in
-    tells_same (among_all (λ i. (j : ℕ) × Among c.args.others.now j × MatchIn lines c.args.rows.now c.args.forms.now i j) c.args.list.now c.loop-place-test.false c.loop-place.invariant.1)
+    let P : ℕ → Type 0 = λ i. (j : ℕ) × Among c.args.others.now j × MatchBy c.args.effects.now i j in
+    let list = c.args.list.now in
+    entries_tried P c.all.result list (cases_from_all _ _ c.all.result P (λ i. P i → ⊥) c.all.ensures.ran (YieldsList-from_slice list cc) (λ x q k. search rules) (λ x q k. search rules))

@@ -19,7 +19,7 @@ use Rattle.row_tests.proofs.passes.passes.Goals.{After-row_of-row, After-shares_
 -- The row is as long as there are kinds.
 row_long : (c : After-row_of-row) → length c.row_of-row.result.now ≡ most_kinds
 row_long c =
-    lent_length c.args.rows.now c.args.kind (omega (arith, c.requires.cases.rows_long, c.requires.kind_lt_most_kinds.0)) c.row_of-row.ensures
+    lent_length c.rows.result.now c.args.kind (omega (arith, c.rows.ensures.long, c.requires.kind_lt_most_kinds.0)) c.row_of-row.ensures
 
 pub shares_total-requires : goal.shares_total-requires
 shares_total-requires c = row_long (goal.at.shares_total-requires c).After-row_of-row
@@ -31,17 +31,17 @@ uses_alike-alike-requires c =
 -- What the first test tells of the row, and the second.
 shares : (c : After-shares_total)
     → let args = c.args in
-    (c.shares_total.result ≡ true) ↔ SharesTotal (sense_of args.sense) (row_in args.rows.now args.kind)
+    (c.shares_total.result ≡ true) ↔ SharesTotal (sense_of args.sense) (row_in args.effects.now.rows args.kind)
 shares c =
     let args = c.args in
-    shares_row (sense_of args.sense) args.rows.now args.kind c.row_of-row.ensures c.shares_total.ensures
+    shares_row (sense_of args.sense) args.effects.now.rows args.kind (rw c.rows.ensures.lent at c.row_of-row.ensures) c.shares_total.ensures
 
 uses : (c : After-uses_alike-alike)
     → let args = c.args in
-    (classes : List ℕ) → KindMarks args.lines.now classes args.marks.now → (c.uses_alike-alike.result ≡ true) ↔ AlikeIn args.lines.now classes (unit args.kind) (row_in args.rows.now args.kind)
+    (classes : List ℕ) → KindMarks args.effects.now.lines classes args.marks.now → (c.uses_alike-alike.result ≡ true) ↔ AlikeIn args.effects.now.lines classes (unit args.kind) (row_in args.effects.now.rows args.kind)
 uses c classes K =
     let args = c.args in
-    uses_row args.rows.now args.lines.now classes args.kind c.row_of-row.ensures (c.uses_alike-alike.ensures _ classes K)
+    uses_row args.effects.now.rows args.effects.now.lines classes args.kind (rw c.rows.ensures.lent at c.row_of-row.ensures) (c.uses_alike-alike.ensures _ classes K)
 
 pub returns-then-alike : goal.returns-then-alike
 returns-then-alike c = λ classes K. passes_tells ((shares (goal.at.returns-then-alike c).After-shares_total).0 c.if-shares_total.true) ((uses (goal.at.returns-then-alike c).After-uses_alike-alike classes K).0 c.if-alike.true) c.all_answered.ensures

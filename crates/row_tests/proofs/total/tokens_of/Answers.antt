@@ -1,25 +1,18 @@
-use borrow.Author.Rules.{rules}
-use mathlib.Core.Path.{◌≡◌}
-use native.Mathlib.Omega.{arith}
-use lib.ListN.{length}
-use Rattle.model.specs.Field.{weigh, at}
-use Rattle.theory.proofs.Field.{weigh_next}
+-- The counts of a list are summed one by one.
+use Rattle.std.proofs.Common.{rules, arith, List, ◌≡◌, refl, sym, ◌∙◌, ℕ, zero, suc, ◌≤◌, length, take, add-one}
+use Rattle.std.specs.List.{sum}
+use Rattle.std.proofs.lemmas.List.Sums.{sum_by_more}
+use lib.Seq.{take_all}
+use Rattle.model.specs.Field.{weigh, at, tokens}
 use Rattle.row_tests.proofs.total.tokens_of.Goals as goal
 
-pub loop-kind-init : goal.loop-kind-init
+tokens_taken : (xs : List ℕ) (n : ℕ) → n ≤ length xs → tokens n (at xs) ≡ sum (take n xs)
 unfolding weigh
-loop-kind-init c = (search rules, search rules, search rules)
-
-pub overflow_add-total : goal.overflow_add-total
-overflow_add-total c = record { fits = omega (arith, c.wide-total.ensures.1, c.loop-kind.invariant.1) }
-
-pub loop-kind-preserved : goal.loop-kind-preserved
-loop-kind-preserved c =
-    let loop = c.loop-kind in
-    let row = c.args.row.now in
-    (omega (arith, c.wide-total.ensures.0, loop.invariant.0, weigh_next loop.kind (λ _. 1) (at row)), omega (arith, c.wide-total.ensures.1, loop.invariant.1), search rules)
+tokens_taken xs zero h = refl
+tokens_taken xs (suc n) h = omega (arith, tokens_taken xs n (omega arith), rw add-one at (sum_by_more (λ x. x) xs n 0 (omega arith)))
 
 pub returns : goal.returns
 returns c =
-    let z : c.loop-kind.kind ≡ length c.args.row.now = omega arith in
-    rw z at c.loop-kind.invariant.0
+    let row = c.args.row.now in
+    let summed : c.sum.result ≡ sum row = search rules in
+    summed ∙ sym (rw (take_all (length row) row (omega arith)) at (tokens_taken row (length row) (omega arith)))

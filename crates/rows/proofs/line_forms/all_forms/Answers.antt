@@ -1,29 +1,16 @@
-use mathlib.Core.Path.{refl, ◌∙◌}
-use native.Mathlib.Omega.{arith}
+use Rattle.std.proofs.Common.{arith}
 use Rattle.sheet.proofs.Laws.{lines_are}
 use Rattle.rows.proofs.LineForms.{formed_skip, formed_more, all_formed}
 use Rattle.rows.proofs.line_forms.all_forms.Goals as goal
 use Rattle.rows.proofs.line_forms.all_forms.Goals.{then-not-lowers, else-not-lowers}
 
-pub loop-line-init : goal.loop-line-init
-loop-line-init c =
-    record { kept = refl; small = c.requires.under; lowering = c.requires.lowering_forms; done = λ i l. absurd (omega arith) }
-
-pub lowers-requires : goal.lowers-requires
-lowers-requires c =
-    omega (arith, c.requires.lines_value, c.loop-line-test.true)
-
-pub line_form-requires : goal.line_form-requires
-line_form-requires c = record { reads = c.requires.reads; rows_len = (c.requires.rows_len.0, c.loop-line.invariant.kept ∙ c.requires.rows_len.1); atoms = c.requires.atoms; line_lt_lines = c.loop-line-test.true; under = c.loop-line.invariant.small }
-
 pub loop-line-preserved : goal.loop-line-preserved
 loop-line-preserved c =
     let h = c.loop-line.invariant in
-    elim c.if-not-lowers.branch [ then-not-lowers w ↦ rw w.forms-is (formed_more h w.line_form.ensures.row_set w.line_form.auto.forms w.line_form.ensures.under_2) | else-not-lowers w ↦ rw w.forms-is (formed_skip h (omega (arith, c.loop-line-test.true, lines_are c.requires.reads)) (c.lowers.ensures.0 w.if-not-lowers.false)) ]
-
-pub shape_of-forms : goal.shape_of-forms
-shape_of-forms c = c.loop-line.invariant.kept
+    elim c.if-not-lowers.branch [
+      | then-not-lowers w ↦ rw w.forms-is (formed_more h w.line_form.ensures.row_set w.line_form.auto.forms w.line_form.ensures.stays_under)
+      | else-not-lowers w ↦ rw w.forms-is (formed_skip h (omega (arith, lines_are c.requires.reads)) (c.lowers.ensures.0 w.if-not-lowers.false))
+    ]
 
 pub returns : goal.returns
-returns c =
-    all_formed c.requires.reads c.loop-line-test.false c.loop-line.invariant
+returns c = all_formed c.requires.reads c.loop-line-test.false c.loop-line.invariant

@@ -10,16 +10,6 @@ use Rattle.rows.proofs.TableRows.{row_set, row_set_under}
 use Rattle.rows.proofs.LineForms.{left_form_small, part_form}
 use Rattle.rows.proofs.line_forms.line_form.Goals as goal
 
-pub overflow_mul-start : goal.overflow_mul-start
-overflow_mul-start c = omega (arith, lines_most c.requires.reads)
-
-pub overflow_add-end : goal.overflow_add-end
-overflow_add-end c = omega (arith, lines_most c.requires.reads)
-
-pub offset_bounds-forms-start : goal.offset_bounds-forms-start
-offset_bounds-forms-start c =
-    omega (arith, lines_most c.requires.reads)
-
 pub slice_bounds-form_of_counts-end : goal.slice_bounds-form_of_counts-end
 slice_bounds-form_of_counts-end c =
     omega (arith, lines_most c.requires.reads)
@@ -29,7 +19,7 @@ form_of_counts-requires c =
     let R = c.requires.reads in
     let line = c.args.line in
     let e = part_form R line _ c.line_counts.ensures c.args.rows.now in
-    let small = left_form_small R (λ y. (c.shared_slice_known-1.given y).fits) c.args.rows.now (λ y. (c.shared_slice_known-2-1.given y).fits) line in
+    let small = left_form_small R (λ y. (c.type_inv.sheet y).fits) c.args.rows.now (λ y. (c.type_inv.rows y).fits) line in
     record { counts_len_bound = (omega (arith, part_long R line _ c.line_counts.ensures, kinds_most R), c.requires.rows_len.0, omega (arith, lent_length c.args.forms.now line (omega (arith, lines_most R)) (part_is c.args.forms.now line))); atoms = λ k h. c.requires.atoms k (omega (arith, part_long R line _ c.line_counts.ensures, kinds_are R)); by_index = λ x. omega (arith, at_kind e x, small x) }
 
 pub returns : goal.returns
@@ -40,5 +30,5 @@ returns c =
     let e = c.form_of_counts.ensures ∙ part_form R line _ c.line_counts.ensures c.args.rows.now in
     let room : line * 32 + 32 ≤ length forms = omega (arith, lines_most R) in
     let long = c.form_of_counts.auto.out ∙ lent_length forms line room (part_is forms line) in
-    let small = left_form_small R (λ y. (c.shared_slice_known-1.given y).fits) c.args.rows.now (λ y. (c.shared_slice_known-2-1.given y).fits) line in
-    record { row_set = row_set forms c.form_of_counts.new.out line long room _ e; under_2 = row_set_under forms c.form_of_counts.new.out line long room c.requires.under (λ x. omega (arith, at_kind e x, small x)) }
+    let small = left_form_small R (λ y. (c.type_inv.sheet y).fits) c.args.rows.now (λ y. (c.type_inv.rows y).fits) line in
+    record { row_set = row_set forms c.form_of_counts.new.out line long room _ e; stays_under = row_set_under forms c.form_of_counts.new.out line long room c.requires.under (λ x. omega (arith, at_kind e x, small x)) }

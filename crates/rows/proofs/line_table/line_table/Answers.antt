@@ -1,13 +1,9 @@
-use borrow.Author.Rules.{rules}
 use native.Mathlib.Omega.{arith}
 use Rattle.sheet.proofs.Laws.{lines_are, lines_most, kinds_most, codes_most, kind_under, code_under}
 use Rattle.tables.proofs.Tables.{told_not}
 use Rattle.rows.proofs.LineTable.{filled_none, filled_two, filled_three, lowers_tells, filled_all}
 use Rattle.rows.proofs.line_table.line_table.Goals as goal
 use Rattle.rows.proofs.line_table.line_table.Goals.{then-lowers, else-lowers}
-
-pub overflow_mul-marks : goal.overflow_mul-marks
-overflow_mul-marks c = search (rules, lines_most c.requires.reads)
 
 pub loop-line-init : goal.loop-line-init
 loop-line-init c = filled_none (lines_most c.requires.reads)

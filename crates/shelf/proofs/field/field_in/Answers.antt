@@ -30,7 +30,7 @@ overflow_sub-i c = kind_left (goal.at.overflow_sub-i c).In-loop-left
 pub entry_in-without-requires : goal.entry_in-without-requires
 entry_in-without-requires c =
     let loop = c.loop-left in
-    record { kinds_le_most_kinds = (omega (arith, loop.invariant.kinds_left, c.requires.in_order.many), omega (arith, loop.invariant.few 0, c.requires.size_le_most_tokens)); t = c.requires.t }
+    record { in_table = (omega (arith, loop.invariant.kinds_left, c.requires.in_order.many), omega (arith, loop.invariant.few 0, c.requires.size_le_most_tokens)); obeys = c.requires.obeys }
 
 pub overflow_sub-i-then-rest-without : goal.overflow_sub-i-then-rest-without
 overflow_sub-i-then-rest-without c = kind_left (goal.at.overflow_sub-i-then-rest-without c).In-loop-left

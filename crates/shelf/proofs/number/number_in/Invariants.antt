@@ -5,6 +5,3 @@ use Rattle.shelf.proofs.number.number_in.Given as goal
 
 abbrev pub invariant-loop-i : goal.invariant-loop-i
 invariant-loop-i l = Numbered l.kinds (at l.field) l.size l.number l.left l.i
-
-abbrev pub decreases-loop-i : goal.decreases-loop-i
-decreases-loop-i l = l.i

@@ -1,4 +1,4 @@
--- `field_number`: with one number, the shelf number of this field.
+-- With one number, the shelf number of this field.
 use mathlib.Core.Path.{ap, ◌∙◌}
 use Rattle.replies.specs.Told.{told}
 use Rattle.shelf_verbs.specs.Texts.{shelved_text, number_text}
@@ -13,16 +13,16 @@ unfolding number_told
 returns-then-numbers-ne1 c =
     told_as _ (tells_nothing c.args.out.now c.no_call.result c.no_call.ensures) (one_other _ c.args.numbers.now c.if-numbers-ne1.true)
 
-pub returns-in-Given : goal.returns-in-Given
+pub returns-in-Ok : goal.returns-in-Ok
 unfolding number_told number_text shelved_text worded
-returns-in-Given c =
+returns-in-Ok c =
     let if1 = c.if-numbers-ne1 in
-    told_as _ (tells_answer c.put_shelved-length.ensures)
-    (ap (λ a. told (shelved_text a)) c.in-Given.ensures ∙ one_taken _ c.args.numbers.now if1.false)
+    told_as _ (tells_answer c.put_shelved-length.ensures _ c.answered.ensures)
+    (ap (λ a. told (shelved_text a)) c.in-Ok.ensures ∙ one_taken _ c.args.numbers.now if1.false)
 
-pub returns-in-Refused : goal.returns-in-Refused
+pub returns-in-Err : goal.returns-in-Err
 unfolding number_told number_text shelved_text worded
-returns-in-Refused c =
+returns-in-Err c =
     let if1 = c.if-numbers-ne1 in
     told_as _ c.refuse.ensures
-    (ap (λ a. told (shelved_text a)) c.in-Refused.ensures ∙ one_taken _ c.args.numbers.now if1.false)
+    (ap (λ a. told (shelved_text a)) c.in-Err.ensures ∙ one_taken _ c.args.numbers.now if1.false)

@@ -1,17 +1,29 @@
 -- What the checks come to, and what an accepted sheet gives.
-use mathlib.Core.Path.{sym}
+use Rattle.std.proofs.Common.{sym}
+use Rattle.std.proofs.lemmas.Result.{err_from_is_err_and}
+use Rattle.acceptance.proofs.Acceptances.{accepts, found_refused}
 use Rattle.validation.proofs.FieldNumbers.{fields_passed}
-use Rattle.filer.proofs.Settlements.{was_accepted, was_settled}
-use Rattle.squads.proofs.Calls.{fields_refuse}
+use Rattle.sheet.proofs.Laws.{fields_are}
+use Rattle.squads.proofs.Calls.{sheet_refuses, fields_refuse}
 use Rattle.squads.proofs.entry.squads.Goals as goal
+
+pub settle_accepted-settlement-requires : goal.settle_accepted-settlement-requires
+settle_accepted-settlement-requires c = accepts _ c.in_ok-acceptance.acceptance c.in_ok-acceptance.ensures
+
+pub returns-in_err-acceptance : goal.returns-in_err-acceptance
+returns-in_err-acceptance c =
+    let p = err_from_is_err_and c.from_residual.result c.from_residual.ensures.1 in
+    let g = sheet_refuses _ c.args.whole c.args.squad c.args.remainder.now _ _ (found_refused _ _ _ c.in_err-acceptance.ensures) in
+    record { result_value = rw (p.1, p.2) g.0; remainder_after = g.1 }
+
+pub returns-in_err-check_fields : goal.returns-in_err-check_fields
+returns-in_err-check_fields c =
+    let X = c.settle_accepted-settlement.ensures in
+    let p = err_from_is_err_and c.from_residual-in_err-check_fields.result c.from_residual-in_err-check_fields.ensures.1 in
+    let g = fields_refuse _ c.args.whole c.args.squad c.args.remainder.now X.accepts.accepted _ _ (rw (fields_are X.accepts.reads) at (sym c.in_err-check_fields.ensures)) in
+    record { result_value = rw (p.1, p.2) g.0; remainder_after = g.1 }
 
 pub squads_accepted-requires : goal.squads_accepted-requires
 squads_accepted-requires c =
-    let passed = fields_passed _ _ _ c.in-Passed.card (sym c.in-Passed.ensures) in
-    let accepts = was_accepted c.settle_once-settlement.ensures _ passed.0 in
-    record { reads = (accepts.reads, accepts.accepted); base_at = (was_settled c.settle_once-settlement.ensures _ passed.0).base_is; whole_lt_fields = (passed.1, passed.2) }
-
-pub returns-in-Refused : goal.returns-in-Refused
-returns-in-Refused c =
-    let g = fields_refuse _ _ _ _ _ c.settle_once-settlement.ensures.checked_is _ _ (sym c.in-Refused.ensures) in
-    record { result_value = g.0; remainder_after = g.1 }
+    let X = c.settle_accepted-settlement.ensures in
+    record { reads = (X.accepts.reads, X.accepts.accepted); base_at = X.settled_is.base_is; whole_lt_fields = fields_passed _ _ _ (sym c.in_ok-check_fields.ensures) }

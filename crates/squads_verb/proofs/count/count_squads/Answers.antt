@@ -11,7 +11,7 @@ use Rattle.replies.specs.Told.{told}
 use Rattle.replies.proofs.Texts.{lent_answered, lent_refused}
 use Rattle.replies.proofs.Numbers.{two_taken, two_other}
 use Rattle.replies.proofs.Replies.{tells_answer, tells_nothing, told_as}
-use Rattle.squads_verb.specs.Texts.{squads_line, squads_text}
+use Rattle.squads_verb.specs.Texts.{remainder_room, squads_line, squads_text}
 use Rattle.squads_verb.specs.Calls.{squads_told}
 use Rattle.squads_verb.proofs.Counted.{squads_few}
 use Rattle.squads_verb.proofs.count.count_squads.Goals as goal
@@ -20,12 +20,10 @@ use Rattle.squads_verb.proofs.count.count_squads.Goals.{After-of_header-card}
 -- The sheet was accepted, so that the room suffices.
 few : (c : After-of_header-card) → let squads = c.squads in c.of_header-card.result.kinds ≤ length squads.new.remainder
 few c =
-    let remainder-room = c.remainder_room-remainder in
     omega (
       arith,
       ap (λ (x : Card). x.kinds) c.of_header-card.ensures,
-      squads_few c.args.sheet.now (get_or c.args.numbers.now 0 0) (get_or c.args.numbers.now 1 0) remainder-room.result _
-          c.in-Counted.ensures.result_value,
+      squads_few c.args.sheet.now (get_or c.args.numbers.now 0 0) (get_or c.args.numbers.now 1 0) _ _ c.in-Ok.ensures.result_value,
     )
 
 pub returns-then-numbers-ne2 : goal.returns-then-numbers-ne2
@@ -43,31 +41,24 @@ pub put_squads-length-requires : goal.put_squads-length-requires
 put_squads-length-requires c =
     omega (arith, c.requires, few (goal.at.put_squads-length-requires c).After-of_header-card, (sym (length-take-le _ _ (few (goal.at.put_squads-length-requires c).After-of_header-card))))
 
-pub returns-in-Counted : goal.returns-in-Counted
-unfolding squads_told squads_text
-returns-in-Counted c =
-    let if1 = c.if-numbers-ne2 in
-    let remainder-room = c.remainder_room-remainder in
+pub returns-in-Ok : goal.returns-in-Ok
+unfolding squads_told squads_text remainder_room
+returns-in-Ok c =
     let squads = c.squads in
     let remainder = squads.new.remainder in
-    let count = c.in-Counted.count in
+    let count = c.in-Ok.count in
     let i = get_or c.args.numbers.now 0 0 in
     let j = get_or c.args.numbers.now 1 0 in
-    told_as _ (tells_answer c.put_squads-length.ensures)
+    told_as _ (tells_answer c.put_squads-length.ensures _ c.answered.ensures)
     (ap (λ (x : Card). told (given (squads_line count (take x.kinds remainder)))) c.of_header-card.ensures
-    ∙ ap told (lent_answered squads_line (kind_count c.args.sheet.now) (squads_of c.args.sheet.now i j) remainder-room.ensures squads.ensures.remainder_after count
-    c.in-Counted.ensures.result_value)
-    ∙ two_taken _ c.args.numbers.now if1.false)
+    ∙ ap told (lent_answered squads_line (kind_count c.args.sheet.now) (squads_of c.args.sheet.now i j remainder_room) squads.ensures.remainder_after count c.in-Ok.ensures.result_value)
+    ∙ two_taken _ c.args.numbers.now c.if-numbers-ne2.false)
 
-pub returns-in-Refused : goal.returns-in-Refused
-unfolding squads_told squads_text
-returns-in-Refused c =
-    let if1 = c.if-numbers-ne2 in
-    let remainder-room = c.remainder_room-remainder in
-    let squads = c.squads in
+pub returns-in-Err : goal.returns-in-Err
+unfolding squads_told squads_text remainder_room
+returns-in-Err c =
     let i = get_or c.args.numbers.now 0 0 in
     let j = get_or c.args.numbers.now 1 0 in
     told_as _ c.refuse.ensures
-    (ap told (lent_refused squads_line (kind_count c.args.sheet.now) (squads_of c.args.sheet.now i j) remainder-room.ensures squads.ensures.remainder_after _ _
-    c.in-Refused.ensures.result_value)
-    ∙ two_taken _ c.args.numbers.now if1.false)
+    (ap told (lent_refused squads_line (kind_count c.args.sheet.now) (squads_of c.args.sheet.now i j remainder_room) _ _ c.in-Err.ensures.result_value)
+    ∙ two_taken _ c.args.numbers.now c.if-numbers-ne2.false)

@@ -1,9 +1,5 @@
-use Prim.Native.Nat.{◌-◌}
 use Rattle.stages.proofs.Keeping.{Lowered}
 use Rattle.stages.proofs.kept.form_before.Given as goal
 
 abbrev pub invariant-loop-kind : goal.invariant-loop-kind
 invariant-loop-kind l = Lowered l.form l.since l.rows l.stage l.sum l.kind
-
-abbrev pub decreases-loop-kind : goal.decreases-loop-kind
-decreases-loop-kind l = 32 - l.kind

@@ -18,13 +18,9 @@ pub slice_bounds-form_of_field-end : goal.slice_bounds-form_of_field-end
 slice_bounds-form_of_field-end c =
     sym (part_long c.requires.reads c.args.field _ c.field-field.ensures)
 
-pub form_of_field-requires : goal.form_of_field-requires
-form_of_field-requires c =
-    let R = c.requires.reads in
-    let xs = c.field-field.result in
-    let long = part_long R c.args.field xs c.field-field.ensures in
-    let rows = c.args.rows.now in
-    record { field_in_bounds = (omega (arith, long, kinds_most R, c.requires.rows_len.0), search rules); by_index = λ j. omega (arith, at_kind (part_form R c.args.field xs c.field-field.ensures rows) j, c.requires.rows_len.1 c.args.field j) }
+pub form_of_field-requires-clause-by_index : goal.form_of_field-requires-clause-by_index
+form_of_field-requires-clause-by_index c =
+    λ j. omega (arith, at_kind (part_form c.requires.reads c.args.field c.field-field.result c.field-field.ensures c.args.rows.now) j, c.requires.rows_len.1 c.args.field j)
 
 pub returns : goal.returns
 returns c =

@@ -1,7 +1,4 @@
 -- The part is an accepted sheet with the same norms, and it settles to what the sheet does.
-use mathlib.Core.Path.{sym}
-use native.Mathlib.Omega.{arith}
-use lib.Seq.{length-take-le}
 use Rattle.sheet.proofs.Laws.{kinds_most, lines_most, fields_most}
 use Rattle.tables.specs.Senses.{sense_of}
 use Rattle.part_sheet.proofs.Sheets.{sheet_longest}
@@ -9,17 +6,13 @@ use Rattle.part_sheet.proofs.Laws.{part_accepts}
 use Rattle.stages.proofs.Parts.{part_settled}
 use Rattle.stages.proofs.reached.settle_reached.Goals as goal
 
-pub write_part-part-requires : goal.write_part-part-requires
-write_part-part-requires c = record { accepts = c.requires; sheet_in_bounds = sheet_longest c.requires.reads }
+pub write_part-part-requires-clause-sheet_in_bounds : goal.write_part-part-requires-clause-sheet_in_bounds
+write_part-part-requires-clause-sheet_in_bounds c = sheet_longest c.requires.reads
 
 pub field_start-size-requires : goal.field_start-size-requires
 field_start-size-requires c =
     let R = c.write_part-part.ensures.reads in
     (kinds_most R, lines_most R, fields_most R)
-
-pub slice_bounds-settle-end : goal.slice_bounds-settle-end
-slice_bounds-settle-end c =
-    sym (length-take-le _ _ (omega (arith, c.field_start-size.ensures.0, c.write_part-part.ensures.room)))
 
 pub settle-requires : goal.settle-requires
 settle-requires c =

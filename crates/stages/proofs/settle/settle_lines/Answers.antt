@@ -30,38 +30,25 @@ loop-sense-init c =
       before_long = refl;
     }
 
-pub stage_rows-next-requires : goal.stage_rows-next-requires
-stage_rows-next-requires c =
-    let loop = c.loop-sense in
-    let reached = loop.invariant in
-    let whole = lines_whole c.requires.lines_are c.requires.accepts.reads in
-    record { accepts = c.requires.accepts; form_table = (reached.table, reached.rows_long, omega (arith, whole.few, reached.classes_long)); by_index = (loop.stage, held_given c.requires.accepts.reads c.requires.accepts.accepted c.requires.lines_are reached.held, reached.held.rows_are) }
+pub stage_rows-next-requires-clause-form_table : goal.stage_rows-next-requires-clause-form_table
+stage_rows-next-requires-clause-form_table c =
+    let reached = c.loop-sense.invariant in
+    (reached.table, reached.rows_long, omega (arith, (lines_whole c.requires.lines_are c.requires.accepts.reads).few, reached.classes_long))
 
-pub line_classes-classes-requires : goal.line_classes-classes-requires
-line_classes-classes-requires c =
-    let loop = c.loop-sense in
-    let rows = c.stage_rows-next in
-    let reached = loop.invariant in
-    let whole = lines_whole c.requires.lines_are c.requires.accepts.reads in
-    let given = held_given c.requires.accepts.reads c.requires.accepts.accepted c.requires.lines_are reached.held in
-    record { reads = (c.requires.accepts.reads, c.requires.accepts.accepted); lines_are = c.requires.lines_are; rows_len = (search rules, omega (arith, whole.few, reached.classes_long)); by_index = (sense_of c.args.sense, loop.stage, rows.ensures loop.stage given reached.held.rows_are, reached.held.bounds) }
+pub line_classes-classes-requires-clause-rows_len : goal.line_classes-classes-requires-clause-rows_len
+line_classes-classes-requires-clause-rows_len c =
+    (search rules, omega (arith, (lines_whole c.requires.lines_are c.requires.accepts.reads).few, c.loop-sense.invariant.classes_long))
 
 pub overflow_add-stage : goal.overflow_add-stage
 overflow_add-stage c =
     let loop = c.loop-sense in
     omega (arith, unsettled_next (sense_of c.args.sense) c.args.sheet.now c.requires.accepts.accepted loop.invariant.unsettled, few_kinds c.requires.accepts.reads)
 
-pub keep_stage-requires : goal.keep_stage-requires
-keep_stage-requires c =
-    let reached = c.loop-sense.invariant in
-    record { before_len = (reached.rows_long, search rules, reached.before_long, reached.since_long); kinds_le_most_kinds = kinds_most c.requires.accepts.reads }
+pub keep_stage-requires-clause-kinds_le_most_kinds : goal.keep_stage-requires-clause-kinds_le_most_kinds
+keep_stage-requires-clause-kinds_le_most_kinds c = kinds_most c.requires.accepts.reads
 
 norms_long : (c : Start) → length c.args.norms ≡ 32
 norms_long c = search rules
-
-pub slice_bounds-rows_expand-end-in-loop-sense-2 : goal.slice_bounds-rows_expand-end-in-loop-sense-2
-slice_bounds-rows_expand-end-in-loop-sense-2 c =
-    search (rules, norms_long (goal.at.slice_bounds-rows_expand-end-in-loop-sense-2 c).Start)
 
 all_rows : (c : After-stage_rows-next) → length c.stage_rows-next.result ≡ 1024
 all_rows c = search rules
@@ -105,9 +92,6 @@ kept c =
     let reached = c.loop-sense.invariant in
     let keep = c.keep_stage in
     kept_stage (sense c) c.args.sheet.now c.requires.accepts.accepted (stage c) reached.kept (base c) reached.held.rows_are.follows reached.held.no_rows (rw (add-one (stage c)) at keep.ensures) (sym (kinds_are c.requires.accepts.reads))
-
-pub shape_of-forms-then-rows_expand : goal.shape_of-forms-then-rows_expand
-shape_of-forms-then-rows_expand c = omega (arith, c.line_classes-classes.ensures.form_table.long, c.requires.form_table.long)
 
 pub returns-then-rows_expand : goal.returns-then-rows_expand
 returns-then-rows_expand c =

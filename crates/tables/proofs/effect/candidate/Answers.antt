@@ -1,25 +1,25 @@
 use native.Mathlib.Omega.{arith}
-use Rattle.tables.proofs.Subtraction.{subtracted_none, subtracted_more, subtracted_all, subtracted_not}
+use mathlib.Core.Path.{ap, sym}
+use Rattle.std.specs.Result.{is_ok}
+use Rattle.std.proofs.lemmas.Result.{Ok-from_Ok_iff}
+use Rattle.tables.proofs.Answers.{not_both}
+use Rattle.tables.proofs.Subtraction.{subtracted_none, subtracted_all, subtracted_not}
 use Rattle.tables.proofs.effect.candidate.Goals as goal
 
 pub loop-i-init : goal.loop-i-init
 loop-i-init c = subtracted_none (omega arith)
 
-pub overflow_add-whole : goal.overflow_add-whole
-overflow_add-whole c =
-    omega (arith, c.requires.under c.loop-i.i)
+pub returns-in_err-rest : goal.returns-in_err-rest
+returns-in_err-rest c =
+    let less = c.in_err-rest.ensures in
+    rw c.from_residual.ensures (subtracted_not c.loop-i.i (λ v _ e. less (omega arith)))
 
-pub returns-then-whole-part : goal.returns-then-whole-part
-returns-then-whole-part c =
-    subtracted_not c.loop-i.i (λ v f e. omega arith)
-
-pub returns-then-rest-gt4294967295 : goal.returns-then-rest-gt4294967295
-returns-then-rest-gt4294967295 c =
-    subtracted_not c.loop-i.i (λ v f e. omega arith)
-
-pub loop-i-preserved : goal.loop-i-preserved
-loop-i-preserved c =
-    subtracted_more c.loop-i.invariant _ (omega arith) c.loop-i-test.true
+pub returns-in_err-counts : goal.returns-in_err-counts
+returns-in_err-counts c =
+    let told = c.in_ok-rest.ensures in
+    let not = sym c.in_err-counts.ensures.variant in
+    rw c.from_residual-in_err-counts.ensures
+    (subtracted_not c.loop-i.i (λ v fits e. not_both not (ap is_ok (Ok-from_Ok_iff c.try_from.result _ _ c.try_from.ensures (omega arith)))))
 
 pub returns : goal.returns
 returns c = subtracted_all c.loop-i.invariant (omega arith) (omega arith) (omega arith)

@@ -1,27 +1,6 @@
 use native.Mathlib.Omega.{arith}
-use Rattle.tables.proofs.Tables.{agree_none, agree_more, agree_all, tells_same, differ, past}
+use Rattle.tables.proofs.Tables.{differ}
 use Rattle.tables.proofs.effect.same_effect.Goals as goal
 
-pub loop-i-init : goal.loop-i-init
-loop-i-init c = (omega arith, agree_none)
-
-pub overflow_add-here : goal.overflow_add-here
-overflow_add-here c =
-    omega (arith, c.requires.under.0 c.loop-i.i)
-
-pub overflow_add-there : goal.overflow_add-there
-overflow_add-there c =
-    omega (arith, c.requires.under.1 c.loop-i.i)
-
 pub returns-then-here-there : goal.returns-then-here-there
-returns-then-here-there c =
-    differ c.loop-i.i (λ e. c.if-here-there.true (omega arith))
-
-pub loop-i-preserved : goal.loop-i-preserved
-loop-i-preserved c =
-    (omega arith, agree_more c.loop-i.invariant.1 (omega arith))
-
-pub returns : goal.returns
-returns c =
-    let a = c.args in
-    tells_same (agree_all c.loop-i.invariant.1 (λ j h. omega (arith, past a.form.now j (omega arith), past a.its.now j (omega arith), past a.other.now j (omega arith), past a.own.now j (omega arith))))
+returns-then-here-there c = differ c.loop-i.i (λ e. c.if-here-there.true (omega arith))

@@ -1,33 +1,14 @@
-use mathlib.Core.Path.{sym}
 use native.Mathlib.Omega.{arith}
-use Rattle.tables.proofs.Marking.{field_marked_none, field_marked_some, field_marked_skip, field_marked_all, marks_long}
+use Rattle.tables.proofs.Marking.{field_marked_none, field_marked_all, marks_long}
 use Rattle.tables.proofs.marks.marks_of_field.Goals as goal
-use Rattle.tables.proofs.marks.marks_of_field.Goals.{then-count-gt0, else-count-gt0}
 
 pub loop-kind-init : goal.loop-kind-init
 loop-kind-init c = field_marked_none c.requires.1
-
-pub slice_bounds-add_marks-end : goal.slice_bounds-add_marks-end
-slice_bounds-add_marks-end c =
-    sym c.loop-kind.invariant.size
-
-pub marks_of_kind-requires : goal.marks_of_kind-requires
-marks_of_kind-requires c =
-    omega (arith, c.requires.0, c.requires.1, c.loop-kind-test.true)
 
 pub add_marks-requires : goal.add_marks-requires
 add_marks-requires c =
     let p = c.loop-kind in
     omega (arith, p.invariant.size, marks_long c.args.marks.now p.kind (omega (arith, c.requires.0, c.requires.1, c.loop-kind-test.true)) c.marks_of_kind.ensures)
-
-pub loop-kind-preserved : goal.loop-kind-preserved
-loop-kind-preserved c =
-    let h = c.loop-kind.invariant in
-    let l = c.loop-kind-test.true in
-    elim c.if-count-gt0.branch [
-      | then-count-gt0 w ↦ rw w.sum-is (field_marked_some h l w.if-count-gt0.true w.marks_of_kind.ensures w.add_marks.auto.sum w.add_marks.ensures)
-      | else-count-gt0 w ↦ rw w.sum-is (field_marked_skip h l w.if-count-gt0.false)
-    ]
 
 pub returns : goal.returns
 returns c = field_marked_all c.loop-kind.invariant c.loop-kind-test.false

@@ -1,14 +1,7 @@
 -- The row of an atom is the kind itself.
 use native.Mathlib.Omega.{arith}
-use Rattle.tables.proofs.Tables.{lent_length, row_added_none, row_added_atom, atom_bound, row_bound, row_added}
+use Rattle.tables.proofs.Tables.{lent_length, row_added_atom, row_bound, row_added}
 use Rattle.tables.proofs.table.add_row.Goals as goal
-
-pub returns-then-count-eq0 : goal.returns-then-count-eq0
-returns-then-count-eq0 c = row_added_none c.args.sum.now c.args.rows.now c.args.kind c.if-count-eq0.true
-
-pub overflow_add-sum : goal.overflow_add-sum
-overflow_add-sum c =
-    record { fits = atom_bound c.args.count c.args.sum.now c.args.rows.now c.args.kind (c.is_atom.ensures.0 c.if-is_atom.true) c.requires.by_index }
 
 pub returns-then-is_atom : goal.returns-then-is_atom
 returns-then-is_atom c =

@@ -35,15 +35,7 @@ returns-then-fields-second c =
     none_unlike a.sheet.now a.first a.second (λ h f g. omega (arith, c.fields-2.ensures, c.if-fields-second.true))
 
 pub loop-kind-init : goal.loop-kind-init
-loop-kind-init c = (omega arith, λ k l. absurd (omega arith))
-
-pub field_count-requires : goal.field_count-requires
-field_count-requires c =
-    (few_kinds (goal.at.field_count-requires c).Else-kinds-gt32, omega (arith, c.fields.ensures, c.if-fields-first.false), omega (arith, c.kinds-count.ensures, c.loop-kind-test.true))
-
-pub field_count-requires-in-loop-kind : goal.field_count-requires-in-loop-kind
-field_count-requires-in-loop-kind c =
-    (few_kinds ((goal.at.field_count-requires-in-loop-kind c).Else-kinds-gt32), omega (arith, c.fields-2.ensures, c.if-fields-second.false), omega (arith, c.kinds-count.ensures, c.loop-kind-test.true))
+loop-kind-init c = λ k l. absurd (omega arith)
 
 pub returns-then-field_count : goal.returns-then-field_count
 returns-then-field_count c =
@@ -51,7 +43,7 @@ returns-then-field_count c =
 
 pub loop-kind-preserved : goal.loop-kind-preserved
 loop-kind-preserved c =
-    (omega arith, below_more _ _ c.loop-kind.invariant.1 (sym c.field_count.ensures.0 ∙ c.if-field_count.false ∙ c.field_count-in-loop-kind.ensures.0))
+    below_more _ _ c.loop-kind.invariant (sym c.field_count.ensures.0 ∙ c.if-field_count.false ∙ c.field_count-in-loop-kind.ensures.0)
 
 pub returns : goal.returns
-returns c = alike_all _ _ _ c.loop-kind.kind (omega (arith, c.kinds-count.ensures, c.loop-kind-test.false)) c.loop-kind.invariant.1
+returns c = alike_all _ _ _ c.loop-kind.kind (omega (arith, c.kinds-kind-end.ensures, c.loop-kind-test.false)) c.loop-kind.invariant

@@ -1,6 +1,6 @@
 -- Each return gives what the tests on the way leave of the checks.
 use mathlib.Core.List.{List}
-use mathlib.Core.Path.{◌≡◌, refl, sym, ◌∙◌}
+use mathlib.Core.Path.{◌≡◌, sym, ◌∙◌}
 use Prim.Native.Nat.{ℕ, ◌≤◌}
 use lib.ListN.{length, drop}
 use Rattle.model.specs.Limits.{most_kinds, most_lines, most_fields}
@@ -10,7 +10,7 @@ use Rattle.theory.proofs.Sheets.{clear_nil}
 use Rattle.sheet.specs.Reader.{layout_checks}
 use Rattle.sheet.proofs.Laws.{numbers_limits}
 use Rattle.sheet.proofs.Reading.{fields_offset_read, total_read}
-use Rattle.validation.proofs.Checking.{refuses, passes, differ_stops, differ_passes}
+use Rattle.validation.proofs.Checking.{differ_stops, differ_passes}
 use Rattle.validation.proofs.checks.check_layout.Goals as goal
 use Rattle.validation.proofs.checks.check_layout.Goals.{After-field_start-total, Else-u32_at-fields, Else-u32_at-ne-HEADER, Else-u32_at-total, Start}
 
@@ -59,12 +59,12 @@ after_total c =
 pub returns-then-u32_at-ne-HEADER : goal.returns-then-u32_at-ne-HEADER
 unfolding header_checks
 returns-then-u32_at-ne-HEADER c =
-    refuses _ _ 6 0 (differ_stops 6 0 _ (u32_at c.args.sheet.now 8) lines_offset (λ e. c.if-u32_at-ne-HEADER.true (c.u32_at.ensures.0 ∙ e)))
+    sym (differ_stops 6 0 _ (u32_at c.args.sheet.now 8) lines_offset (λ e. c.if-u32_at-ne-HEADER.true (c.u32_at.ensures.0 ∙ e)))
 
 pub returns-then-u32_at-fields : goal.returns-then-u32_at-fields
 unfolding header_checks
 returns-then-u32_at-fields c =
-    refuses _ _ 6 1
+    sym
     (after_lines (goal.at.returns-then-u32_at-fields c).Else-u32_at-ne-HEADER
     ∙ differ_stops 6 1 _ (u32_at c.args.sheet.now 12) (fields_offset c.args.sheet.now)
     (λ e. c.if-u32_at-fields.true (c.u32_at-2.ensures.0 ∙ e ∙ sym (fields_is (goal.at.returns-then-u32_at-fields c).After-field_start-total))))
@@ -72,7 +72,7 @@ returns-then-u32_at-fields c =
 pub returns-then-u32_at-total : goal.returns-then-u32_at-total
 unfolding header_checks
 returns-then-u32_at-total c =
-    refuses _ _ 6 2
+    sym
     (after_fields (goal.at.returns-then-u32_at-total c).Else-u32_at-fields
     ∙ differ_stops 6 2 _ (u32_at c.args.sheet.now 16) (total_of c.args.sheet.now)
     (λ e. c.if-u32_at-total.true (c.u32_at-3.ensures.0 ∙ e ∙ sym (total_is (goal.at.returns-then-u32_at-total c).After-field_start-total))))
@@ -80,12 +80,12 @@ returns-then-u32_at-total c =
 pub returns-then-sheet-total : goal.returns-then-sheet-total
 unfolding header_checks
 returns-then-sheet-total c =
-    refuses _ _ 6 3
+    sym
     (after_total (goal.at.returns-then-sheet-total c).Else-u32_at-total
     ∙ differ_stops 6 3 _ (length c.args.sheet.now) (total_of c.args.sheet.now) (λ e. c.if-sheet-total.true (e ∙ sym (total_is (goal.at.returns-then-sheet-total c).After-field_start-total))))
 
 pub returns : goal.returns
 unfolding header_checks
 returns c =
-    passes _ _ _ refl
+    sym
     (after_total (goal.at.returns c).Else-u32_at-total ∙ differ_passes 6 3 _ (length c.args.sheet.now) (total_of c.args.sheet.now) (c.if-sheet-total.false ∙ total_is (goal.at.returns c).After-field_start-total) ∙ clear_nil)

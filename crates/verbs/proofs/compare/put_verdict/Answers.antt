@@ -10,14 +10,14 @@ use Rattle.verbs.proofs.compare.put_verdict.Goals as goal
 pub returns-in-Same : goal.returns-in-Same
 unfolding worded verdict_text
 returns-in-Same c =
-    told_as _ (tells_answer c.put_same-length.ensures) (ap (λ v. told (verdict_text (verdict_of v))) (sym c.in-Same.is))
+    told_as _ (tells_answer c.put_same-length.ensures _ c.answered.ensures) (ap (λ v. told (verdict_text (verdict_of v))) (sym c.in-Same.is))
 
 pub returns-in-Different : goal.returns-in-Different
 unfolding worded verdict_text
 returns-in-Different c =
-    told_as _ (tells_answer c.put_different-length.ensures) (ap (λ v. told (verdict_text (verdict_of v))) (sym c.in-Different.is))
+    told_as _ (tells_answer c.put_different-length.ensures _ c.answered-in-Different.ensures) (ap (λ v. told (verdict_text (verdict_of v))) (sym c.in-Different.is))
 
 pub returns-in-Refused : goal.returns-in-Refused
 unfolding worded verdict_text
 returns-in-Refused c =
-    told_as _ c.refuse.ensures (ap (λ v. told (verdict_text (verdict_of v))) (sym c.in-Refused.is))
+    told_as _ c.refuse_as.ensures (ap (λ v. told (verdict_text (verdict_of v))) (sym c.in-Refused.is))

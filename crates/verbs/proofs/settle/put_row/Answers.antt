@@ -17,21 +17,21 @@ use Rattle.verbs.proofs.settle.put_row.Goals.{After-row-part}
 few : (c : After-row-part) → length c.row-part.result.now ≤ most_kinds
 few c = let args = c.args in omega (arith, ap length c.row-part.ensures, row_most args.kinds args.kind args.table.now)
 
-pub widen_u32-counts-requires : goal.widen_u32-counts-requires
-widen_u32-counts-requires c = omega (arith, few (goal.at.widen_u32-counts-requires c).After-row-part)
+pub widen-counts-requires : goal.widen-counts-requires
+widen-counts-requires c = omega (arith, few (goal.at.widen-counts-requires c).After-row-part)
 
 pub slice_bounds-counts-end : goal.slice_bounds-counts-end
 slice_bounds-counts-end c = let short = few (goal.at.slice_bounds-counts-end c).After-row-part in search rules
 
 pub slice_bounds-put_counts_line-end : goal.slice_bounds-put_counts_line-end
-slice_bounds-put_counts_line-end c = sym (ap length c.widen_u32-counts.ensures)
+slice_bounds-put_counts_line-end c = sym (ap length c.widen-counts.ensures)
 
 pub put_counts_line-requires : goal.put_counts_line-requires
 put_counts_line-requires c =
-    omega (arith, ap length c.widen_u32-counts.ensures, few (goal.at.put_counts_line-requires c).After-row-part, c.requires)
+    omega (arith, ap length c.widen-counts.ensures, few (goal.at.put_counts_line-requires c).After-row-part, c.requires)
 
 pub returns : goal.returns
 returns c =
     let args = c.args in
-    reads_as most_row (counts_line (row_of args.kinds args.kind args.table.now)) c.put_counts_line.ensures (omega (arith, ap length c.widen_u32-counts.ensures, few (goal.at.returns c).After-row-part))
-    (ap counts_line (c.widen_u32-counts.ensures ∙ c.row-part.ensures))
+    reads_as most_row (counts_line (row_of args.kinds args.kind args.table.now)) c.put_counts_line.ensures (omega (arith, ap length c.widen-counts.ensures, few (goal.at.returns c).After-row-part))
+    (ap counts_line (c.widen-counts.ensures ∙ c.row-part.ensures))

@@ -1,6 +1,6 @@
--- `put_rows`: after so many turns the lines of as many rows are appended.
+-- After so many turns the lines of as many rows are appended.
 use mathlib.Core.List.{List}
-use Prim.Native.Nat.{ℕ, ◌≤◌, ◌-◌, ◌*◌}
+use Prim.Native.Nat.{ℕ, ◌*◌}
 use Rattle.model.specs.Finite.{concat, list_from}
 use Rattle.model.specs.Answer.{row_of}
 use Rattle.text.specs.Appended.{Appended}
@@ -13,7 +13,4 @@ abbrev pub row_line : List ℕ → ℕ → ℕ → List ℕ
 row_line table kinds kind = counts_line (row_of kinds kind table)
 
 abbrev pub invariant-loop-kind : goal.invariant-loop-kind
-invariant-loop-kind l = (l.kind ≤ l.kinds) × Appended (most_row * l.kind) l.initial.out l.initial.next (concat (list_from (row_line l.table l.kinds) 0 l.kind)) l.out l.next
-
-abbrev pub decreases-loop-kind : goal.decreases-loop-kind
-decreases-loop-kind l = l.kinds - l.kind
+invariant-loop-kind l = Appended (most_row * l.kind) l.initial.out l.initial.next (concat (list_from (row_line l.table l.kinds) 0 l.kind)) l.out l.next

@@ -19,5 +19,5 @@ pub returns : goal.returns
 returns c =
     let of-header = c.of_header-card in
     let put-stages = c.put_stages-at_rows in
-    told_as _ (tells_answer (then put-stages.ensures c.put_rows-length.ensures))
+    told_as _ (tells_answer (then put-stages.ensures c.put_rows-length.ensures) _ c.answered.ensures)
     (ap (λ (x : Card). told (given (stages_line c.args.stage ++ row_lines x.kinds c.args.table.now))) of-header.ensures)

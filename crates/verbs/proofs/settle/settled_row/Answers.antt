@@ -1,10 +1,10 @@
--- `settled_row`: with one number, the row that Row hands out of what Settle wrote.
+-- With one number, the row that Row hands out of what Settle wrote.
 use mathlib.Core.Path.{ap, ◌∙◌}
 use lib.ListN.{get_or}
 use Rattle.model.specs.Answer.{row_check_of}
 use Rattle.sheet.specs.declared.reader.Card.{Card}
 use Rattle.replies.specs.Told.{told}
-use Rattle.verbs.specs.Texts.{row_in}
+use Rattle.verbs.specs.Texts.{table_room, row_in}
 use Rattle.verbs.specs.Calls.{row_told}
 use Rattle.verbs.proofs.Answered.{row_answered, row_refused}
 use Rattle.replies.proofs.Numbers.{one_taken, one_other}
@@ -16,27 +16,19 @@ unfolding row_told
 returns-then-numbers-ne1 c =
     told_as _ (tells_nothing c.args.out.now c.no_call.result c.no_call.ensures) (one_other _ c.args.numbers.now c.if-numbers-ne1.true)
 
-pub returns-in-Settled : goal.returns-in-Settled
-unfolding row_told
-returns-in-Settled c =
-    let if1 = c.if-numbers-ne1 in
-    let table-room = c.table_room-table in
-    let settle-sheet = c.settle_sheet in
-    let table = settle-sheet.new.table in
-    let of-header = c.of_header-card in
+pub returns-in-Ok : goal.returns-in-Ok
+unfolding row_told table_room
+returns-in-Ok c =
+    let table = c.settle_sheet.new.table in
     let kind = get_or c.args.numbers.now 0 0 in
     told_as _ c.put_row_of.ensures
-    (ap (λ (x : Card). told (row_in x.kinds kind table (row_check_of x.kinds kind table))) of-header.ensures
-    ∙ ap told (row_answered c.args.sheet.now table-room.result table table-room.ensures settle-sheet.ensures.table_after kind _ c.in-Settled.ensures.result_value)
-    ∙ one_taken _ c.args.numbers.now if1.false)
+    (ap (λ (x : Card). told (row_in x.kinds kind table (row_check_of x.kinds kind table))) c.of_header-card.ensures
+    ∙ ap told (row_answered c.args.sheet.now table c.settle_sheet.ensures.table_after kind _ c.in-Ok.ensures.result_value)
+    ∙ one_taken _ c.args.numbers.now c.if-numbers-ne1.false)
 
-pub returns-in-Refused : goal.returns-in-Refused
-unfolding row_told
-returns-in-Refused c =
-    let if1 = c.if-numbers-ne1 in
-    let table-room = c.table_room-table in
-    let settle-sheet = c.settle_sheet in
-    let kind = get_or c.args.numbers.now 0 0 in
+pub returns-in-Err : goal.returns-in-Err
+unfolding row_told table_room
+returns-in-Err c =
     told_as _ c.refuse.ensures
-    (ap told (row_refused c.args.sheet.now table-room.result settle-sheet.new.table table-room.ensures settle-sheet.ensures.table_after kind _ _ c.in-Refused.ensures.result_value)
-    ∙ one_taken _ c.args.numbers.now if1.false)
+    (ap told (row_refused c.args.sheet.now (get_or c.args.numbers.now 0 0) _ _ c.in-Err.ensures.result_value)
+    ∙ one_taken _ c.args.numbers.now c.if-numbers-ne1.false)

@@ -1,11 +1,7 @@
 -- The sum is that over the kinds passed.
 use mathlib.Core.Path.{◌≡◌}
-use Prim.Native.Nat.{◌-◌, ◌≤◌}
 use Rattle.model.specs.Field.{weigh, at}
 use Rattle.weights.proofs.fields.field_norm.Given as goal
 
 abbrev pub invariant-loop-kind : goal.invariant-loop-kind
-invariant-loop-kind l = (l.sum ≡ weigh l.kind (at l.norms) (at l.field)) × (l.kind ≤ l.kinds)
-
-abbrev pub decreases-loop-kind : goal.decreases-loop-kind
-decreases-loop-kind l = l.kinds - l.kind
+invariant-loop-kind l = l.sum ≡ weigh l.kind (at l.norms) (at l.field)

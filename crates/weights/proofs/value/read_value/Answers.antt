@@ -1,5 +1,4 @@
-use borrow.Author.Rules.{rules}
-use mathlib.Core.Path.{◌≡◌, sym, ◌∙◌, ap}
+use mathlib.Core.Path.{◌≡◌, refl, sym, ◌∙◌, ap}
 use Prim.Native.Nat.{ℕ, suc, ◌*◌, ◌^◌}
 use native.Mathlib.Omega.{arith}
 use lib.ListN.{length}
@@ -13,7 +12,7 @@ use Rattle.weights.proofs.value.read_value.Goals.{After-loop-i, In-loop-i, then-
 
 pub loop-i-init : goal.loop-i-init
 unfolding weigh
-loop-i-init c = (search rules, λ k h. absurd (omega arith), search rules)
+loop-i-init c = (λ k h. absurd (omega arith), refl)
 
 pub returns-then-value-eq0 : goal.returns-then-value-eq0
 returns-then-value-eq0 c =
@@ -36,26 +35,21 @@ more c x y p q =
     let fits =
     bytes_fit n (at c.args.values.now) (at c.args.counts.now) c.requires.counts_len_bound c.requires.at_most
     (λ k. omega (arith, c.type_inv.counts k)) in
-    sum_more loop.i n (at c.args.values.now) (at c.args.counts.now) (2 ^ 64) loop.sum x y (omega arith) fits loop.invariant.2 p q
-
-pub overflow_mul-sum : goal.overflow_mul-sum
-overflow_mul-sum c =
-    record { fits = (more (goal.at.overflow_mul-sum c).In-loop-i _ _ c.wide8.ensures c.wide32.ensures).product_fits }
+    sum_more loop.i n (at c.args.values.now) (at c.args.counts.now) (2 ^ 64) loop.sum x y (omega arith) fits loop.invariant.1 p q
 
 pub overflow_add-sum : goal.overflow_add-sum
 overflow_add-sum c =
-    record { fits = (more (goal.at.overflow_add-sum c).In-loop-i _ _ c.wide8.ensures c.wide32.ensures).sum_fits }
+    record { fits = (more (goal.at.overflow_add-sum c).In-loop-i _ _ c.from.ensures c.from-then-count-gt0.ensures).sum_fits }
 
 pub loop-i-preserved : goal.loop-i-preserved
 loop-i-preserved c =
     let args = c.args in
     let loop = c.loop-i in (
-      search rules,
-      ready_more _ _ _ loop.invariant.1
+      ready_more _ _ _ loop.invariant.0
           (elim c.if-count-gt0.branch [ then-count-gt0+else-value-eq0 w ↦ λ q. omega arith | else-count-gt0 w ↦ λ q. absurd (omega arith) ]),
       elim c.if-count-gt0.branch [
-        | then-count-gt0+else-value-eq0 w ↦ w.sum-is ∙ (more (goal.at.loop-i-preserved c).In-loop-i _ _ w.wide8.ensures w.wide32.ensures).sum_is
-        | else-count-gt0 w ↦ w.sum-is ∙ loop.invariant.2 ∙ sum_same loop.i (at args.values.now) (at args.counts.now) (omega arith)
+        | then-count-gt0+else-value-eq0 w ↦ w.sum-is ∙ (more (goal.at.loop-i-preserved c).In-loop-i _ _ w.from.ensures w.from-then-count-gt0.ensures).sum_is
+        | else-count-gt0 w ↦ w.sum-is ∙ loop.invariant.1 ∙ sum_same loop.i (at args.values.now) (at args.counts.now) (omega arith)
       ],
     )
 
@@ -66,10 +60,10 @@ value_told c =
     let loop = c.loop-i in
     let n = length args.counts.now in
     let z : loop.i ≡ n = omega arith in
-    read_ready n (at args.values.now) (at args.counts.now) (ready_true n (at args.values.now) (at args.counts.now) (rw z at loop.invariant.1)) ∙ ap suc (sym (rw z at loop.invariant.2))
+    read_ready n (at args.values.now) (at args.counts.now) (ready_true n (at args.values.now) (at args.counts.now) (rw z at loop.invariant.0)) ∙ ap suc (sym (rw z at loop.invariant.1))
 
-pub returns-then-sum : goal.returns-then-sum
-returns-then-sum c = omega (arith, value_told (goal.at.returns-then-sum c).After-loop-i)
+pub returns-then-sum-from : goal.returns-then-sum-from
+returns-then-sum-from c = omega (arith, value_told (goal.at.returns-then-sum-from c).After-loop-i)
 
 pub returns : goal.returns
 returns c = omega (arith, value_told (goal.at.returns c).After-loop-i)

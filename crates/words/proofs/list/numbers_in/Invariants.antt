@@ -1,11 +1,10 @@
--- `numbers_in`: the words before a position said the first numbers of the array.
-use Prim.Native.Nat.{◌-◌}
+-- `numbers_in`: the words before the rest said the first numbers of the array.
 use lib.ListN.{length}
 use Rattle.words.proofs.Texts.{Counting}
 use Rattle.words.proofs.list.numbers_in.Given as goal
 
-abbrev pub invariant-loop-at : goal.invariant-loop-at
-invariant-loop-at l = Counting (length l.initial.values) l.text l.values l.at l.count
+abbrev pub invariant-loop-end : goal.invariant-loop-end
+invariant-loop-end l = Counting (length l.initial.values) l.text l.values l.rest l.count
 
-abbrev pub decreases-loop-at : goal.decreases-loop-at
-decreases-loop-at l = length l.text - l.at
+abbrev pub decreases-loop-end : goal.decreases-loop-end
+decreases-loop-end l = length l.rest

@@ -1,4 +1,3 @@
-use borrow.Author.Rules.{rules}
 use mathlib.Core.Path.{◌≡◌}
 use native.Mathlib.Omega.{arith}
 use Rattle.sheet.proofs.Counts.{counts_none, counts_more}
@@ -12,37 +11,17 @@ field_start-start-requires c =
     (kinds_most pre, lines_most pre, omega (arith, fields_most pre))
 
 pub loop-kind-init : goal.loop-kind-init
-loop-kind-init c = (search rules, counts_none _ 32)
-
-pub overflow_mul-kind : goal.overflow_mul-kind
-overflow_mul-kind c =
-    omega (arith, kinds_most c.requires.reads)
-
-pub overflow_add-start : goal.overflow_add-start
-overflow_add-start c =
-    omega (arith, kinds_most c.requires.reads)
-
-pub u16_at-requires : goal.u16_at-requires
-u16_at-requires c =
-    omega (arith, kinds_most c.requires.reads)
-
-pub offset_bounds-counts-kind : goal.offset_bounds-counts-kind
-offset_bounds-counts-kind c =
-    omega (arith, kinds_most c.requires.reads)
+loop-kind-init c = counts_none _ 32
 
 pub bounds-counts-kind : goal.bounds-counts-kind
 bounds-counts-kind c =
     omega (arith, kinds_most c.requires.reads)
 
-pub overflow_add-kind : goal.overflow_add-kind
-overflow_add-kind c =
-    omega (arith, kinds_most c.requires.reads)
-
 pub loop-kind-preserved : goal.loop-kind-preserved
-loop-kind-preserved c = (search rules, counts_more _ _ _ _ _ (omega (arith, kinds_most c.requires.reads)) c.loop-kind.invariant.1 c.u16_at.ensures.0)
+loop-kind-preserved c = counts_more _ _ _ _ _ (omega (arith, kinds_most c.requires.reads)) c.loop-kind.invariant c.u16_at.ensures.0
 
 pub returns : goal.returns
 returns c =
     let pre = c.requires.reads in
     let all : c.loop-kind.kind ≡ c.args.self.kinds = omega arith in
-    field_read pre _ _ _ c.field_start-start.ensures.0 (rw all at c.loop-kind.invariant.1)
+    field_read pre _ _ _ c.field_start-start.ensures.0 (rw all at c.loop-kind.invariant)

@@ -1,5 +1,5 @@
--- The counts of the kinds below the one reached are read. The measure is what is left of the kinds.
-use Prim.Native.Nat.{◌+◌, ◌*◌, ◌-◌, ◌≤◌}
+-- The counts of the kinds below the one reached are read.
+use Prim.Native.Nat.{◌+◌, ◌*◌}
 use mathlib.Core.Path.{◌≡◌}
 use Rattle.model.specs.Finite.{list_from}
 use Rattle.model.specs.Limits.{most_kinds}
@@ -7,7 +7,4 @@ use Rattle.model.specs.Sheet.{u16_at, counts}
 use Rattle.sheet.proofs.reader.Card.field.Given as goal
 
 abbrev pub invariant-loop-kind : goal.invariant-loop-kind
-invariant-loop-kind l = (l.kind ≤ l.kinds) × (l.counts ≡ list_from (counts l.kind (λ q. u16_at l.sheet (l.start + 2 * q))) 0 most_kinds)
-
-abbrev pub decreases-loop-kind : goal.decreases-loop-kind
-decreases-loop-kind l = l.kinds - l.kind
+invariant-loop-kind l = l.counts ≡ list_from (counts l.kind (λ q. u16_at l.sheet (l.start + 2 * q))) 0 most_kinds

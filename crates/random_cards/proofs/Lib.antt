@@ -1,2 +1,0 @@
--- Laws that the code cites.
-pub mod Products

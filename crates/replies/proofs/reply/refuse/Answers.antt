@@ -1,7 +1,0 @@
--- `refuse`: the line of the refusal.
-use Rattle.replies.proofs.Replies.{tells_refusal}
-use Rattle.replies.proofs.reply.refuse.Goals as goal
-
-pub returns : goal.returns
-returns c =
-    tells_refusal c.args.number c.args.place c.put_refused-length.ensures
