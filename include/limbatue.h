@@ -118,8 +118,8 @@ enum { LIMBATUE_TOGETHER = 0, LIMBATUE_APART = 1, LIMBATUE_SPENT = 2 };
 #define LIMBATUE_SQUADS_ANSWER 1
 #define LIMBATUE_FINER_COMPARE_ANSWER 3
 
-/* Bytes of stack that must be left where a call is made. Taken are, as measured: settle 131,800, settle with the marks 132,104, compare and finer compare 158,456,
- * prime form 132,184, finer prime form 132,168, walk 75,408 at most, page 228,504, shelf number 6,368, shelf field 9,976, squads 138,008, frequencies 142,520, the
+/* Bytes of stack that must be left where a call is made. Taken are, as measured: settle 119,064, settle with the marks 119,112, compare and finer compare 136,360,
+ * prime form and finer prime form 119,096, walk 76,688 at most, page 210,744, shelf number 6,368, shelf field 9,976, squads 120,088, frequencies 130,312, the
  * others under 256. Stated is each with 4,096 more, for memcpy, memset and the loader, which may be asked for them at a first call, and rounded up to pages of 4,096.
  * In the repository ./stack measures the archive again, and fails where under 4,096 are left. */
 #define LIMBATUE_VERSION_STACK 8192
@@ -127,15 +127,15 @@ enum { LIMBATUE_TOGETHER = 0, LIMBATUE_APART = 1, LIMBATUE_SPENT = 2 };
 #define LIMBATUE_SETTLE_STACK 139264
 #define LIMBATUE_SETTLE_SINCE_STACK 139264
 #define LIMBATUE_ROW_CHECK_STACK 8192
-#define LIMBATUE_COMPARE_STACK 163840
-#define LIMBATUE_PRIME_FORM_STACK 139264
+#define LIMBATUE_COMPARE_STACK 147456
+#define LIMBATUE_PRIME_FORM_STACK 135168
 #define LIMBATUE_WALK_STACK 86016
-#define LIMBATUE_PAGE_STACK 233472
+#define LIMBATUE_PAGE_STACK 221184
 #define LIMBATUE_SHELF_NUMBER_STACK 12288
 #define LIMBATUE_SHELF_FIELD_STACK 16384
-#define LIMBATUE_SQUADS_STACK 143360
-#define LIMBATUE_FINER_COMPARE_STACK 163840
-#define LIMBATUE_FINER_PRIME_FORM_STACK 139264
+#define LIMBATUE_SQUADS_STACK 135168
+#define LIMBATUE_FINER_COMPARE_STACK 147456
+#define LIMBATUE_FINER_PRIME_FORM_STACK 135168
 #define LIMBATUE_FREQUENCIES_STACK 155648
 #define LIMBATUE_STACK_MOST LIMBATUE_PAGE_STACK
 

@@ -5,6 +5,7 @@ use Prim.Native.Nat.{ℕ, ◌*◌, ◌^◌, ◌≤◌, ◌<◌}
 use native.Mathlib.Omega.{arith}
 use lib.ListN.{length, take, drop}
 use lib.Seq.{length-take-le, get_or-take}
+use Rattle.std.specs.Prelude.{Result, Ok, Err}
 use Rattle.model.specs.Sense.{Sense, plain}
 use Rattle.model.specs.Norm.{kind_norm}
 use Rattle.model.specs.Base.{settled_stage_in, rounds_at}
@@ -13,12 +14,14 @@ use Rattle.model.specs.Field.{at}
 use Rattle.model.specs.Refusal.{refusal, first_of, accept_checks, Accepted}
 use Rattle.theory.specs.Widths.{Bytes}
 use Rattle.model.specs.Answer.{Answer, refused, given, LentMarks, same, different, settle_of, settle_since_of, compare_in, prime_form_in, forming_in, written}
+use Rattle.refusals.specs.declared.Refusal.{Refusal}
+use Rattle.refusals.specs.Refusals.{number_of, place_of}
 use Rattle.validation.specs.Fields.{field_checks}
 use Rattle.sheet.proofs.Laws.{kinds_are, fields_are}
 use Rattle.stages.specs.Parting.{parted_by}
 use Rattle.stages.proofs.Outcomes.{settled_marks, compare_different, compare_same}
 use Rattle.filer.specs.declared.settlement.Settlement.{Settlement}
-use Rattle.filer.specs.Settlement.{IsSettlement, table_in}
+use Rattle.filer.specs.Settlement.{IsSettlement, SettlementIs, table_in}
 use Rattle.theory.proofs.Told.{gives}
 use Rattle.filer.proofs.Calls.{settle_refused, since_refused, compare_refused, fields_large, form_refused, table_short, since_table_short, since_marks_short, no_field, buffer_short, settle_given, marks_small, since_given, form_given, rounds_fit}
 
@@ -114,6 +117,14 @@ module _ {s : List ℕ} {x : Settlement} (X : IsSettlement plain s x) (table mar
             v ∙ ap (λ (n : ℕ). written (take n x.settled.base.since) marks) (kinds X) ∙ g.1.1,
           ),
         )
+
+-- What is settled, by what the checks came to.
+module _ (sense : Sense) (s : List ℕ) {r : Result Settlement Refusal} where
+  pub settled_here : {x : Settlement} → r ≡ Ok x → SettlementIs sense s r → IsSettlement sense s x
+  settled_here e S = rw e at S
+
+  pub settled_refused : {e : Refusal} → r ≡ Err e → SettlementIs sense s r → first_of (accept_checks s) ≡ refusal (number_of e) (place_of e)
+  settled_refused e S = rw e at S
 
 -- Where the sheet is refused, so is every call.
 module _ (s : List ℕ) (k p : ℕ) (e : first_of (accept_checks s) ≡ refusal k p) where

@@ -7,12 +7,13 @@ ghost use Rattle.model.specs.Answer.{compare_in, compare_of, finer_compare_of};
 ghost use Rattle.norms.specs.Norms.{Accepts};
 ghost use Rattle.tables.specs.Senses.{sense_of};
 ghost use Rattle.filer.specs.Answers.{verdict_of};
-ghost use Rattle.filer.specs.Settlement.{IsSettlement};
+ghost use Rattle.filer.specs.Settlement.{IsSettlement, SettlementIs};
 
 use crate::answers::Verdict;
 use crate::settlement::{Settlement, settle_accepted};
 use acceptance::accept::accept;
 use norms::lines::gain;
+use refusals::Refusal;
 use sheet::Card;
 use stages::parting::parted;
 use tables::sense::Sense;
@@ -38,39 +39,51 @@ pub fn compare_in(sense: Sense, sheet: &[u8], first: usize, second: usize) -> Ve
     ensures { verdict_of result ≡ compare_in (sense_of sense) sheet.now first second }
 {
     match accept(sheet) {
-        Ok(acceptance) => compare_settled(
-            sense,
-            sheet,
-            settle_accepted(sense, sheet, acceptance),
-            first,
-            second,
-        ),
+        Ok(acceptance) => {
+            let mut settlement = Settlement::of(acceptance);
+            settle_accepted(sense, sheet, &mut settlement);
+            compare_accepted(sense, sheet, &settlement, first, second)
+        }
         Err(refusal) => Verdict::from(refusal),
     }
 }
 
-// The verdict of a sense, of an accepted sheet that was settled in it, and any two field numbers.
-// Inlined: a call would copy what is settled once more, onto the stack.
-#[inline(always)]
+// The verdict of a sense, of a sheet that was checked and settled in it, and any two field numbers.
 pub fn compare_settled(
     sense: Sense,
     sheet: &[u8],
-    settlement: Settlement,
+    settled: &Result<Settlement, Refusal>,
     first: usize,
     second: usize,
 ) -> Verdict
-    requires { IsSettlement (sense_of sense) sheet.now settlement }
+    requires { SettlementIs (sense_of sense) sheet.now settled.now }
+    ensures { verdict_of result ≡ compare_in (sense_of sense) sheet.now first second }
+{
+    match settled {
+        Ok(settlement) => compare_accepted(sense, sheet, settlement, first, second),
+        Err(refusal) => Verdict::from(*refusal),
+    }
+}
+
+// The verdict of a sense, of an accepted sheet that was settled in it, and any two field numbers.
+pub fn compare_accepted(
+    sense: Sense,
+    sheet: &[u8],
+    settlement: &Settlement,
+    first: usize,
+    second: usize,
+) -> Verdict
+    requires { IsSettlement (sense_of sense) sheet.now settlement.now }
     ensures { verdict_of result ≡ compare_in (sense_of sense) sheet.now first second }
 {
     let card = settlement.card;
-    if let Err(refusal) = check_fields(card, first, second) {
+    if let Err(refusal) = check_fields(Ok(card), first, second) {
         return Verdict::from(refusal);
     }
     let norms = settlement.norms;
-    let settled = settlement.settled;
-    let last = settled.stage;
+    let settled = &settlement.settled;
     let stage = parted(sense, sheet, card, norms, settled, first, second);
-    if last < stage {
+    if settled.stage < stage {
         return Verdict::Same;
     }
     let rounds = rounds_at(sheet, card, norms, stage, first, second);

@@ -9,7 +9,7 @@ ghost use Rattle.sheet.specs.Reader.{Reads};
 ghost use Rattle.tables.specs.Senses.{sense_of};
 ghost use Rattle.refusals.specs.Refusals.{answer_of};
 ghost use Rattle.rows.specs.Stage.{BaseAt};
-ghost use Rattle.filer.specs.Settlement.{IsSettlement};
+ghost use Rattle.filer.specs.Settlement.{IsSettlement, SettlementIs};
 
 use crate::settlement::{Settlement, settle_accepted};
 use acceptance::accept::accept;
@@ -42,25 +42,36 @@ pub fn form_in(sense: Sense, sheet: &[u8], field: usize, buffer: &mut [u64]) -> 
     ensures buffer_after { buffer.new ≡ (forming_in (sense_of sense) sheet.now field buffer.old).lent }
 {
     let acceptance = accept(sheet)?;
-    form_settled(
-        sheet,
-        settle_accepted(sense, sheet, acceptance),
-        field,
-        buffer,
-    )
+    let mut settlement = Settlement::of(acceptance);
+    settle_accepted(sense, sheet, &mut settlement);
+    form_accepted(sheet, &settlement, field, buffer)
 }
 
-// The prime form of the sense in which an accepted sheet was settled, of any field number and a buffer of any length.
-// Inlined: a call would copy what is settled once more, onto the stack.
-#[inline(always)]
+// The prime form of the sense in which a sheet was settled, of any field number and a buffer of any length; a sheet that was refused has none.
 pub fn form_settled(
     sheet: &[u8],
-    settlement: Settlement,
+    settled: &Result<Settlement, Refusal>,
     field: usize,
     buffer: &mut [u64],
 ) -> Result<(), Refusal>
-    requires { (sense : model.Sense) × IsSettlement sense sheet.now settlement }
-    ensures { (sense : model.Sense) → IsSettlement sense sheet.now settlement → (answer_of (λ x. tt) result ≡ (forming_in sense sheet.now field buffer.old).answer) × (buffer.new ≡ (forming_in sense sheet.now field buffer.old).lent) }
+    requires { (sense : model.Sense) × SettlementIs sense sheet.now settled.now }
+    ensures { (sense : model.Sense) → SettlementIs sense sheet.now settled.now → (answer_of (λ x. tt) result ≡ (forming_in sense sheet.now field buffer.old).answer) × (buffer.new ≡ (forming_in sense sheet.now field buffer.old).lent) }
+{
+    match settled {
+        Ok(settlement) => form_accepted(sheet, settlement, field, buffer),
+        Err(refusal) => Err(*refusal),
+    }
+}
+
+// The prime form of the sense in which an accepted sheet was settled, of any field number and a buffer of any length.
+pub fn form_accepted(
+    sheet: &[u8],
+    settlement: &Settlement,
+    field: usize,
+    buffer: &mut [u64],
+) -> Result<(), Refusal>
+    requires { (sense : model.Sense) × IsSettlement sense sheet.now settlement.now }
+    ensures { (sense : model.Sense) → IsSettlement sense sheet.now settlement.now → (answer_of (λ x. tt) result ≡ (forming_in sense sheet.now field buffer.old).answer) × (buffer.new ≡ (forming_in sense sheet.now field buffer.old).lent) }
 {
     let card = settlement.card;
     let fields = card.fields;
@@ -71,22 +82,17 @@ pub fn form_settled(
     if buffer.len() < n {
         return Err(Refusal::ShortBuffer);
     }
-    let settled = settlement.settled;
-    let base = settled.base;
-    let form = prime_counts(sheet, card, base, field);
+    let form = prime_counts(sheet, card, &settlement.settled.base, field);
     write(&form[..n], buffer);
     Ok(())
 }
 
 // The prime form of a field, by the final base of a sense: the first n counts of the array.
-// Inlined: a call would copy what is settled once more, onto the stack.
-#[inline(always)]
-pub fn prime_counts(sheet: &[u8], card: Card, base: Base, field: usize) -> [u64; 32]
+pub fn prime_counts(sheet: &[u8], card: Card, base: &Base, field: usize) -> [u64; 32]
     requires reads { Reads sheet.now card × Accepted sheet.now }
-    requires base_at { (sense : model.Sense) × BaseAt sense sheet.now (settled_stage_in sense (card_of sheet.now)) base.rows }
+    requires base_at { (sense : model.Sense) × BaseAt sense sheet.now (settled_stage_in sense (card_of sheet.now)) base.now.rows }
     requires field_lt_fields { field < card.fields }
-    ensures { (sense : model.Sense) → BaseAt sense sheet.now (settled_stage_in sense (card_of sheet.now)) base.rows → take (kind_count sheet.now) result ≡ prime_form_in sense sheet.now field }
+    ensures { (sense : model.Sense) → BaseAt sense sheet.now (settled_stage_in sense (card_of sheet.now)) base.now.rows → take (kind_count sheet.now) result ≡ prime_form_in sense sheet.now field }
 {
-    let rows = base.rows;
-    field_form(sheet, card, &rows, field)
+    field_form(sheet, card, &base.rows, field)
 }

@@ -5,7 +5,7 @@ ghost use Rattle.model.specs.Answer.{written, settle_of, settle_since_of};
 ghost use Rattle.refusals.specs.Refusals.{answer_of};
 ghost use Rattle.filer.specs.Settlement.{table_in};
 
-use crate::settlement::settle_accepted;
+use crate::settlement::{Settlement, settle_accepted};
 use acceptance::accept::accept;
 use copies::{narrow, write};
 use refusals::Refusal;
@@ -17,16 +17,15 @@ pub fn settle_sheet(sheet: &[u8], table: &mut [u32]) -> Result<usize, Refusal>
     ensures table_after { table.new ≡ (settle_of sheet.now table.old).lent }
 {
     let acceptance = accept(sheet)?;
-    let settlement = settle_accepted(Sense::Plain, sheet, acceptance);
+    let mut settlement = Settlement::of(acceptance);
+    settle_accepted(Sense::Plain, sheet, &mut settlement);
     let n = settlement.card.kinds;
     if table.len() < n * n {
         return Err(Refusal::ShortBuffer);
     }
-    let settled = settlement.settled;
+    let settled = &settlement.settled;
     let stage = settled.stage;
-    let base = settled.base;
-    let rows = base.rows;
-    write_table(&rows, n, table);
+    write_table(&settled.base.rows, n, table);
     Ok(stage)
 }
 
@@ -38,7 +37,8 @@ pub fn settle_since(sheet: &[u8], table: &mut [u32], since: &mut [u32]) -> Resul
     ensures since_after { since.new ≡ (settle_since_of sheet.now table.old since.old).marks }
 {
     let acceptance = accept(sheet)?;
-    let settlement = settle_accepted(Sense::Plain, sheet, acceptance);
+    let mut settlement = Settlement::of(acceptance);
+    settle_accepted(Sense::Plain, sheet, &mut settlement);
     let n = settlement.card.kinds;
     if table.len() < n * n {
         return Err(Refusal::ShortBuffer);
@@ -46,13 +46,10 @@ pub fn settle_since(sheet: &[u8], table: &mut [u32], since: &mut [u32]) -> Resul
     if since.len() < n {
         return Err(Refusal::ShortBuffer);
     }
-    let settled = settlement.settled;
+    let settled = &settlement.settled;
     let last = settled.stage;
-    let base = settled.base;
-    let rows = base.rows;
-    let marks = base.since;
-    write_table(&rows, n, table);
-    narrow(&marks[..n], since);
+    write_table(&settled.base.rows, n, table);
+    narrow(&settled.base.since[..n], since);
     Ok(last)
 }
 

@@ -1,4 +1,5 @@
 // The core: a sheet is checked and settled once, and every call but Row goes by what that gives.
+ghost use Rattle.std.specs.Prelude.{◌≡◌};
 ghost use Rattle.norms.specs.Norms.{Accepts};
 ghost use Rattle.tables.specs.Senses.{sense_of};
 ghost use Rattle.filer.specs.Settlement.{IsSettlement, SettlementIs};
@@ -19,28 +20,37 @@ pub struct Settlement {
     pub settled: Settled,
 }
 
-// An accepted sheet, settled in a sense: each call settles once, and a page of a sheet too.
-// Inlined: a call would copy what is settled once more, onto the stack.
-#[inline(always)]
-pub fn settle_accepted(sense: Sense, sheet: &[u8], acceptance: Acceptance) -> Settlement
-    requires { Accepts sheet.now acceptance.card acceptance.norms }
-    ensures { IsSettlement (sense_of sense) sheet.now result }
-{
-    let card = acceptance.card;
-    let norms = acceptance.norms;
-    Settlement {
-        card,
-        norms,
-        settled: settle_reached(sense, sheet, card, norms),
+impl Settlement {
+    // An accepted sheet that is still to be settled: its card and norms, and a place for what it settles to.
+    pub fn of(acceptance: Acceptance) -> Settlement
+        ensures card { result.card ≡ acceptance.card }
+        ensures norms { result.norms ≡ acceptance.norms }
+    {
+        let norms = acceptance.norms;
+        Settlement {
+            card: acceptance.card,
+            norms,
+            settled: Settled::new(),
+        }
     }
 }
 
+// Settles an accepted sheet in a sense: each call settles once, and a page of a sheet too. What is settled is written where it stays, since a result would be copied, and take as much of the stack once more.
+pub fn settle_accepted(sense: Sense, sheet: &[u8], settlement: &mut Settlement)
+    requires { Accepts sheet.now settlement.old.card settlement.old.norms }
+    ensures { IsSettlement (sense_of sense) sheet.now settlement.new }
+{
+    let card = settlement.card;
+    let norms = settlement.norms;
+    settle_reached(sense, sheet, card, norms, &mut settlement.settled);
+}
+
 // Any bytes: checked, and settled in a sense if they are accepted. The calls of the library check and settle one after the other: a result of what is settled would be copied once more.
-// Inlined: a call would copy what is settled once more, onto the stack.
-#[inline(always)]
 pub fn settle_once(sense: Sense, sheet: &[u8]) -> Result<Settlement, Refusal>
     ensures { SettlementIs (sense_of sense) sheet.now result }
 {
     let acceptance = accept(sheet)?;
-    Ok(settle_accepted(sense, sheet, acceptance))
+    let mut settlement = Settlement::of(acceptance);
+    settle_accepted(sense, sheet, &mut settlement);
+    Ok(settlement)
 }

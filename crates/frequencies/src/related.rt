@@ -83,26 +83,29 @@ fn lower_rows(rows: &mut [u64], kinds: &[usize], since: &[usize], before: &[u32]
 
 // How many of the fields each stage from 1 up relates to the given one, by the rows of the settled stage and the form of the field there. Every later stage relates what the settled one does.
 fn count_forms(
-    settled: Settled,
+    settled: &Settled,
     rows: [u64; 1024],
     form: [u64; 32],
     kinds: &[usize],
     size: usize,
 ) -> [u64; 33]
-    requires le_stage { (1 ≤ settled.stage) × (settled.stage ≤ most_kinds) × (size ≤ most_tokens) }
-    requires by_index { (s : List ℕ) × (i : ℕ) × RowsAt s i settled.stage kinds.now settled.base.since settled.before rows form }
-    ensures by_index_2 { (s : List ℕ) (i : ℕ) → RowsAt s i settled.stage kinds.now settled.base.since settled.before rows form → (q : ℕ) → 1 ≤ q → q ≤ settled.stage → at result q ≡ related_to (card_of s) (field_of s i) size q }
-    ensures by_index_3 { (s : List ℕ) (i : ℕ) → RowsAt s i settled.stage kinds.now settled.base.since settled.before rows form → (q : ℕ) → settled.stage ≤ q → q ≤ most_kinds → at result q ≡ related_to (card_of s) (field_of s i) size settled.stage }
+    requires le_stage { (1 ≤ settled.now.stage) × (settled.now.stage ≤ most_kinds) × (size ≤ most_tokens) }
+    requires by_index { (s : List ℕ) × (i : ℕ) × RowsAt s i settled.now.stage kinds.now settled.now.base.since settled.now.before rows form }
+    ensures by_index_2 { (s : List ℕ) (i : ℕ) → RowsAt s i settled.now.stage kinds.now settled.now.base.since settled.now.before rows form → (q : ℕ) → 1 ≤ q → q ≤ settled.now.stage → at result q ≡ related_to (card_of s) (field_of s i) size q }
+    ensures by_index_3 { (s : List ℕ) (i : ℕ) → RowsAt s i settled.now.stage kinds.now settled.now.base.since settled.now.before rows form → (q : ℕ) → settled.now.stage ≤ q → q ≤ most_kinds → at result q ≡ related_to (card_of s) (field_of s i) size settled.now.stage }
 {
-    let base = settled.base;
-    let since = base.since;
-    let before = settled.before;
     let mut table = rows;
     let mut given = form;
     let mut related = [count_fields(&table, kinds, size, &given); 33];
     for t in (1..settled.stage).rev() {
-        lower_rows(&mut table, kinds, &since, &before, t + 1);
-        given = form_before(&given, &since, &before, t + 1);
+        lower_rows(
+            &mut table,
+            kinds,
+            &settled.base.since,
+            &settled.before,
+            t + 1,
+        );
+        given = form_before(&given, &settled.base.since, &settled.before, t + 1);
         related[t] = count_fields(&table, kinds, size, &given);
     }
     related
@@ -112,21 +115,19 @@ fn count_forms(
 fn count_settled(
     sheet: &[u8],
     card: Card,
-    settled: Settled,
+    settled: &Settled,
     kinds: &[usize],
     field: usize,
     size: usize,
 ) -> [u64; 33]
     requires reads { Reads sheet.now card × Accepted sheet.now }
-    requires settled { IsSettled plain sheet.now settled }
+    requires settled { IsSettled plain sheet.now settled.now }
     requires kinds_value { (kinds.now ≡ reached_kinds (card_of sheet.now)) × InOrder kinds.now }
     requires field_lt_fields { (field < card.fields) × (size ≤ most_tokens) }
     ensures { (q : ℕ) → 1 ≤ q → q ≤ most_kinds → at result q ≡ related_to (card_of sheet.now) (field_of sheet.now field) size q }
 {
-    let base = settled.base;
-    let rows = base.rows;
-    let form = field_form(sheet, card, &rows, field);
-    let table: [u64; 1024] = widen(&rows);
+    let form = field_form(sheet, card, &settled.base.rows, field);
+    let table: [u64; 1024] = widen(&settled.base.rows);
     count_forms(settled, table, form, kinds, size)
 }
 
@@ -148,8 +149,9 @@ pub fn related_fields(
     if start == 0 {
         return [0u64; 33];
     }
-    let settled = settle_reached(Sense::Plain, sheet, card, norms);
-    let mut related = count_settled(sheet, card, settled, kinds, field, size);
+    let mut settled = Settled::new();
+    settle_reached(Sense::Plain, sheet, card, norms, &mut settled);
+    let mut related = count_settled(sheet, card, &settled, kinds, field, size);
     related[0] = start;
     related
 }

@@ -8,7 +8,7 @@ ghost use Rattle.verdicts.specs.Pair.{pair_text, pairs_text};
 ghost use Rattle.page.specs.Lengths.{most_pair};
 
 use filer::Verdict;
-use filer::compare::compare_settled;
+use filer::compare::compare_accepted;
 use filer::settlement::Settlement;
 use tables::sense::Sense;
 use verdicts::{put_different, put_refused, put_same, put_start};
@@ -31,16 +31,16 @@ pub fn put_pairs(
     out: &mut [u8],
     at: usize,
     sheet: &[u8],
-    settlement: Settlement,
+    settlement: &Settlement,
     fields: usize,
 ) -> usize
-    requires settlement { IsSettlement plain sheet.now settlement }
+    requires settlement { IsSettlement plain sheet.now settlement.now }
     requires fields_in_bounds { at + most_pair * (fields - 1) ≤ length out.old }
     ensures { Appended (most_pair * (fields - 1)) out.old at (pairs_text sheet.now fields) out.new result }
 {
     let mut next = at;
     for later in 1..fields {
-        let verdict = compare_settled(Sense::Plain, sheet, settlement, 0, later);
+        let verdict = compare_accepted(Sense::Plain, sheet, settlement, 0, later);
         next = put_pair(out, next, later, verdict);
     }
     next

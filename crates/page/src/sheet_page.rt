@@ -68,39 +68,39 @@ fn put_page(out: &mut [u8], sheet: &[u8]) -> usize
     ensures { Appended most_page out.old 0 (page_of sheet.now) out.new result }
 {
     match accept(sheet) {
-        Ok(acceptance) => put_lines(out, sheet, settle_accepted(Sense::Plain, sheet, acceptance)),
+        Ok(acceptance) => {
+            let mut settlement = Settlement::of(acceptance);
+            settle_accepted(Sense::Plain, sheet, &mut settlement);
+            put_lines(out, sheet, &settlement)
+        }
         Err(refusal) => put_refused(out, 0, refusal.number(), refusal.place()),
     }
 }
 
 // The lines of an accepted sheet.
-fn put_lines(out: &mut [u8], sheet: &[u8], settlement: Settlement) -> usize
-    requires settlement { IsSettlement plain sheet.now settlement }
+fn put_lines(out: &mut [u8], sheet: &[u8], settlement: &Settlement) -> usize
+    requires settlement { IsSettlement plain sheet.now settlement.now }
     requires most_page_in_bounds { most_page ≤ length out.old }
     ensures { Appended most_page out.old 0 (lines sheet.now (table_of sheet.now) (kind_norm (card_of sheet.now))) out.new result }
 {
     let n = settlement.card.kinds;
     let fields = settlement.card.fields;
     let norms = settlement.norms;
-    let settled = settlement.settled;
-    let stage = settled.stage;
-    let base = settled.base;
-    let since = base.since;
+    let settled = &settlement.settled;
     let size = n * n;
-    let table = table_of(base, n);
-    let at_kinds = put_head(out, 0, n, stage);
-    let at_fields = put_kinds(out, at_kinds, n, norms, since, &table[..size]);
+    let table = table_of(&settled.base, n);
+    let at_kinds = put_head(out, 0, n, settled.stage);
+    let at_fields = put_kinds(out, at_kinds, n, norms, settled.base.since, &table[..size]);
     let at_pairs = put_fields(out, at_fields, sheet, settlement);
     put_pairs(out, at_pairs, sheet, settlement, fields)
 }
 
 // The rows of so many kinds, with as many counts to a row, at the front of an array.
-fn table_of(base: Base, kinds: usize) -> [u32; 1024]
+fn table_of(base: &Base, kinds: usize) -> [u32; 1024]
     requires { kinds ≤ most_kinds }
-    ensures { take (kinds * kinds) result ≡ table_in kinds base.rows }
+    ensures { take (kinds * kinds) result ≡ table_in kinds base.now.rows }
 {
-    let rows = base.rows;
     let mut table = [0u32; 1024];
-    write_table(&rows, kinds, &mut table);
+    write_table(&base.rows, kinds, &mut table);
     table
 }

@@ -6,8 +6,8 @@ ghost use Rattle.filer.specs.Settlement.{IsSettlement};
 
 use crate::stored::{argument_count, name_of, read_stored};
 use filer::Verdict;
-use filer::compare::compare_settled;
-use filer::form::form_settled;
+use filer::compare::compare_accepted;
+use filer::form::form_accepted;
 use filer::settlement::{Settlement, settle_once};
 use std::io::Write;
 use std::rt::{Env, Files};
@@ -35,22 +35,21 @@ fn with_pair(
     sense: Sense,
     sheet: &[u8],
     played: &[u8],
-    settlement: Settlement,
+    settlement: &Settlement,
     later: usize,
     tally: Tally,
 ) -> Tally
-    requires { IsSettlement (sense_of sense) sheet.now settlement }
+    requires { IsSettlement (sense_of sense) sheet.now settlement.now }
 {
-    let settled = settlement.settled;
-    let last = settled.stage;
+    let last = settlement.settled.stage;
     let mut first = [0u64; 32];
-    let _ = form_settled(sheet, settlement, 0, &mut first);
+    let _ = form_accepted(sheet, settlement, 0, &mut first);
     let mut second = [0u64; 32];
-    let _ = form_settled(sheet, settlement, later, &mut second);
+    let _ = form_accepted(sheet, settlement, later, &mut second);
     let equal = first == second;
     let unlike = tally::look_unlike(sheet, 0, later);
     let totals = sense == Sense::Finer;
-    match compare_settled(sense, sheet, settlement, 0, later) {
+    match compare_accepted(sense, sheet, settlement, 0, later) {
         Verdict::Same => {
             let tried = test_player::parting(played, totals, ROUNDS, 0, later, BUDGET);
             tally.with_pair(Called::Same, last, equal, unlike, tried)
@@ -74,10 +73,10 @@ fn with_pairs(
     sense: Sense,
     sheet: &[u8],
     played: &[u8],
-    settlement: Settlement,
+    settlement: &Settlement,
     tally: Tally,
 ) -> Tally
-    requires { IsSettlement (sense_of sense) sheet.now settlement }
+    requires { IsSettlement (sense_of sense) sheet.now settlement.now }
 {
     let mut next = tally;
     for later in 1..settlement.card.fields {
@@ -102,8 +101,8 @@ fn with_sheet(sheet: &[u8], played: &[u8], count: Count) -> Count {
         part: count
             .part
             .saturating_add(u64::from(reached_part::part_used(sheet))),
-        plain: with_pairs(Sense::Plain, sheet, played, plain, count.plain),
-        finer: with_pairs(Sense::Finer, sheet, played, finer, count.finer),
+        plain: with_pairs(Sense::Plain, sheet, played, &plain, count.plain),
+        finer: with_pairs(Sense::Finer, sheet, played, &finer, count.finer),
         ..count
     }
 }

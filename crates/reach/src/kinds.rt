@@ -18,6 +18,7 @@ pub fn reached_kinds(sheet: &[u8], card: Card) -> [bool; 32]
     let mut marks = [false; 32];
     mark_fields(sheet, card, &mut marks);
     let mut done = [false; 32];
+    // A while: the kinds marked and not done are a work list, to which each turn may add.
     while let Some(kind) = next_kind(&marks, &done) {
         mark_left(sheet, card, kind, &mut marks);
         done[kind] = true;

@@ -12,7 +12,7 @@ ghost use Rattle.rows.specs.Stage.{BaseAt};
 
 use acceptance::accept::accept;
 use filer::form::prime_counts;
-use filer::settlement::settle_accepted;
+use filer::settlement::{Settlement, settle_accepted};
 use quotients::divide::divide;
 use refusals::Refusal;
 use sheet::Card;
@@ -32,24 +32,31 @@ pub fn squads(
     ensures remainder_after { remainder.new ≡ (squads_of sheet.now whole squad remainder.old).lent }
 {
     let acceptance = accept(sheet)?;
-    let settlement = settle_accepted(Sense::Plain, sheet, acceptance);
+    let mut settlement = Settlement::of(acceptance);
+    settle_accepted(Sense::Plain, sheet, &mut settlement);
     let card = settlement.card;
-    check_fields(card, whole, squad)?;
-    let settled = settlement.settled;
-    squads_accepted(sheet, card, settled.base, whole, squad, remainder)
+    check_fields(Ok(card), whole, squad)?;
+    squads_accepted(
+        sheet,
+        card,
+        &settlement.settled.base,
+        whole,
+        squad,
+        remainder,
+    )
 }
 
 // Squads, of two fields of a sheet that was accepted, by its final base.
 fn squads_accepted(
     sheet: &[u8],
     card: Card,
-    base: Base,
+    base: &Base,
     whole: usize,
     squad: usize,
     remainder: &mut [u64],
 ) -> Result<u64, Refusal>
     requires reads { Reads sheet.now card × Accepted sheet.now }
-    requires base_at { BaseAt plain sheet.now (settled_stage (card_of sheet.now)) base.rows }
+    requires base_at { BaseAt plain sheet.now (settled_stage (card_of sheet.now)) base.now.rows }
     requires whole_lt_fields { (whole < card.fields) × (squad < card.fields) }
     ensures result_value { answer_of (λ q. q) result ≡ (squads_of sheet.now whole squad remainder.old).answer }
     ensures remainder_after { remainder.new ≡ (squads_of sheet.now whole squad remainder.old).lent }
@@ -77,13 +84,13 @@ fn is_empty(sheet: &[u8], card: Card, field: usize) -> bool
 fn divide_forms(
     sheet: &[u8],
     card: Card,
-    base: Base,
+    base: &Base,
     whole: usize,
     squad: usize,
     remainder: &mut [u64],
 ) -> u64
     requires reads { Reads sheet.now card × Accepted sheet.now }
-    requires base_at { BaseAt plain sheet.now (settled_stage (card_of sheet.now)) base.rows }
+    requires base_at { BaseAt plain sheet.now (settled_stage (card_of sheet.now)) base.now.rows }
     requires whole_lt_fields { (whole < card.fields) × (squad < card.fields) }
     requires nonzero { 0 < tokens (kind_count sheet.now) (field_of sheet.now squad) }
     requires sheet_in_bounds { kind_count sheet.now ≤ length remainder.old }

@@ -83,23 +83,18 @@ fn start_relates(
 }
 
 // The least stage from 1 up at which the forms of two fields differ, where those of the settled stage do: from stage to stage down, up to the first at which they are the same.
-// Inlined: a call would copy what is settled once more, onto the stack.
-#[inline(always)]
-fn parting_form(settled: Settled, first: [u64; 32], second: [u64; 32]) -> usize
-    requires le_stage { (1 ≤ settled.stage) × (settled.stage ≤ most_kinds) }
-    requires by_index { (sense : model.Sense) × (s : List ℕ) × (i : ℕ) × (j : ℕ) × FormsPart sense s settled.stage i j settled.base.since settled.before first second }
-    ensures { (sense : model.Sense) (s : List ℕ) (i j : ℕ) → FormsPart sense s settled.stage i j settled.base.since settled.before first second → LeastPart sense s settled.stage i j result }
+fn parting_form(settled: &Settled, first: [u64; 32], second: [u64; 32]) -> usize
+    requires le_stage { (1 ≤ settled.now.stage) × (settled.now.stage ≤ most_kinds) }
+    requires by_index { (sense : model.Sense) × (s : List ℕ) × (i : ℕ) × (j : ℕ) × FormsPart sense s settled.now.stage i j settled.now.base.since settled.now.before first second }
+    ensures { (sense : model.Sense) (s : List ℕ) (i j : ℕ) → FormsPart sense s settled.now.stage i j settled.now.base.since settled.now.before first second → LeastPart sense s settled.now.stage i j result }
 {
-    let base = settled.base;
-    let since = base.since;
-    let rows = settled.before;
     let mut one = first;
     let mut other = second;
     let mut t = settled.stage;
     // A while: each turn goes to the stage before, with the forms there.
     while 1 < t {
-        one = form_before(&one, &since, &rows, t);
-        other = form_before(&other, &since, &rows, t);
+        one = form_before(&one, &settled.base.since, &settled.before, t);
+        other = form_before(&other, &settled.base.since, &settled.before, t);
         if one == other {
             return t;
         }
@@ -109,30 +104,25 @@ fn parting_form(settled: Settled, first: [u64; 32], second: [u64; 32]) -> usize
 }
 
 // The least stage, up to the settled one, that does not relate two fields; one more than that where all of them relate the two.
-// Inlined: a call would copy what is settled once more, onto the stack.
-#[inline(always)]
 pub fn parted(
     sense: Sense,
     sheet: &[u8],
     card: Card,
     norms: [u32; 32],
-    settled: Settled,
+    settled: &Settled,
     first: usize,
     second: usize,
 ) -> usize
     requires accepts { Accepts sheet.now card norms }
-    requires settled { IsSettled (sense_of sense) sheet.now settled }
+    requires settled { IsSettled (sense_of sense) sheet.now settled.now }
     requires first_lt_fields { (first < card.fields) × (second < card.fields) }
     ensures { result ≡ parted_by (sense_of sense) sheet.now (settled_stage_in (sense_of sense) (card_of sheet.now)) first second }
 {
-    let base = settled.base;
-    let rows = base.rows;
-    let stage = settled.stage;
     if start_relates(sense, sheet, card, norms, first, second) {
-        let one = field_form(sheet, card, &rows, first);
-        let other = field_form(sheet, card, &rows, second);
+        let one = field_form(sheet, card, &settled.base.rows, first);
+        let other = field_form(sheet, card, &settled.base.rows, second);
         if one == other {
-            return stage + 1;
+            return settled.stage + 1;
         }
         return parting_form(settled, one, other);
     }

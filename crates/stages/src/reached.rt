@@ -9,14 +9,18 @@ use sheet::Card;
 use tables::sense::Sense;
 
 // Of a sense: "the settled stage", "the final base" and what is kept of the stages, by the sheet of the reached part. The buffer has room for the longest sheet.
-// Inlined: a call would copy what is settled once more, onto the stack.
-#[inline(always)]
-pub fn settle_reached(sense: Sense, sheet: &[u8], card: Card, norms: [u32; 32]) -> Settled
+pub fn settle_reached(
+    sense: Sense,
+    sheet: &[u8],
+    card: Card,
+    norms: [u32; 32],
+    settled: &mut Settled,
+)
     requires { Accepts sheet.now card norms }
-    ensures { IsSettled (sense_of sense) sheet.now result }
+    ensures { IsSettled (sense_of sense) sheet.now settled.new }
 {
     let mut bytes = [0u8; 12_820];
     let part = write_part(sheet, card, &norms, &mut bytes);
     let size = part.field_start(part.fields);
-    settle(sense, &bytes[..size], part, norms)
+    settle(sense, &bytes[..size], part, norms, settled);
 }

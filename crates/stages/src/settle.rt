@@ -1,5 +1,6 @@
 // The stages one after the other, up to the settled one.
-ghost use Rattle.std.specs.Prelude.{◌≡◌, ℕ, suc, ◌≤◌, length};
+ghost use Rattle.std.specs.Prelude.{◌≡◌, ℕ, suc, ◌≤◌, length, replicate};
+ghost use Rattle.model.specs.Limits.{most_kinds};
 ghost use Rattle.model.specs.Refusal.{Accepted};
 ghost use Rattle.sheet.specs.Reader.{Reads};
 ghost use Rattle.norms.specs.Norms.{Accepts};
@@ -29,6 +30,20 @@ pub struct Settled {
     pub before: [u32; 1024],
 }
 
+impl Settled {
+    // No counts, no marks and no stage: a place for what is settled.
+    pub fn new() -> Settled
+        ensures base { (result.base.rows ≡ replicate 1024 0) × (result.base.since ≡ replicate most_kinds 0) }
+        ensures kept { (result.stage ≡ 0) × (result.before ≡ replicate 1024 0) }
+    {
+        Settled {
+            base: Base::new(),
+            stage: 0,
+            before: [0u32; 1024],
+        }
+    }
+}
+
 // The classes of the lines by the rows of a stage, none before the bound of its line. The table is used for the forms of what the lines leave.
 fn line_classes(
     sheet: &[u8],
@@ -50,9 +65,7 @@ fn line_classes(
     effects.classes(bounds)
 }
 
-// The first stage of a sense that is settled, from stage 1 on. Before it all rows are 0, and so are all classes.
-// Inlined: a call would copy what is settled once more, onto the stack.
-#[inline(always)]
+// The first stage of a sense that is settled, from stage 1 on, and what it gives. Before it all rows are 0, and so are all classes.
 fn settle_lines(
     sense: Sense,
     sheet: &[u8],
@@ -60,44 +73,53 @@ fn settle_lines(
     norms: [u32; 32],
     lines: &[u8],
     forms: &mut [u64],
-) -> Settled
+    settled: &mut Settled,
+)
     requires accepts { Accepts sheet.now card norms }
     requires lines_are { LinesAre sheet.now lines.now }
     requires form_table { FormTable forms.old }
-    ensures { IsSettled (sense_of sense) sheet.now result }
+    ensures { IsSettled (sense_of sense) sheet.now settled.new }
 {
-    let mut rows = [0u32; 1024];
+    settled.base.rows = [0u32; 1024];
+    settled.base.since = [0usize; 32];
+    settled.stage = 0;
     let mut classes = [0u8; 256];
-    let mut since = [0usize; 32];
-    let mut before = [0u32; 1024];
-    let mut stage = 0;
     // A loop: it ends at the stage that is settled, which no number says beforehand.
     loop {
-        let next = stage_rows(sense, sheet, card, norms, lines, &rows, &classes, forms);
+        let rows = &settled.base.rows;
+        let next = stage_rows(sense, sheet, card, norms, lines, rows, &classes, forms);
         classes = line_classes(sheet, card, lines, &next, &classes, forms);
-        stage += 1;
-        keep_stage(card.kinds, &rows, &next, stage, &mut since, &mut before);
-        if rows_expand(lines, &classes, &next, &norms, card.kinds) {
-            let base = Base { rows: next, since };
-            return Settled {
-                base,
-                stage,
-                before,
-            };
+        settled.stage += 1;
+        keep_stage(
+            card.kinds,
+            &settled.base.rows,
+            &next,
+            settled.stage,
+            &mut settled.base.since,
+            &mut settled.before,
+        );
+        settled.base.rows = next;
+        if rows_expand(lines, &classes, &settled.base.rows, &norms, card.kinds) {
+            return;
         }
-        rows = next;
     }
 }
 
 // Of a sense: "The settled stage is the least s from 1 up in which every related pair satisfies expansion", with its base and what is kept of the stages.
-// Inlined: a call would copy what is settled once more, onto the stack.
-#[inline(always)]
-pub fn settle(sense: Sense, sheet: &[u8], card: Card, norms: [u32; 32]) -> Settled
+pub fn settle(sense: Sense, sheet: &[u8], card: Card, norms: [u32; 32], settled: &mut Settled)
     requires { Accepts sheet.now card norms }
-    ensures { IsSettled (sense_of sense) sheet.now result }
+    ensures { IsSettled (sense_of sense) sheet.now settled.new }
 {
     let bytes = 3 * card.lines;
     let lines = line_table(sheet, card, norms);
     let mut forms = [0u64; 8192];
-    settle_lines(sense, sheet, card, norms, &lines[..bytes], &mut forms)
+    settle_lines(
+        sense,
+        sheet,
+        card,
+        norms,
+        &lines[..bytes],
+        &mut forms,
+        settled,
+    );
 }

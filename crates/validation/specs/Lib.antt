@@ -1,3 +1,3 @@
 -- What the contracts cite.
-pub mod Fields  -- the check of two field numbers, as the enum
-pub mod Outcome  -- what the checks come to, as the enum
+pub mod Fields  -- the check of two field numbers
+pub mod Outcome  -- what the checks come to

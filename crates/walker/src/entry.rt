@@ -186,7 +186,7 @@ pub fn check_walk(
         return Err(Refusal::Desk);
     }
     let card = check_sheet(sheet)?;
-    check_fields(card, first, second)?;
+    check_fields(Ok(card), first, second)?;
     if ROUNDS < limit {
         return Err(Refusal::RoundLimit);
     }

@@ -1,38 +1,10 @@
--- The settlement tells what each return answers.
-use native.Mathlib.Omega.{arith}
-use mathlib.Core.Path.{sym, ◌∙◌}
-use Prim.Native.Nat.{◌<◌}
-use Rattle.theory.specs.Widths.{Bytes}
-use Rattle.validation.proofs.FieldNumbers.{fields_passed}
-use Rattle.filer.proofs.Settlements.{compare_refuses, compare_same_called, compare_rounds_fit, compare_different_called}
+-- The settlement is the sheet's, or the sheet is refused.
+use Rattle.std.proofs.Common.{◌∙◌}
+use Rattle.filer.proofs.Settlements.{settled_here, settled_refused, compare_refuses_sheet}
 use Rattle.filer.proofs.compare.compare_settled.Goals as goal
-use Rattle.filer.proofs.compare.compare_settled.Goals.{In_default}
 
--- Where the check has passed: both numbers are fields of the card.
-passed : (c : In_default) → (c.args.first < c.args.settlement.card.fields) × (c.args.second < c.args.settlement.card.fields)
-passed c = fields_passed _ _ _ (sym c.in_default.ensures)
-
-bytes : (c : In_default) → Bytes c.args.sheet.now
-bytes c = λ k. omega (arith, c.type_inv.sheet k)
+pub compare_accepted-requires : goal.compare_accepted-requires
+compare_accepted-requires c = settled_here _ _ c.in-Ok.is c.requires
 
 pub returns-in-Err : goal.returns-in-Err
-returns-in-Err c = c.from.ensures ∙ compare_refuses c.requires _ _ _ _ c.in-Err.ensures
-
-pub parted-stage-requires : goal.parted-stage-requires
-parted-stage-requires c =
-    record { accepts = c.requires.accepts; settled = c.requires.settled_is; first_lt_fields = passed (goal.at.parted-stage-requires c).In_default }
-
-pub returns-then-last-stage : goal.returns-then-last-stage
-returns-then-last-stage c =
-    let told = passed (goal.at.returns-then-last-stage c).In_default in
-    compare_same_called c.requires _ _ told.0 told.1 _ c.parted-stage.ensures c.if-last-stage.true
-
-pub rounds_at-rounds-requires : goal.rounds_at-rounds-requires
-rounds_at-rounds-requires c =
-    let told = passed (goal.at.rounds_at-rounds-requires c).In_default in
-    record { accepts = c.requires.accepts; first_lt_fields = told; second_bound = compare_rounds_fit c.requires _ _ told.0 told.1 _ c.parted-stage.ensures c.if-last-stage.false (bytes (goal.at.rounds_at-rounds-requires c).In_default) }
-
-pub returns : goal.returns
-returns c =
-    let told = passed (goal.at.returns c).In_default in
-    compare_different_called c.requires _ _ told.0 told.1 _ c.parted-stage.ensures c.if-last-stage.false _ c.rounds_at-rounds.ensures
+returns-in-Err c = c.from.ensures ∙ compare_refuses_sheet _ _ _ (settled_refused _ _ c.in-Err.is c.requires) _ _ _

@@ -5,10 +5,10 @@ use Rattle.filer.proofs.Settlements.{form_refuses_sheet}
 use Rattle.filer.proofs.form.form_in.Goals as goal
 
 pub settle_accepted-requires : goal.settle_accepted-requires
-settle_accepted-requires c = accepts _ c.in_ok-acceptance.acceptance c.in_ok-acceptance.ensures
+settle_accepted-requires c = rw (c.of-settlement.ensures.card, c.of-settlement.ensures.norms) (accepts _ c.in_ok-acceptance.acceptance c.in_ok-acceptance.ensures)
 
-pub form_settled-requires : goal.form_settled-requires
-form_settled-requires c = (_, c.settle_accepted.ensures)
+pub form_accepted-requires : goal.form_accepted-requires
+form_accepted-requires c = (_, c.settle_accepted.ensures)
 
 pub returns-in_err-acceptance : goal.returns-in_err-acceptance
 returns-in_err-acceptance c =
@@ -18,5 +18,5 @@ returns-in_err-acceptance c =
 
 pub returns : goal.returns
 returns c =
-    let g = c.form_settled.ensures _ c.settle_accepted.ensures in
+    let g = c.form_accepted.ensures _ c.settle_accepted.ensures in
     record { result_value = g.0; buffer_after = g.1 }

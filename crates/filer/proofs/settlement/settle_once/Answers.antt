@@ -4,7 +4,7 @@ use Rattle.acceptance.proofs.Acceptances.{accepts, found_refused}
 use Rattle.filer.proofs.settlement.settle_once.Goals as goal
 
 pub settle_accepted-requires : goal.settle_accepted-requires
-settle_accepted-requires c = accepts _ c.in_ok-acceptance.acceptance c.in_ok-acceptance.ensures
+settle_accepted-requires c = rw (c.of-settlement.ensures.card, c.of-settlement.ensures.norms) (accepts _ c.in_ok-acceptance.acceptance c.in_ok-acceptance.ensures)
 
 pub returns-in_err-acceptance : goal.returns-in_err-acceptance
 returns-in_err-acceptance c =

@@ -9,4 +9,4 @@ use Rattle.frequencies.proofs.Counted.{CountedTo}
 use Rattle.frequencies.proofs.related.count_forms.Given as goal
 
 abbrev pub invariant-loop-t : goal.invariant-loop-t
-invariant-loop-t l = (1 ≤ l.t) × (l.t ≤ l.fn.settled.stage) × (length l.table ≡ 1024) × (length l.given ≡ most_kinds) × (length l.related ≡ 33) × ((s : List ℕ) (i : ℕ) → RowsAt s i l.fn.settled.stage l.kinds l.since l.before l.initial.table l.initial.given → RowsAt s i l.t l.kinds l.since l.before l.table l.given × CountedTo s i l.size l.fn.settled.stage l.related l.t)
+invariant-loop-t l = (1 ≤ l.t) × (l.t ≤ l.settled.stage) × (length l.table ≡ 1024) × (length l.given ≡ most_kinds) × (length l.related ≡ 33) × ((s : List ℕ) (i : ℕ) → RowsAt s i l.settled.stage l.kinds l.settled.base.since l.settled.before l.initial.table l.initial.given → RowsAt s i l.t l.kinds l.settled.base.since l.settled.before l.table l.given × CountedTo s i l.size l.settled.stage l.related l.t)

@@ -27,6 +27,6 @@ shape_of-out c = c.loop-i.invariant.size
 pub returns : goal.returns
 unfolding fields_text
 returns c =
-    let all : c.loop-i.i ≡ c.args.settlement.card.fields = omega arith in
-    reads_as (most_field * c.args.settlement.card.fields) (fields_text c.args.sheet.now c.args.settlement.card.fields) c.loop-i.invariant (omega arith)
+    let all : c.loop-i.i ≡ c.args.settlement.now.card.fields = omega arith in
+    reads_as (most_field * c.args.settlement.now.card.fields) (fields_text c.args.sheet.now c.args.settlement.now.card.fields) c.loop-i.invariant (omega arith)
     (ap (λ (i : ℕ). concat (list_from (field_at c.args.sheet.now) 0 i)) all)

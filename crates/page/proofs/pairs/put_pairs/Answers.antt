@@ -11,8 +11,8 @@ use Rattle.page.proofs.pairs.put_pairs.Goals as goal
 pub loop-later-init : goal.loop-later-init
 loop-later-init c = (omega arith, no_text (pair_at c.args.sheet.now) most_pair 1 c.args.out.now c.args.at)
 
-pub compare_settled-verdict-requires : goal.compare_settled-verdict-requires
-compare_settled-verdict-requires c =
+pub compare_accepted-verdict-requires : goal.compare_accepted-verdict-requires
+compare_accepted-verdict-requires c =
     c.requires.settlement
 
 pub put_pair-next-requires : goal.put_pair-next-requires
@@ -23,7 +23,7 @@ put_pair-next-requires c =
 pub loop-later-preserved : goal.loop-later-preserved
 loop-later-preserved c =
     let loop = c.loop-later in
-    let compare-settled = c.compare_settled-verdict in
+    let compare-settled = c.compare_accepted-verdict in
     let s = c.args.sheet.now in
     let verdict = compare-settled.ensures in (
       omega arith,

@@ -19,7 +19,7 @@ use Rattle.page.proofs.sheet_page.put_lines.Goals as goal
 
 pub overflow_mul-size : goal.overflow_mul-size
 overflow_mul-size c =
-    omega (arith, square_most c.args.settlement.card.kinds (kinds_most c.requires.settlement.accepts.reads))
+    omega (arith, square_most c.args.settlement.now.card.kinds (kinds_most c.requires.settlement.accepts.reads))
 
 pub table_of-table-requires : goal.table_of-table-requires
 table_of-table-requires c =
@@ -27,20 +27,20 @@ table_of-table-requires c =
 
 pub slice_bounds-table-end : goal.slice_bounds-table-end
 slice_bounds-table-end c =
-    omega (arith, square_most c.args.settlement.card.kinds (kinds_most c.requires.settlement.accepts.reads))
+    omega (arith, square_most c.args.settlement.now.card.kinds (kinds_most c.requires.settlement.accepts.reads))
 
 pub slice_bounds-put_kinds-end : goal.slice_bounds-put_kinds-end
 slice_bounds-put_kinds-end c =
     let table_of = c.table_of-table in
-    let square = square_most c.args.settlement.card.kinds (kinds_most c.requires.settlement.accepts.reads) in
-    sym (length-take-le (c.args.settlement.card.kinds * c.args.settlement.card.kinds) table_of.result (omega arith))
+    let square = square_most c.args.settlement.now.card.kinds (kinds_most c.requires.settlement.accepts.reads) in
+    sym (length-take-le (c.args.settlement.now.card.kinds * c.args.settlement.now.card.kinds) table_of.result (omega arith))
 
 pub put_kinds-at_fields-requires : goal.put_kinds-at_fields-requires
 put_kinds-at_fields-requires c =
     let table_of = c.table_of-table in
     let few = kinds_most c.requires.settlement.accepts.reads in
-    let square = square_most c.args.settlement.card.kinds few in
-    let long = length-take-le (c.args.settlement.card.kinds * c.args.settlement.card.kinds) table_of.result (omega arith) in
+    let square = square_most c.args.settlement.now.card.kinds few in
+    let long = length-take-le (c.args.settlement.now.card.kinds * c.args.settlement.now.card.kinds) table_of.result (omega arith) in
     record { le_kinds = (kinds_some c.requires.settlement.accepts.reads, few); kinds_in_bounds = omega arith; out_in_bounds = omega (arith, c.put_head-at_kinds.ensures.ends, c.put_head-at_kinds.ensures.size, c.put_head-at_kinds.ensures.within, c.requires.most_page_in_bounds) }
 
 pub put_fields-at_pairs-requires : goal.put_fields-at_pairs-requires
@@ -67,5 +67,5 @@ returns c =
     let most = fields_most accepts.reads in
     let settled = c.requires.settlement.settled_is in
     reads_as most_page (lines s (table_of s) (kind_norm (card_of s))) (then (then (then put-head.ensures put-kinds.ensures) put-fields.ensures) c.put_pairs.ensures) (omega arith)
-    (lines_from accepts c.args.settlement.settled.stage c.args.settlement.settled.base.since (take (c.args.settlement.card.kinds * c.args.settlement.card.kinds) table.result) settled.stage_is (settled_marks plain s accepts.accepted settled)
-    (table_part accepts c.args.settlement.settled.base.rows table.result settled.base_is table.ensures))
+    (lines_from accepts c.args.settlement.now.settled.stage c.args.settlement.now.settled.base.since (take (c.args.settlement.now.card.kinds * c.args.settlement.now.card.kinds) table.result) settled.stage_is (settled_marks plain s accepts.accepted settled)
+    (table_part accepts c.args.settlement.now.settled.base.rows table.result settled.base_is table.ensures))

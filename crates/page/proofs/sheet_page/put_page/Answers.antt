@@ -8,7 +8,7 @@ use Rattle.page.proofs.Pages.{page_refusal, page_lines}
 use Rattle.page.proofs.sheet_page.put_page.Goals as goal
 
 pub settle_accepted-requires : goal.settle_accepted-requires
-settle_accepted-requires c = accepts _ c.in-Ok.acceptance c.in-Ok.ensures
+settle_accepted-requires c = rw (c.of-settlement.ensures.card, c.of-settlement.ensures.norms) (accepts _ c.in-Ok.acceptance c.in-Ok.ensures)
 
 pub put_lines-requires : goal.put_lines-requires
 put_lines-requires c = record { settlement = c.settle_accepted.ensures; most_page_in_bounds = omega (arith, c.requires) }

@@ -16,4 +16,4 @@ write_table-requires c = record { rows_len = (search rules, c.requires); kinds_i
 pub returns : goal.returns
 returns c =
     let n = c.args.kinds in
-    ap (take (n * n)) c.write_table.ensures ∙ front (n * n) (table_in n c.args.base.rows) (replicate 1024 0) (table_long n c.args.base.rows)
+    ap (take (n * n)) c.write_table.ensures ∙ front (n * n) (table_in n c.args.base.now.rows) (replicate 1024 0) (table_long n c.args.base.now.rows)

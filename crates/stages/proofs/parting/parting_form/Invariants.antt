@@ -10,7 +10,7 @@ use Rattle.stages.proofs.parting.parting_form.Given as goal
 
 abbrev pub invariant-loop-t : goal.invariant-loop-t
 invariant-loop-t l =
-    (1 ≤ l.t) × (l.t ≤ l.initial.t) × (length l.one ≡ most_kinds) × (length l.other ≡ most_kinds) × ((sense : Sense) (s : List ℕ) (i j : ℕ) → FormsPart sense s l.initial.t i j l.since l.rows l.initial.one l.initial.other → FormsPart sense s l.t i j l.since l.rows l.one l.other)
+    (1 ≤ l.t) × (l.t ≤ l.initial.t) × (length l.one ≡ most_kinds) × (length l.other ≡ most_kinds) × ((sense : Sense) (s : List ℕ) (i j : ℕ) → FormsPart sense s l.initial.t i j l.settled.base.since l.settled.before l.initial.one l.initial.other → FormsPart sense s l.t i j l.settled.base.since l.settled.before l.one l.other)
 
 abbrev pub decreases-loop-t : goal.decreases-loop-t
 decreases-loop-t l = l.t

@@ -27,7 +27,7 @@ loop-sense-init c =
       rows_long = refl;
       classes_long = refl;
       since_long = refl;
-      before_long = refl;
+      before_long = search rules;
     }
 
 pub stage_rows-next-requires-clause-form_table : goal.stage_rows-next-requires-clause-form_table
@@ -39,8 +39,8 @@ pub line_classes-classes-requires-clause-rows_len : goal.line_classes-classes-re
 line_classes-classes-requires-clause-rows_len c =
     (search rules, omega (arith, (lines_whole c.requires.lines_are c.requires.accepts.reads).few, c.loop-sense.invariant.classes_long))
 
-pub overflow_add-stage : goal.overflow_add-stage
-overflow_add-stage c =
+pub overflow_add-settled : goal.overflow_add-settled
+overflow_add-settled c =
     let loop = c.loop-sense in
     omega (arith, unsettled_next (sense_of c.args.sense) c.args.sheet.now c.requires.accepts.accepted loop.invariant.unsettled, few_kinds c.requires.accepts.reads)
 
@@ -62,15 +62,15 @@ rows_expand-requires c =
     let rows = c.stage_rows-next in
     let whole = lines_whole c.requires.lines_are c.requires.accepts.reads in
     let given = held_given c.requires.accepts.reads c.requires.accepts.accepted c.requires.lines_are loop.invariant.held in
-    let found = rows.ensures loop.stage given loop.invariant.held.rows_are in
-    record { line_table = (whole, omega (arith, whole.few, all_classes (goal.at.rows_expand-requires c).After-line_classes-classes)); rows_len = (search rules, kinds_most c.requires.accepts.reads, omega (arith, norms_long (goal.at.rows_expand-requires c).Start, kinds_most c.requires.accepts.reads)); atoms = held_atoms (sense_of c.args.sense) c.requires.accepts c.requires.lines_are loop.stage _ loop.classes found.base_is }
+    let found = rows.ensures loop.settled.stage given loop.invariant.held.rows_are in
+    record { line_table = (whole, omega (arith, whole.few, all_classes (goal.at.rows_expand-requires c).After-line_classes-classes)); rows_len = (search rules, kinds_most c.requires.accepts.reads, omega (arith, norms_long (goal.at.rows_expand-requires c).Start, kinds_most c.requires.accepts.reads)); atoms = held_atoms (sense_of c.args.sense) c.requires.accepts c.requires.lines_are loop.settled.stage _ loop.classes found.base_is }
 
 -- The state in which the next stage has been tested: the sense, the stage that the loop had reached, and the rows and the classes that were found since.
 abbrev sense : After-rows_expand → Sense
 sense c = sense_of c.args.sense
 
 abbrev stage : After-rows_expand → ℕ
-stage c = c.loop-sense.stage
+stage c = c.loop-sense.settled.stage
 
 abbrev next : After-rows_expand → List ℕ
 next c = c.stage_rows-next.result

@@ -5,7 +5,7 @@ use Rattle.stages.proofs.Unsettled.{Progress}
 use Rattle.stages.proofs.settle.settle_lines.Given as goal
 
 abbrev pub invariant-loop-sense : goal.invariant-loop-sense
-invariant-loop-sense l = Progress (sense_of l.sense) l.sheet l.stage l.forms l.rows l.classes l.since l.before
+invariant-loop-sense l = Progress (sense_of l.sense) l.sheet l.settled.stage l.forms l.settled.base.rows l.classes l.settled.base.since l.settled.before
 
 abbrev pub decreases-loop-sense : goal.decreases-loop-sense
-decreases-loop-sense l = l.card.kinds - l.stage
+decreases-loop-sense l = l.card.kinds - l.settled.stage

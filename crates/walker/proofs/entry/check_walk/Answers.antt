@@ -8,7 +8,7 @@ use Rattle.theory.proofs.Answers.{demand1}
 use Rattle.sheet.specs.Reader.{Reads}
 use Rattle.sheet.proofs.Laws.{fields_are}
 use Rattle.validation.proofs.Checking.{checked_reads}
-use Rattle.validation.proofs.FieldNumbers.{fields_passed}
+use Rattle.validation.proofs.FieldNumbers.{fields_passed, numbers_passed, numbers_refused}
 use Rattle.walker.proofs.Refusals.{sheet_found, fields_found, limit_found}
 use Rattle.walker.proofs.entry.check_walk.Goals as goal
 use Rattle.walker.proofs.entry.check_walk.Goals.{In_ok-card, In_ok-check_fields}
@@ -20,7 +20,7 @@ card_read c = checked_reads _ _ (sym c.in_ok-card.ensures)
 -- The two numbers are fields'.
 fields_there : (c : In_ok-check_fields) → (c.args.first < field_count c.args.sheet.now) × (c.args.second < field_count c.args.sheet.now)
 fields_there c =
-    let passed = fields_passed _ _ _ (sym c.in_ok-check_fields.ensures) in
+    let passed = fields_passed _ _ _ (numbers_passed _ _ _ _ c.in_ok-check_fields.ensures) in
     let e = fields_are (card_read (goal.at.In_ok-check_fields c).In_ok-card) in
     (omega (arith, passed.0, e), omega (arith, passed.1, e))
 
@@ -38,7 +38,7 @@ returns-in_err-check_fields-clause-found c =
     let read = card_read (goal.at.returns-in_err-check_fields-clause-found c).In_ok-card in
     rw (p.1, p.2)
     (fields_found _ _ _ _ _ (omega (arith, c.if-desk-ge-DESKS.false)) read.passed _ _
-    (rw (fields_are read) at (sym c.in_err-check_fields.ensures)))
+    (rw (fields_are read) at (numbers_refused _ _ _ _ _ c.in_err-check_fields.ensures)))
 
 pub returns-then-limit-gt-ROUNDS-clause-found : goal.returns-then-limit-gt-ROUNDS-clause-found
 returns-then-limit-gt-ROUNDS-clause-found c =
