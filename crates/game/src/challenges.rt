@@ -77,8 +77,8 @@ pub fn next_challenge(
     to
 }
 
-// The same, where the first of them is not looked at apart.
-// Not inlined: in the frame of `challenge` every line that is passed over would cost a quarter more. Where nearly every line may be used, `next_challenge` answers without the call.
+// The same by a loop over all of them, for those after the first.
+// Not inlined: in the frame of `challenge` every line that is passed over would cost a quarter more. `next_challenge` looks at the first one itself, so that no call is made where nearly every line may be used.
 #[inline(never)]
 fn search_challenge(
     sheet: &[u8],
